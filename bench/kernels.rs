@@ -1,0 +1,200 @@
+
+// ---- The kernels of Kelpladder beside the functions above. This text is joined to the original's, which is otherwise unchanged.
+// Each line: the kernel, our time over the original's (medians of interleaved rounds), and both times in nanoseconds.
+
+use std::hint::black_box;
+use std::time::Instant;
+
+#[repr(C)]
+struct Search {
+    period: usize,
+    min_diff: usize,
+    max_diff: usize,
+}
+
+extern "C" {
+    fn kernel_samples_in(source: *const f32, source_len: usize, area: *mut i16, area_len: usize);
+    fn kernel_find_pitch_period_in_range(samples: *const i16, len: usize, low: usize, high: usize) -> Search;
+    fn kernel_down_sample_input(samples: *const i16, len: usize, out: *mut i16, out_len: usize, count: usize, per: usize);
+    fn kernel_interpolate_frame(
+        table: *const i16, table_len: usize, stage: *const i16, stage_len: usize, channels: usize, ratio: usize, width: usize, out: *mut i16, out_len: usize,
+    );
+    fn kernel_overlap_add(k: usize, channels: usize, input: *const i16, input_len: usize, down: usize, up: usize, stage: *mut i16, stage_len: usize);
+    fn kernel_scale_samples(area: *mut i16, area_len: usize, volume: f32);
+}
+
+const ROUNDS: usize = 41;
+
+/// Times both sides in turn and prints the ratio of their medians.
+fn beside(name: &str, calls: u32, mut ours: impl FnMut(), mut original: impl FnMut()) {
+    let mut times = [Vec::new(), Vec::new()];
+    for _ in 0..ROUNDS {
+        let sides: [&mut dyn FnMut(); 2] = [&mut ours, &mut original];
+        for (side, run) in sides.into_iter().enumerate() {
+            let start = Instant::now();
+            for _ in 0..calls {
+                run();
+            }
+            times[side].push(start.elapsed().as_nanos() as f64 / f64::from(calls));
+        }
+    }
+    let median = |t: &mut Vec<f64>| {
+        t.sort_by(f64::total_cmp);
+        t[ROUNDS / 2]
+    };
+    let (a, b) = (median(&mut times[0]), median(&mut times[1]));
+    println!("{name:34} {:.2}  {a:.1} {b:.1}", a / b);
+}
+
+/// A voice of a period in frames, with some noise; the channels differ in loudness.
+fn voice(frames: usize, channels: usize, period: f64) -> Vec<i16> {
+    let mut noise = 12345u32;
+    let mut all = Vec::with_capacity(frames * channels);
+    for f in 0..frames {
+        let phase = f as f64 / period;
+        let tone: f64 = (1..9).map(|h| (phase * f64::from(h) * std::f64::consts::TAU).sin() / f64::from(h)).sum();
+        for c in 0..channels {
+            noise = noise.wrapping_mul(1_664_525).wrapping_add(1_013_904_223);
+            all.push((tone * 9000.0 / (c + 1) as f64) as i16 + (noise >> 24) as i16 - 128);
+        }
+    }
+    all
+}
+
+fn bench_samples_in() {
+    for (name, loud) in [("sample in, speech", 0.3f32), ("sample in, full scale", 1.2)] {
+        let source: Vec<f32> = voice(16_384, 1, 62.3).iter().map(|&s| f32::from(s) / 16_384.0 * loud).collect();
+        let mut area = vec![0i16; source.len()];
+        let mut queue: Vec<i16> = Vec::with_capacity(source.len());
+        beside(
+            name,
+            20,
+            || unsafe { kernel_samples_in(source.as_ptr(), source.len(), area.as_mut_ptr(), area.len()) },
+            || {
+                queue.clear();
+                queue.extend(black_box(&source).iter().map(|&s| (s.clamp(-1.0, 1.0) * 32767.0) as i16));
+                black_box(&queue);
+            },
+        );
+        assert_eq!(area, queue);
+    }
+}
+
+fn bench_search() {
+    for (low, high, period) in [(10, 61, 31.0), (20, 123, 62.0), (110, 678, 339.0)] {
+        let x = voice(2 * high, 1, period);
+        let theirs = find_pitch_period_in_range(&x, low as i32, high as i32);
+        let ours = unsafe { kernel_find_pitch_period_in_range(x.as_ptr(), x.len(), low, high) };
+        assert_eq!((ours.period as i32, ours.min_diff as i32, ours.max_diff as i32), theirs);
+        beside(
+            &format!("search {low}..{high}"),
+            if high > 200 { 20 } else { 400 },
+            || unsafe { black_box(kernel_find_pitch_period_in_range(black_box(x.as_ptr()), x.len(), low, high)).period; },
+            || { black_box(find_pitch_period_in_range(black_box(&x), low as i32, high as i32)); },
+        );
+    }
+}
+
+fn bench_averages() {
+    for (rate, channels, per) in [(8_000, 1, 2), (44_100, 2, 22), (44_100, 2, 2)] {
+        let required = 2 * (rate / 65);
+        let count = required * channels / per;
+        let x = voice(required, channels, 200.0);
+        let (mut ours, mut theirs) = (vec![0i16; required], vec![0i16; required]);
+        beside(
+            &format!("averages of {per}, {channels} channels"),
+            200,
+            || unsafe { kernel_down_sample_input(x.as_ptr(), x.len(), ours.as_mut_ptr(), ours.len(), count, per) },
+            || {
+                down_sample_input(black_box(&x), &mut theirs, count, per);
+                black_box(&theirs);
+            },
+        );
+        assert_eq!(ours[..count], theirs[..count]);
+    }
+}
+
+fn bench_interpolation() {
+    for channels in [1usize, 2] {
+        let x = voice(12, channels, 31.0);
+        let mut stream = SonicStream::new(8_000, channels as u32).expect("in range");
+        let (n, o) = (16_000, 8_000);
+        let (mut ours, mut theirs) = (vec![0i16; channels], vec![0i16; channels]);
+        let mut p = 0;
+        let mut positions = || {
+            p = (p + 1) % 8_000;
+            (p, 2 * p + p % 2)
+        };
+        let ratio = |p: i32, at: i32| ((p + 1) * n - at * o - 1) as usize;
+        let mut next = positions;
+        let mut other = (0, 0);
+        beside(
+            &format!("interpolated frame, {channels} channels"),
+            2_000,
+            || {
+                let (p, at) = next();
+                unsafe {
+                    kernel_interpolate_frame(
+                        SINC_TABLE.as_ptr(), 601, x.as_ptr(), x.len(), channels, ratio(p, at), n as usize, ours.as_mut_ptr(), channels,
+                    )
+                }
+            },
+            || {
+                other.0 = (other.0 + 1) % 8_000;
+                other.1 = 2 * other.0 + other.0 % 2;
+                stream.old_rate_position = other.0;
+                stream.new_rate_position = other.1;
+                for c in 0..channels {
+                    theirs[c] = stream.interpolate(black_box(&x[c..]), o, n);
+                }
+                black_box(&theirs);
+            },
+        );
+        assert_eq!(ours, theirs);
+    }
+}
+
+fn bench_crossfade() {
+    for (channels, k) in [(1, 62), (1, 339), (2, 62), (2, 339)] {
+        let x = voice(2 * k, channels, k as f64);
+        let (mut ours, mut theirs) = (vec![0i16; k * channels], vec![0i16; k * channels]);
+        beside(
+            &format!("crossfade of {k}, {channels} channels"),
+            1_000,
+            || unsafe { kernel_overlap_add(k, channels, x.as_ptr(), x.len(), 0, k * channels, ours.as_mut_ptr(), ours.len()) },
+            || {
+                overlap_add(k, channels, &mut theirs, black_box(&x), black_box(&x[k * channels..]));
+                black_box(&theirs);
+            },
+        );
+        assert_eq!(ours, theirs);
+    }
+}
+
+fn bench_volume() {
+    let x = voice(4_096, 1, 62.0);
+    let (mut ours, mut theirs) = (x.clone(), x.clone());
+    beside(
+        "volume",
+        200,
+        || {
+            ours.copy_from_slice(black_box(&x));
+            unsafe { kernel_scale_samples(ours.as_mut_ptr(), ours.len(), 1.7) }
+        },
+        || {
+            theirs.copy_from_slice(black_box(&x));
+            scale_samples(&mut theirs, 1.7);
+            black_box(&theirs);
+        },
+    );
+    assert_eq!(ours, theirs);
+}
+
+fn main() {
+    bench_samples_in();
+    bench_search();
+    bench_averages();
+    bench_interpolation();
+    bench_crossfade();
+    bench_volume();
+}

@@ -1,0 +1,13 @@
+pub mod Rounding
+pub mod Narrow
+pub mod Cut
+pub mod Values
+pub mod Signs
+pub mod CopyingStep
+pub mod Bounds
+pub mod Ranges
+pub mod SamplePeriod
+pub mod CopyCount
+pub mod StepCounts
+pub mod StepRules
+pub mod CutBits

@@ -1,0 +1,21 @@
+// The clamp of a setting, and the sample period of a rate.
+ghost use mathlib.Core.Path.{_≡_};
+ghost use Rattle.floats.specs.Settings.{clamped, samplePeriod};
+
+// `value` held to low..=high; a NaN to the lower end.
+pub fn clamp(value: f32, low: f32, high: f32) -> f32
+    ensures { λ r. ⌜ r ≡ clamped value low high ⌝ }
+{
+    if low <= value {
+        if value <= high { value } else { high }
+    } else {
+        low
+    }
+}
+
+// The sample period of a rate, in seconds.
+pub fn sample_period(rate: u32) -> f32
+    ensures { λ r. ⌜ r ≡ samplePeriod rate ⌝ }
+{
+    crate::casts::f64_to_f32(1.0 / (rate as f64))
+}

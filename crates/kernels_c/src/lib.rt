@@ -1,0 +1,3 @@
+// Entry points to inner functions, for tests and benchmarks: each has the contract of what it calls. No logic.
+mod floats_c;
+mod frames_c;

@@ -1,0 +1,133 @@
+-- The coefficient of a tap: its table place and remainder, its size, and each step by which `find_sinc_coefficient` computes it.
+-- In order: place and remainder; a blend of two entries; the steps of the code; the size of a coefficient. Assumes nothing.
+use mathlib.Core.Path.{_≡_, _∙_}
+use Prim.Native.Nat.{ℕ, _+_, _-_, _*_, _/_, _%_, _≤_, _<_}
+use native.Mathlib.Nat.{le-of-lt, add-mul, mul-comm, mul-le-mul-right, div-le-of-le-mul, div-lt-iff-lt-mul, div-add-mod', mod-lt}
+use native.Mathlib.Omega.{arith}
+use lib.IntN.{ℤ, pos, natAbs, _+ℤ_, _-ℤ_, _*ℤ_}
+use lib.ListN.{getD}
+use lib.Signed.{quotZ}
+use mir.Syntax.{w16, w32}
+use mir.Val.{SFits, toZ}
+use mir.Facts.{toZ-ofZ, toZ-pos}
+use Rattle.laws.proofs.Integers.{sfits-abs, abs-add, abs-mul, abs-quot, pos-sub}
+use Rattle.laws.proofs.Widening.{i16, i32, widened-reads}
+use Rattle.sinc.specs.SincTable.{sincTable}
+use Rattle.sinc.specs.Sinc.{tablePlace, remainder, tableValue, sincCoefficient}
+use Rattle.sinc.proofs.TableRule.{entry-abs}
+
+-- ---- place and remainder
+
+-- the place within a lobe
+pub place-lt : (r N : ℕ) → r < N → 50 * r / N < 50
+place-lt r N h = div-lt-iff-lt-mul {k = N} {x = 50 * r} {y = 50} (omega arith) .1 (omega arith)
+
+pub tablePlace-lt : (i r N : ℕ) → i < 12 → r < N → tablePlace i r N < 600
+unfolding tablePlace
+tablePlace-lt i r N k h = omega (arith, place-lt r N h)
+
+-- the remainder of each tap is 50r mod N
+pub remainder-is : (i r N : ℕ) → remainder i r N ≡ 50 * r % N
+unfolding remainder tablePlace
+remainder-is i r N = omega (arith, add-mul (50 * i) (50 * r / N) N, div-add-mod' (50 * r) N)
+
+-- one division serves all taps
+pub sincCoefficient-is : (i r N : ℕ) → sincCoefficient i r N ≡ tableValue (50 * i + 50 * r / N) (50 * r % N) N
+unfolding sincCoefficient tablePlace
+sincCoefficient-is i r N = rw (remainder-is i r N)
+
+-- ---- a blend of two entries
+
+abbrev pub blend : ℤ → ℤ → ℕ → ℕ → ℤ
+blend x y N e = x *ℤ pos (N - e) +ℤ y *ℤ pos e
+
+pub record Blend (x y : ℤ) (N e : ℕ) : Type 0 where
+  pub left-small : natAbs x ≤ 32767
+  pub right-small : natAbs y ≤ 32767
+  pub inside : e < N
+
+module _ {x y : ℤ} {N e : ℕ} (b : Blend x y N e) where
+  pub left-sample : SFits w16 x
+  left-sample = sfits-abs x (omega (arith, b .left-small))
+
+  pub right-sample : SFits w16 y
+  right-sample = sfits-abs y (omega (arith, b .right-small))
+
+  left-abs : natAbs (x *ℤ pos (N - e)) ≤ 32767 * (N - e)
+  left-abs = rw abs-mul (mul-le-mul-right (N - e) (b .left-small))
+
+  right-abs : natAbs (y *ℤ pos e) ≤ 32767 * e
+  right-abs = rw abs-mul (mul-le-mul-right e (b .right-small))
+
+  blend-abs : natAbs (blend x y N e) ≤ 32767 * N
+  blend-abs = omega (arith, abs-add (x *ℤ pos (N - e)) (y *ℤ pos e), left-abs, right-abs, b .inside)
+
+  double-abs : natAbs (pos 2 *ℤ blend x y N e) ≤ 65534 * N
+  double-abs = rw abs-mul (omega (arith, blend-abs))
+
+  mean-abs : natAbs (quotZ (pos 2 *ℤ blend x y N e) (pos N)) ≤ 65534
+  mean-abs = rw abs-quot (div-le-of-le-mul N (omega (arith, double-abs, mul-comm N 65534)))
+
+-- ---- the steps of the code: `-fits` says that a step fits, `-reads` what it reads back as
+
+module _ {x y : ℤ} {N e : ℕ} (b : Blend x y N e) (narrow : N ≤ 16384) where
+  pub width-reads : toZ w32 N ≡ pos N
+  width-reads = toZ-pos w32 (omega arith)
+
+  remainder-reads : toZ w32 e ≡ pos e
+  remainder-reads = toZ-pos w32 (omega (arith, b .inside))
+
+  -- n - e
+  rest-is : toZ w32 N -ℤ toZ w32 e ≡ pos (N - e)
+  rest-is = rw (width-reads, remainder-reads, pos-sub N e (le-of-lt (b .inside)))
+
+  pub rest-fits : SFits w32 (toZ w32 N -ℤ toZ w32 e)
+  rest-fits = rw rest-is (sfits-abs (pos (N - e)) (omega arith))
+
+  rest-reads : i32 (toZ w32 N -ℤ toZ w32 e) ≡ pos (N - e)
+  rest-reads = toZ-ofZ rest-fits ∙ rest-is
+
+  -- left_value * (n - e)
+  left-is : i32 (i16 x) *ℤ i32 (toZ w32 N -ℤ toZ w32 e) ≡ x *ℤ pos (N - e)
+  left-is = rw (widened-reads w32 tt (left-sample b), rest-reads)
+
+  pub left-fits : SFits w32 (i32 (i16 x) *ℤ i32 (toZ w32 N -ℤ toZ w32 e))
+  left-fits = rw left-is (sfits-abs (x *ℤ pos (N - e)) (omega (arith, left-abs b)))
+
+  -- right_value * e
+  right-is : i32 (i16 y) *ℤ toZ w32 e ≡ y *ℤ pos e
+  right-is = rw (widened-reads w32 tt (right-sample b), remainder-reads)
+
+  pub right-fits : SFits w32 (i32 (i16 y) *ℤ toZ w32 e)
+  right-fits = rw right-is (sfits-abs (y *ℤ pos e) (omega (arith, right-abs b, b .inside)))
+
+  -- the sum
+  sum-is : i32 (i32 (i16 x) *ℤ i32 (toZ w32 N -ℤ toZ w32 e)) +ℤ i32 (i32 (i16 y) *ℤ toZ w32 e) ≡ blend x y N e
+  sum-is = rw (toZ-ofZ left-fits, left-is, toZ-ofZ right-fits, right-is)
+
+  pub sum-fits : SFits w32 (i32 (i32 (i16 x) *ℤ i32 (toZ w32 N -ℤ toZ w32 e)) +ℤ i32 (i32 (i16 y) *ℤ toZ w32 e))
+  sum-fits = rw sum-is (sfits-abs (blend x y N e) (omega (arith, blend-abs b)))
+
+  pub sum-reads : i32 (i32 (i32 (i16 x) *ℤ i32 (toZ w32 N -ℤ toZ w32 e)) +ℤ i32 (i32 (i16 y) *ℤ toZ w32 e)) ≡ blend x y N e
+  sum-reads = toZ-ofZ sum-fits ∙ sum-is
+
+  -- 2 * sum, and its quotient
+  pub double-fits : SFits w32 (pos 2 *ℤ blend x y N e)
+  double-fits = sfits-abs (pos 2 *ℤ blend x y N e) (omega (arith, double-abs b))
+
+  pub mean-fits : SFits w32 (quotZ (pos 2 *ℤ blend x y N e) (pos N))
+  mean-fits = sfits-abs (quotZ (pos 2 *ℤ blend x y N e) (pos N)) (omega (arith, mean-abs b))
+
+-- ---- the size of a coefficient
+
+-- two neighbours of the table
+pub entries : (L e N : ℕ) → L < 600 → e < N → Blend (getD sincTable L (pos 0)) (getD sincTable (L + 1) (pos 0)) N e
+entries L e N h k = record { left-small = entry-abs L (omega arith); right-small = entry-abs (L + 1) (omega arith); inside = k }
+
+pub remainder-lt : (i r N : ℕ) → r < N → remainder i r N < N
+remainder-lt i r N h = rw (remainder-is i r N) (mod-lt (50 * r) (omega arith))
+
+-- no coefficient exceeds 65,534 in size
+pub sincCoefficient-abs : (i r N : ℕ) → i < 12 → r < N → natAbs (sincCoefficient i r N) ≤ 65534
+unfolding sincCoefficient tableValue
+sincCoefficient-abs i r N k h = mean-abs (entries (tablePlace i r N) (remainder i r N) N (tablePlace-lt i r N k h) (remainder-lt i r N h))

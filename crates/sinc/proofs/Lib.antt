@@ -1,0 +1,6 @@
+pub mod TableRule
+pub mod Coefficient
+pub mod Tabulated
+pub mod Taps
+pub mod Channels
+mod Figures

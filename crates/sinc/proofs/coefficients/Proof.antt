@@ -1,0 +1,111 @@
+-- `sinc::coefficients` meets its contract. The loop's invariant: the first i weights are the coefficients of the first i taps.
+-- Assumes nothing.
+use mathlib.Core.Path.{_≡_, sym, ap, _∙_}
+use mathlib.Core.List.{List}
+use Prim.Native.Nat.{ℕ, _-_, _*_, _≤_}
+use native.Mathlib.Nat.{mod-lt}
+use native.Mathlib.Omega.{arith}
+use borrow.Author.Needs.{needs}
+use lib.IntN.{ℤ, pos}
+use lib.ListN.{length, set, length-set, replicate}
+use lib.Seq.{paste}
+use mir.Syntax.{w32}
+use mir.Val.{toZ, ofZ}
+use mir.Facts.{toZ-ofZ}
+use Rattle.sinc.specs.Sinc.{tabulate, sincCoefficient, sincCoefficients}
+use Rattle.sinc.proofs.Coefficient.{place-lt, sincCoefficient-is}
+use Rattle.sinc.proofs.Tabulated.{front-turn}
+use Rattle.sinc.proofs.coefficients.Statement.{statement}
+use Rattle.sinc.proofs.coefficients.Tie as tie
+
+abbrev Inv-loop : tie.InvT-loop
+Inv-loop table ratio width place remainder weights₀ i₀ weights i =
+    (i ≤ 12) × (length weights ≡ 12) × (weights ≡ paste weights₀ 0 (sincCoefficients ratio width) i)
+
+abbrev μ-loop : tie.MeasureT-loop
+μ-loop table ratio width place remainder weights₀ i₀ weights i = 12 - i
+
+mul-place : tie.Need-mul-place Inv-loop μ-loop
+mul-place c = search needs
+
+div-place : tie.Need-div-place Inv-loop μ-loop
+div-place c = search needs
+
+mul-remainder : tie.Need-mul-remainder Inv-loop μ-loop
+mul-remainder c = search needs
+
+rem-remainder : tie.Need-rem-remainder Inv-loop μ-loop
+rem-remainder c = search needs
+
+loop-holds : tie.Need-loop-holds Inv-loop μ-loop
+loop-holds c = search needs
+
+mul-find-sinc-coefficient : tie.Need-mul-find-sinc-coefficient Inv-loop μ-loop
+mul-find-sinc-coefficient c = search needs
+
+add-find-sinc-coefficient : tie.Need-add-find-sinc-coefficient Inv-loop μ-loop
+add-find-sinc-coefficient c =
+    let a = c .before .before .args in
+    omega (arith, place-lt (a .ratio) (a .width) (c .before .before .pre .1))
+
+find-sinc-coefficient-requires : tie.Need-find-sinc-coefficient-requires Inv-loop μ-loop
+find-sinc-coefficient-requires c κs =
+    let s = c .before .before in
+    let a = s .args in
+    (s .pre .0, omega (arith, place-lt (a .ratio) (a .width) (s .pre .1)), mod-lt (50 * a .ratio) (omega arith), s .pre .2)
+
+mul-weights : tie.Need-mul-weights Inv-loop μ-loop
+mul-weights c = search needs
+
+array-set-from-weights : tie.Need-array-set-from-weights Inv-loop μ-loop
+array-set-from-weights c = search needs
+
+add-i : tie.Need-add-i Inv-loop μ-loop
+add-i c = search needs
+
+loop-less : tie.Need-loop-less Inv-loop μ-loop
+loop-less c = search needs
+
+loop-again : tie.Need-loop-again Inv-loop μ-loop
+unfolding sincCoefficients
+loop-again c =
+    let l = c .before .before .loop in
+    let a = c .before .before .before .args in
+    let call = c .find-sinc-coefficient in
+    let f : ℕ → ℤ = λ j. sincCoefficient j (a .ratio) (a .width) in
+    let zeros : List ℤ = replicate 12 (pos 0) in
+    let e : toZ w32 (ofZ w32 (call .result)) ≡ f (l .i) =
+    toZ-ofZ {w = w32} (record { sfits = call .ok }) ∙ call .ensures ∙ sym (sincCoefficient-is (l .i) (a .ratio) (a .width)) in (
+      omega arith,
+      length-set (l .weights) (l .i) _ ∙ l .inv .1,
+      rw e (ap (λ (r : List ℤ). set r (l .i) (f (l .i))) (l .inv .2) ∙ front-turn zeros 12 f (l .i) (pos 0) (omega arith) (omega arith)),
+    )
+
+returns : tie.Need-returns Inv-loop μ-loop
+unfolding sincCoefficients tabulate
+returns c =
+    let l = c .before .loop in
+    let a = c .before .before .args in
+    let e : l .i ≡ 12 = omega arith in
+    l .inv .2 ∙ ap (paste (replicate 12 (pos 0)) 0 (sincCoefficients (a .ratio) (a .width))) e
+
+pub coefficients-spec : {M : Type 1} → statement M
+coefficients-spec =
+    tie.close
+    (tie.spec
+    Inv-loop
+    μ-loop
+    mul-place
+    div-place
+    mul-remainder
+    rem-remainder
+    loop-holds
+    mul-find-sinc-coefficient
+    add-find-sinc-coefficient
+    find-sinc-coefficient-requires
+    mul-weights
+    array-set-from-weights
+    add-i
+    loop-less
+    loop-again
+    returns)

@@ -1,0 +1,2 @@
+pub mod SincTable
+pub mod Sinc
