@@ -1,179 +1,120 @@
--- `round` against a value of the format, a cut below a whole number, and what follows for the quotients of the stretch steps and the play time. Assumes nothing.
-use mathlib.Core.Path.{_≡_, refl, sym, ap, _∙_, subst}
-use mathlib.Core.Bool.{Bool, true, false, not, _&&_, _||_, Bool·beq, cond, true≢false, false≢true}
-use Prim.Native.Nat.{ℕ, zero, suc, _+_, _-_, _*_, _/_, _^_, _≤_, _<_, min}
-use native.Mathlib.Nat.{le-refl, le-trans, le-of-eq, le-of-lt, lt-of-lt-of-le, lt-of-le-of-lt, lt-irrefl, zero-lt-suc, mul-one, one-mul, zero-mul, zero-add, add-zero, mul-pos, mul-le-mul-right, mul-le-mul-left, mul-comm, mul-assoc, mul-right-comm, not-le-of-lt, le-of-mul-le-mul-right, le-of-suc-le-suc, div-lt-iff-lt-mul}
+-- Bounds by a value of the format. Sections: `round` against such a value; a cut below a whole number; a quotient against a value, and k of a skip
+-- step; the play time once every frame is used. Assumes nothing.
+use mathlib.Core.Path.{_≡_, refl, ap, _∙_}
+use mathlib.Core.Bool.{Bool, true, false, cond}
+use Prim.Native.Nat.{ℕ, _-_, _*_, _^_, _≤_, _<_}
+use native.Mathlib.Nat.{lt-of-lt-of-le, zero-lt-suc, zero-mul, mul-pos, mul-le-mul, mul-le-mul-right, mul-div-cancel, le-of-mul-le-mul-right}
 use native.Mathlib.Omega.{arith}
-use lib.IntN.{ℤ, pos, negsuc}
-use lib.Dec.{T, leb, ltb, eqb, ltb→lt, lt→ltb, nltb→le, eqb→eq, lit≤, lit<}
-use lib.Pow.{pow-pos}
-use lib.Ieee.{Float, nan, inf, fin, Format, binary32, binary64, prec, up, down, unlike, round, neg, sum, add, sub, mul, div, lt, le, eq, fits, ofInt, toUnsigned}
-use lib.Ieee.Fits.{down-pos, up-pos, round-fits}
+use lib.IntN.{ℤ, pos}
+use lib.Dec.{T, eqb}
+use lib.Ieee.{Float, nan, inf, fin, Format, binary32, up, down, unlike, round, neg, add, sub, mul, div, le, fits, ofInt, toUnsigned}
+use lib.Ieee.Fits.{down-pos, ofInt-fits}
 use lib.Ieee.Exact.{HasValue}
 use lib.Ieee.Order.{round-mono}
-use lib.Ieee.Back.{round-whole}
-use lib.Ieee.Positive.{positive, positive-of-value}
-use Rattle.floats.specs.Numbers.{one}
-use Rattle.floats.proofs.Values.{round-to, round-neg, nought, round-zero, mul-zero-right, zero-div}
-use Rattle.floats.proofs.Signs.{Sgn, round-sgn, le-cross}
-use Rattle.floats.proofs.CopyingStep as Copy
-use native.Mathlib.Nat as Nat
+use lib.Ieee.Positive.{num, den, den-pos, first-pos, above-of-le, value→cross}
+use Rattle.floats.specs.Numbers.{one, two, count}
+use Rattle.floats.proofs.Values.{round-to, nought, round-zero, mul-zero-right}
+use Rattle.floats.proofs.Signs.{Sgn, round-sgn, cond-nonzero}
+use Rattle.floats.proofs.Ranges.{NonNeg, nonNeg, own-value, nonNeg-of-value, nonNeg-of-le, div-is, sub-is, le→cross, whole, cut-is, whole-grows}
+use Rattle.floats.proofs.Ranges.{count-value, count-nonNeg, count-cross, count-some}
 
 -- ---- `round` against a value of the format
-pub round-le : (f : Format) (y : Float) (b d a c : ℕ) → 0 < d → 0 < c → T (fits f y) → HasValue y false b d → a * d ≤ b * c → T (le (round f false a c) y)
-round-le f y b d a c D C h v k = subst (λ (z : Float). T (le (round f false a c) z)) (round-to f y false b d D h v) (round-mono f a c b d C D k)
+pub round-le : (f : Format) {y : Float} (a c : ℕ) → NonNeg y → T (fits f y) → 0 < c → a * den y ≤ num y * c → T (le (round f false a c) y)
+round-le f {y} a c p h C k =
+    rw (round-to f y false (num y) (den y) (den-pos y) h (own-value p)) at (round-mono f a c (num y) (den y) C (den-pos y) k)
 
-pub round-ge : (f : Format) (y : Float) (b d a c : ℕ) → 0 < d → 0 < c → T (fits f y) → HasValue y false b d → b * c ≤ a * d → T (le y (round f false a c))
-round-ge f y b d a c D C h v k = subst (λ (z : Float). T (le z (round f false a c))) (round-to f y false b d D h v) (round-mono f b d a c D C k)
+pub round-ge : (f : Format) {y : Float} (a c : ℕ) → NonNeg y → T (fits f y) → 0 < c → num y * c ≤ a * den y → T (le y (round f false a c))
+round-ge f {y} a c p h C k =
+    rw (round-to f y false (num y) (den y) (den-pos y) h (own-value p)) at (round-mono f (num y) (den y) a c (den-pos y) C k)
 
--- ---- a value that is at most a whole number n, cut
-pub under : (p u a n : ℕ) (k q : ℕ) → 0 < k → a * 1 ≡ n * k → p * u * k ≤ a * q → p * u ≤ n * q
-under p u a n k q K e h = le-of-mul-le-mul-right (le-trans h (le-of-eq (ap (λ (z : ℕ). z * q) (sym (mul-one a) ∙ e) ∙ mul-right-comm n k q))) K
-
-pub cut-under : (p d n w : ℕ) → 0 < d → p ≤ n * d → min (p / d) w ≤ n
-cut-under p d n w D h = le-trans (min-le (p / d) w) (le-of-suc-le-suc (div-lt-iff-lt-mul D .1 (lt-of-le-of-lt h (step n d D))))
-  where
-    min-le : (a w : ℕ) → min a w ≤ a
-    min-le a w = omega arith
-
-    step : (n d : ℕ) → 0 < d → n * d < suc n * d
-    step n d D = subst (λ (z : ℕ). n * d < z) (sym (suc-mul' n d)) (grow (n * d) d D)
-      where
-        grow : (x d : ℕ) → 0 < d → x < x + d
-        grow x d D = omega arith
-
-        suc-mul' : (n d : ℕ) → suc n * d ≡ n * d + d
-        suc-mul' n d = Nat.suc-mul n d
+-- ---- a value that is at most a whole number n, cut; and one that is at least n
+whole-is : (x : Float) (n : ℕ) → HasValue x false n 1 → whole x ≡ n
+whole-is x n v =
+    let is : num x ≡ n * den x = omega (arith, value→cross x n 1 v) in
+    rw is (mul-div-cancel n (den-pos x))
 
 pub cut-le : (x y : Float) (n : ℕ) → HasValue x false n 1 → Sgn false y → T (le y x) → toUnsigned 64 y ≤ n
-unfolding toUnsigned
-cut-le nan y n v s h = absurd v
-cut-le (inf t) y n v s h = absurd v
-cut-le (fin true a k) y n v s h = absurd (true≢false (v .0))
-cut-le (fin false a k) nan n v s h = absurd s
-cut-le (fin false a k) (inf true) n v s h = absurd (true≢false s)
-cut-le (fin false a k) (inf false) n v s h = absurd (unfold le in h)
-cut-le (fin false a k) (fin true p q) n v s h = absurd (true≢false s)
-cut-le (fin false a k) (fin false p q) n v s h =
-    cut-under (p * up q) (down q) n (2 ^ 64 - 1) (down-pos q) (under p (up q) (a * up k) n (down k) (down q) (down-pos k) (v .1) (le-cross p q a k h))
+cut-le x y n v s h =
+    let p = nonNeg-of-value x n 1 v in
+    let q = nonNeg-of-le y s p h in
+    omega (arith, cut-is q, whole-is x n v, whole-grows q p h)
 
--- ---- n / v for a v of 1 at least
-big : (b u d : ℕ) → 0 < d → d ≤ b * u → T (ltb 0 b)
-big zero u d D h = absurd (lt-irrefl 0 (lt-of-lt-of-le D (le-trans h (le-of-eq (zero-mul u)))))
-big (suc b) u d D h = lt→ltb 0 (suc b) (zero-lt-suc b)
+pub cut-ge : (x y : Float) (n : ℕ) → HasValue x false n 1 → NonNeg y → n < 2 ^ 64 → T (le x y) → n ≤ toUnsigned 64 y
+cut-ge x y n v q w h = omega (arith, cut-is q, whole-is x n v, whole-grows (nonNeg-of-value x n 1 v) q h)
 
-pub not-zero : (m : ℕ) (x y : Float) → T (ltb 0 m) → cond (eqb m 0) x y ≡ y
-not-zero m x y p = go (eqb m 0) (eqb→eq m 0)
-  where
-    go : (b : Bool) → (T b → m ≡ 0) → cond b x y ≡ y
-    go true h = absurd (lt-irrefl 0 (subst (λ (z : ℕ). 0 < z) (h tt) (ltb→lt 0 m p)))
-    go false h = refl
+-- ---- x / y for x at most a / c and y at least b / d, against z; its sign is +
+pub quotient-le : (f : Format) {x y z : Float} (a c b d : ℕ) → NonNeg x → NonNeg y → NonNeg z → T (fits f z) → 0 < c → 0 < b
+    → num x * c ≤ a * den x → b * den y ≤ num y * d → a * d * den z ≤ num z * (c * b)
+    → Sgn false (div f x y) × T (le (div f x y) z)
+quotient-le f {x} {y} {z} a c b d p q r fit C B h g k =
+    let Y : 0 < num y = first-pos (num y) d (lt-of-lt-of-le (mul-pos B (den-pos y)) g) in
+    let le' : num x * den y * den z * (c * b) ≤ num z * (num y * den x) * (c * b) =
+    omega (arith, mul-le-mul-right (den z) (mul-le-mul h g), mul-le-mul-right (den x * num y) k) in
+    let top = le-of-mul-le-mul-right le' (mul-pos C B) in
+    rw (div-is f p q Y) (
+      round-sgn f false (num x * den y) (num y * den x),
+      round-le f (num x * den y) (num y * den x) r fit (mul-pos Y (den-pos x)) top,
+    )
 
-tidy : (d n : ℕ) → 1 * 1 * d ≤ n * 1 → d ≤ n
-tidy d n h = omega arith
+-- x at least a / c and y at most b / d
+pub quotient-ge : (f : Format) {x y z : Float} (a c b d : ℕ) → NonNeg x → NonNeg y → NonNeg z → T (fits f z) → 0 < num y → 0 < c → 0 < d
+    → a * den x ≤ num x * c → num y * d ≤ b * den y → num z * (c * b) ≤ a * d * den z → T (le z (div f x y))
+quotient-ge f {x} {y} {z} a c b d p q r fit Y C D h g k =
+    let h' = mul-le-mul-right (d * den z * den y) h in
+    let g' = mul-le-mul-right (num z * c * den x) g in
+    let le' : num z * (num y * den x) * (c * d) ≤ num x * den y * den z * (c * d) = omega (arith, h', g', mul-le-mul-right (den y * den x) k) in
+    let top = le-of-mul-le-mul-right le' (mul-pos C D) in
+    rw (div-is f p q Y) (round-ge f (num x * den y) (num y * den x) r fit (mul-pos Y (den-pos x)) top)
 
--- a down-scaled numerator: (a * dd) * 1 ≤ n * (b * k) where a is n * k and dd is at most b
-shrinks : (a dd n b k : ℕ) → a * 1 ≡ n * k → dd ≤ b → a * dd * 1 ≤ n * (b * k)
-shrinks a dd n b k e h =
-    le-trans (le-of-eq (mul-one (a * dd) ∙ ap (λ (z : ℕ). z * dd) (sym (mul-one a) ∙ e)))
-    (le-trans (mul-le-mul-left (n * k) h) (le-of-eq (mul-assoc n k b ∙ ap (λ (z : ℕ). n * z) (mul-comm k b))))
+-- ---- n / v for a v of 1 at least, and v = s - 1 for an s of 2 at least
+by-inf : {x : Float} → NonNeg x → toUnsigned 64 (div binary32 x (inf false)) ≡ 0
+unfolding div toUnsigned
+by-inf (nonNeg a k) = refl
 
-pub div-cut : (x v : Float) (n : ℕ) → T (fits binary32 x) → HasValue x false n 1 → T (le one v) → toUnsigned 64 (div binary32 x v) ≤ n
-unfolding div
-div-cut nan v n f h l = absurd h
-div-cut (inf t) v n f h l = absurd h
-div-cut (fin true a k) v n f h l = absurd (true≢false (h .0))
-div-cut (fin false a k) nan n f h l = absurd (unfold le in l)
-div-cut (fin false a k) (inf true) n f h l = absurd (unfold le in l)
-div-cut (fin false a k) (inf false) n f h l = unfold toUnsigned in zero-le' n
-  where
-    zero-le' : (n : ℕ) → 0 ≤ n
-    zero-le' n = omega arith
-div-cut (fin false a k) (fin true b d) n f h l = absurd (Copy.no-below b d l)
-div-cut (fin false a k) (fin false b d) n f h l =
-    let g : down d ≤ b * up d = tidy (down d) (b * up d) (le-cross 1 (pos 0) b d l) in
-    let r = round binary32 false (a * up k * down d) (b * up d * down k) in
-    let is : cond (eqb b 0) (cond (eqb a 0) nan (inf false)) r ≡ r = not-zero b (cond (eqb a 0) nan (inf false)) r (big b (up d) (down d) (down-pos d) g) in
-    subst (λ (z : Float). toUnsigned 64 z ≤ n) (sym is)
-    (cut-le (fin false a k) r n h (round-sgn binary32 false (a * up k * down d) (b * up d * down k))
-    (round-le binary32 (fin false a k) n 1 (a * up k * down d) (b * up d * down k) (zero-lt-suc 0)
-    (mul-pos (lt-of-lt-of-le (down-pos d) g) (down-pos k)) f h (shrinks (a * up k) (down d) n (b * up d) (down k) (h .1) g)))
+div-cut : (n : ℕ) (v : Float) → n ≤ 2 ^ 24 → T (le one v) → toUnsigned 64 (div binary32 (count n) v) ≤ n
+div-cut n nan h l = absurd (unfold le in l)
+div-cut n (inf true) h l = absurd (unfold le in l)
+div-cut n (inf false) h l = omega (arith, by-inf (count-nonNeg n h))
+div-cut n (fin true b d) h l = absurd (above-of-le one (fin true b d) tt l)
+div-cut n (fin false b d) h l =
+    let p = count-nonNeg n h in
+    let q = nonNeg b d in
+    let x : num (count n) * 1 ≤ n * den (count n) = omega (arith, count-cross n h) in
+    let y : 1 * down d ≤ b * up d * 1 = omega (arith, le→cross (nonNeg 1 (pos 0)) q l) in
+    let z : n * 1 * den (count n) ≤ num (count n) * (1 * 1) = omega (arith, count-cross n h) in
+    let r = quotient-le binary32 n 1 1 1 p q p (ofInt-fits binary32 (pos n)) (zero-lt-suc 0) (zero-lt-suc 0) x y z in
+    cut-le (count n) (div binary32 (count n) (fin false b d)) n (count-value n h) (r .0) (r .1)
 
--- ---- s - 1 for an s of 2 at least
-one-fits : T (fits binary32 one)
-unfolding fits
-one-fits = tt
-
-pub less-one : (s : Float) → T (le (fin false 1 (pos 1)) s) → T (le one (sub binary32 s one))
-unfolding sub add neg
+less-one : (s : Float) → T (le two s) → T (le one (sub binary32 s one))
 less-one nan h = absurd (unfold le in h)
 less-one (inf true) h = absurd (unfold le in h)
-less-one (inf false) h = unfold le in tt
-less-one (fin true m e) h = absurd (Copy.no-below-two m e h)
+less-one (inf false) h = unfold sub add neg le in tt
+less-one (fin true m e) h = absurd (above-of-le two (fin true m e) tt h)
 less-one (fin false m e) h =
-    let g : 1 * 2 * down e ≤ m * up e * 1 = le-cross 1 (pos 1) m e h in
-    subst (λ (z : Float). T (le one z)) (sym (Copy.less-above binary32 (m * up e * 1) (1 * 1 * down e) (down e * 1) (lt-of-lt-of-le (more (down e) (down-pos e)) g)))
-    (round-ge binary32 one 1 1 (m * up e * 1 - 1 * 1 * down e) (down e * 1) (zero-lt-suc 0) (mul-pos (down-pos e) (zero-lt-suc 0)) one-fits (refl, refl) (left (down e) (m * up e * 1) g))
-  where
-    more : (d : ℕ) → 0 < d → 1 * 1 * d < 1 * 2 * d
-    more d h = omega arith
-
-    left : (d n : ℕ) → 1 * 2 * d ≤ n → 1 * (d * 1) ≤ (n - 1 * 1 * d) * 1
-    left d n h = omega arith
+    let g : 1 * 2 * down e ≤ m * up e * 1 = le→cross (nonNeg 1 (pos 1)) (nonNeg m e) h in
+    rw (sub-is binary32 (nonNeg m e) (nonNeg 1 (pos 0)) (omega arith))
+    (round-ge binary32 (m * up e * 1 - 1 * 1 * down e) (down e * 1) (nonNeg 1 (pos 0)) (unfold fits in tt) (mul-pos (down-pos e) (zero-lt-suc 0)) (omega arith))
 
 -- a skip step for s of 2 at least makes no more frames than the period
-pub skip-le : (n : ℕ) (s : Float) → n ≤ 2 ^ 24 → T (le (fin false 1 (pos 1)) s) → toUnsigned 64 (div binary32 (ofInt binary32 (pos n)) (sub binary32 s one)) ≤ n
-unfolding ofInt
-skip-le n s h l = div-cut (round binary32 false n 1) (sub binary32 s one) n (round-fits binary32 false n 1) (round-whole binary32 false n h) (less-one s l)
+pub skip-le : (n : ℕ) (s : Float) → n ≤ 2 ^ 24 → T (le two s) → toUnsigned 64 (div binary32 (count n) (sub binary32 s one)) ≤ n
+skip-le n s h l = div-cut n (sub binary32 s one) h (less-one s l)
 
--- ---- the play time once every frame is used: (pt * 0) / held
-zero-is : ofInt binary32 (pos 0) ≡ nought false
+-- ---- the play time once every frame is used: (play * 0) / held
+count-zero : count 0 ≡ nought false
 unfolding ofInt round
-zero-is = refl
+count-zero = refl
 
-above-zero : (x : Float) → T (positive x) → (n : ℕ) × (d : ℤ) × (x ≡ fin false (suc n) d)
-above-zero nan p = absurd p
-above-zero (inf s) p = absurd p
-above-zero (fin true m e) p = absurd p
-above-zero (fin false zero e) p = absurd p
-above-zero (fin false (suc m) e) p = (m, e, refl)
-
-zero-by : (f : Format) (t : Bool) (n : ℕ) (d : ℤ) → div f (nought t) (fin false (suc n) d) ≡ nought t
+zero-by : (t : Bool) {y : Float} → NonNeg y → 0 < num y → div binary32 (nought t) y ≡ nought (unlike t false)
 unfolding div
-zero-by f t n d =
-    pick (eqb (suc n) 0) (eqb→eq (suc n) 0) ∙ ap (λ (z : Bool). round f z (0 * 1 * down d) (suc n * up d * 1)) (unlike-false t)
-    ∙ ap (λ (z : ℕ). round f t z (suc n * up d * 1)) (zero-mul (down d))
-    ∙ round-zero f t (suc n * up d * 1) (mul-pos (mul-pos (zero-lt-suc n) (up-pos d)) (zero-lt-suc 0))
-  where
-    r : Float
-    r = round f (unlike t false) (0 * 1 * down d) (suc n * up d * 1)
+zero-by t (nonNeg n d) h =
+    let r : ℕ → Float = λ z. round binary32 (unlike t false) z (n * up d * 1) in
+    cond-nonzero n (cond (eqb 0 0) nan (inf (unlike t false))) (r (0 * 1 * down d)) (first-pos n (up d) h)
+    ∙ ap r (zero-mul (down d)) ∙ round-zero binary32 (unlike t false) (n * up d * 1) (mul-pos h (zero-lt-suc 0))
 
-    pick : (b : Bool) → (T b → suc n ≡ 0) → cond b (cond (eqb 0 0) nan (inf (unlike t false))) r ≡ r
-    pick true h = absurd (lt-irrefl 0 (subst (λ (z : ℕ). 0 < z) (h tt) (zero-lt-suc n)))
-    pick false h = refl
-
-    unlike-false : (t : Bool) → unlike t false ≡ t
-    unlike-false true = refl
-    unlike-false false = refl
-
-pub emptied : (s : Bool) (m : ℕ) (e : ℤ) (n : ℕ) → 0 < n → n ≤ 2 ^ 24 → div binary32 (mul binary32 (fin s m e) (ofInt binary32 (pos 0))) (ofInt binary32 (pos n)) ≡ nought (unlike s false)
+pub emptied : (s : Bool) (m : ℕ) (e : ℤ) (n : ℕ) → 0 < n → n ≤ 2 ^ 24 → div binary32 (mul binary32 (fin s m e) (count 0)) (count n) ≡ nought s
 emptied s m e n N h =
-    let w = above-zero (ofInt binary32 (pos n)) (unfold ofInt in positive-of-value (round binary32 false n 1) n 1 (round-whole binary32 false n h) N) in
-    ap (λ (z : Float). div binary32 (mul binary32 (fin s m e) z) (ofInt binary32 (pos n))) zero-is
-    ∙ ap (λ (z : Float). div binary32 z (ofInt binary32 (pos n))) (mul-zero-right binary32 s m e)
-    ∙ ap (div binary32 (nought (unlike s false))) (w .2)
-    ∙ zero-by binary32 (unlike s false) (w .0) (w .1)
-
--- ---- +0 and a value below zero
-pub zero-add-below : (f : Format) (m : ℕ) (e : ℤ) → T (fits f (fin true (suc m) e)) → add f (nought false) (fin true (suc m) e) ≡ fin true (suc m) e
-unfolding add
-zero-add-below f m e h =
-    Copy.less-below f (0 * 1 * down e) (suc m * up e * 1) (1 * down e) (less (down e) (suc m * up e) (mul-pos (zero-lt-suc m) (up-pos e)))
-    ∙ round-to f (fin true (suc m) e) true (suc m * up e * 1 - 0 * 1 * down e) (1 * down e) (mul-pos (zero-lt-suc 0) (down-pos e)) h
-    (refl, ap (λ (z : ℕ). suc m * up e * z) (one-mul (down e)) ∙ ap (λ (z : ℕ). z * down e) (same (down e) (suc m * up e)))
+    rw (count-zero, mul-zero-right binary32 s m e) (zero-by (unlike s false) (count-nonNeg n h) (count-some n N h) ∙ twice s)
   where
-    less : (d n : ℕ) → 0 < n → 0 * 1 * d < n * 1
-    less d n h = omega arith
-
-    same : (d n : ℕ) → n ≡ n * 1 - 0 * 1 * d
-    same d n = omega arith
+    twice : (s : Bool) → nought (unlike (unlike s false) false) ≡ nought s
+    twice true = refl
+    twice false = refl

@@ -1,18 +1,19 @@
--- The sign of what `round` gives, values clamped to a range, and the size of the product that a sample is stored from. Assumes nothing.
-use mathlib.Core.Path.{_≡_, refl, sym, subst}
+-- The sign of a float, and its place in the order. Sections: `Sgn` and what `round`, a product and a quotient give; comparisons; a value held
+-- to -1..1, the size of the product that a sample is stored from, and the sample's range. Assumes nothing.
+use mathlib.Core.Path.{_≡_, refl, sym, ap, subst}
 use mathlib.Core.Logic.{_⊎_, inl, inr}
 use mathlib.Core.Bool.{Bool, true, false, not, _&&_, _||_, Bool·beq, cond, true≢false}
-use Prim.Native.Nat.{ℕ, zero, suc, _+_, _*_, _/_, _^_, _≤_, _<_, min}
-use native.Mathlib.Nat.{le-trans, le-of-eq, le-of-lt, zero-lt-suc, mul-pos, div-lt-iff-lt-mul, le-of-suc-le-suc}
+use Prim.Native.Nat.{ℕ, suc, _+_, _*_, _/_, _^_, _≤_, _<_, min}
+use native.Mathlib.Nat.{le-of-lt, le-of-eq, lt-irrefl, mul-pos, zero-lt-suc, div-lt-iff-lt-mul, le-of-suc-le-suc}
 use native.Mathlib.Omega.{arith}
 use lib.IntN.{ℤ, pos, negℤ, natAbs}
-use lib.Dec.{T, ltb, eqb, ltb→lt, nltb→le, eqb→eq, eqb-refl, lit≤}
-use lib.Ieee.{Float, nan, inf, fin, Format, binary32, prec, emax, low, up, down, unlike, odd, units, round, neg, mul, lt, le, eq, isNan, toSigned}
+use lib.Dec.{T, ltb, eqb, ltb→lt, nltb→le, eqb→eq, eqb-refl, not-T, lit≤}
+use lib.Ieee.{Float, nan, inf, fin, Format, binary32, prec, emax, low, up, down, unlike, odd, units, round, neg, mul, div, lt, le, eq, isNan, toSigned}
+use lib.Ieee.Bits.{cond-no}
 use lib.Ieee.Fits.{round-is, down-pos, and-l, and-i}
 use lib.Ieee.Nearest.{closest}
 use lib.Ieee.Order.{drop, round-mono}
-use Rattle.floats.specs.Numbers.{one}
-use Rattle.floats.specs.Settings.{clamped}
+use Rattle.floats.specs.Numbers.{zero, one}
 use Rattle.floats.specs.Write.{unitClamped, minusOne, full}
 use Rattle.floats.proofs.Values.{round-neg}
 
@@ -22,9 +23,15 @@ Sgn s nan = ⊥
 Sgn s (inf t) = t ≡ s
 Sgn s (fin t m e) = t ≡ s
 
+pub sgn-no-nan : (s : Bool) (x : Float) → Sgn s x → T (not (isNan x))
+unfolding isNan
+sgn-no-nan s nan h = absurd h
+sgn-no-nan s (inf t) h = tt
+sgn-no-nan s (fin t m e) h = tt
+
 odd-sgn : (d : ℕ) (s : Bool) (q k l : ℕ) → Sgn s (odd d s q k l)
 unfolding odd
-odd-sgn d s zero k l = refl
+odd-sgn d s ℕ.zero k l = refl
 odd-sgn d s (suc q) k l = refl
 
 units-sgn : (f : Format) (s : Bool) (q k : ℕ) → Sgn s (units f s q k)
@@ -41,12 +48,50 @@ round-sgn f s a c =
     let k = drop (prec f) n c in
     subst (Sgn s) (sym (round-is f s a c)) (units-sgn f s (closest n (c * 2 ^ k)) k)
 
--- ---- the order
-pub or-l : (a b : Bool) → T a → T (a || b)
+-- the test for 0 of a number that is not 0
+pub cond-nonzero : {A : Type 0} (n : ℕ) (x y : A) → 0 < n → cond (eqb n 0) x y ≡ y
+cond-nonzero n x y h = cond-no (eqb n 0) x y (not-T (eqb n 0) (λ t. lt-irrefl 0 (subst (λ (k : ℕ). 0 < k) (eqb→eq n 0 t) h)))
+
+-- a product and a quotient with a finite value that is not 0
+pub mul-sgn : (f : Format) (s : Bool) (x : Float) (t : Bool) (n : ℕ) (d : ℤ) → Sgn s x → 0 < n → Sgn (unlike s t) (mul f x (fin t n d))
+unfolding mul
+mul-sgn f s nan t n d h p = absurd h
+mul-sgn f s (inf u) t n d h p = subst (Sgn (unlike s t)) (sym (cond-nonzero n nan (inf (unlike u t)) p)) (ap (λ (v : Bool). unlike v t) h)
+mul-sgn f s (fin u m e) t n d h p =
+    let r = m * up e * (n * up d) in
+    subst (λ (v : Bool). Sgn (unlike v t) (round f (unlike u t) r (down e * down d))) h (round-sgn f (unlike u t) r (down e * down d))
+
+pub div-sgn : (f : Format) (s : Bool) (x : Float) (t : Bool) (n : ℕ) (d : ℤ) → Sgn s x → 0 < n → Sgn (unlike s t) (div f x (fin t n d))
+unfolding div
+div-sgn f s nan t n d h p = absurd h
+div-sgn f s (inf u) t n d h p = ap (λ (v : Bool). unlike v t) h
+div-sgn f s (fin u m e) t n d h p =
+    let r = round f (unlike u t) (m * up e * down d) (n * up d * down e) in
+    subst (Sgn (unlike s t)) (sym (cond-nonzero n (cond (eqb m 0) nan (inf (unlike u t))) r p))
+    (subst (λ (v : Bool). Sgn (unlike v t) r) h (round-sgn f (unlike u t) (m * up e * down d) (n * up d * down e)))
+
+-- ---- comparisons
+pub sgn-of-below : (x : Float) → T (lt x zero) → Sgn true x
+unfolding lt
+sgn-of-below nan h = absurd h
+sgn-of-below (inf true) h = refl
+sgn-of-below (inf false) h = absurd h
+sgn-of-below (fin true m e) h = refl
+sgn-of-below (fin false m e) h = absurd (omega (arith, ltb→lt (m * up e * 1) (0 * 1 * down e) h))
+
+pub sgn-of-above : (x : Float) → T (lt zero x) → Sgn false x
+unfolding lt
+sgn-of-above nan h = absurd h
+sgn-of-above (inf true) h = absurd h
+sgn-of-above (inf false) h = refl
+sgn-of-above (fin true m e) h = absurd h
+sgn-of-above (fin false m e) h = refl
+
+or-l : (a b : Bool) → T a → T (a || b)
 or-l true b t = tt
 or-l false b t = absurd t
 
-pub or-r : (a b : Bool) → T b → T (a || b)
+or-r : (a b : Bool) → T b → T (a || b)
 or-r true b t = tt
 or-r false b t = t
 
@@ -87,28 +132,12 @@ le-no-nan (fin s m e) nan h = absurd h
 le-no-nan (fin s m e) (inf t) h = (tt, tt)
 le-no-nan (fin s m e) (fin t n d) h = (tt, tt)
 
--- ---- what is clamped to a range lies in it, and is no NaN
-pub held-in : (v lo hi : Float) → T (le lo hi) → T (le lo (clamped v lo hi)) × T (le (clamped v lo hi) hi)
-unfolding clamped
-held-in v lo hi h = go (le lo v) (le v hi) (λ t. t) (λ t. t)
-  where
-    go : (a b : Bool) → (T a → T (le lo v)) → (T b → T (le v hi)) → T (le lo (cond a (cond b v hi) lo)) × T (le (cond a (cond b v hi) lo) hi)
-    go true true p q = (p tt, q tt)
-    go true false p q = (h, le-self hi (le-no-nan lo hi h .1))
-    go false b p q = (le-self lo (le-no-nan lo hi h .0), h)
-
-pub held-no-nan : (v lo hi : Float) → T (le lo hi) → T (not (isNan (clamped v lo hi)))
-held-no-nan v lo hi h = le-no-nan lo (clamped v lo hi) (held-in v lo hi h .0) .1
-
--- ---- a size at most n, with no infinity
+-- ---- a value held to -1..1, times 32767, and cut
+-- of a size at most n, or a NaN
 abbrev pub AtMost : ℕ → Float → Type 0
 AtMost n nan = Unit
 AtMost n (inf s) = ⊥
 AtMost n (fin s m e) = m * up e ≤ n * down e
-
--- ---- a value clamped to -1..1
-tidy : (m d : ℕ) → m * 1 ≤ 1 * 1 * d → m ≤ 1 * d
-tidy m d h = omega arith
 
 -- neither below -1 nor above 1
 between : (x : Float) → T (not (lt x minusOne)) → T (not (lt one x)) → AtMost 1 x
@@ -116,8 +145,8 @@ unfolding lt
 between nan a b = tt
 between (inf true) a b = absurd a
 between (inf false) a b = absurd b
-between (fin true m e) a b = tidy (m * up e) (down e) (nltb→le (1 * 1 * down e) (m * up e * 1) a)
-between (fin false m e) a b = tidy (m * up e) (down e) (nltb→le (1 * 1 * down e) (m * up e * 1) b)
+between (fin true m e) a b = omega (arith, nltb→le (1 * 1 * down e) (m * up e * 1) a)
+between (fin false m e) a b = omega (arith, nltb→le (1 * 1 * down e) (m * up e * 1) b)
 
 unit-at-most : (x : Float) → AtMost 1 (unitClamped x)
 unfolding unitClamped
@@ -128,7 +157,6 @@ unit-at-most x = go (lt x minusOne) (lt one x) (λ t. t) (λ t. t)
     go false true p q = lit≤ tt
     go false false p q = between x (p tt) (q tt)
 
--- ---- times 32767, and cut
 full-is : round binary32 false 32767 1 ≡ full
 unfolding round
 full-is = refl
@@ -140,49 +168,40 @@ within nan s h = absurd s
 within (inf true) s h = absurd (true≢false s)
 within (inf false) s h = absurd h
 within (fin true n d) s h = absurd (true≢false s)
-within (fin false n d) s h = let g : n * up d ≤ 32767 * down d = drops (n * up d) (down d) (le-cross n d 32767 (pos 0) h) in (g, g)
-  where
-    drops : (a b : ℕ) → a * 1 ≤ 32767 * 1 * b → a ≤ 32767 * b
-    drops a b h = omega arith
+within (fin false n d) s h = let g : n * up d ≤ 32767 * down d = omega (arith, le-cross n d 32767 (pos 0) h) in (g, g)
 
-either : (f : Format) (s : Bool) (a c : ℕ) (P : Float → Type 0) → P (round f false a c) → P (neg (round f false a c)) → P (round f s a c)
-either f true a c P p q = subst P (sym (round-neg f false a c)) q
-either f false a c P p q = p
+rounded : (s : Bool) (a c : ℕ) → 0 < c → a ≤ 32767 * c → AtMost 32767 (round binary32 s a c)
+rounded s a c C h = go s (within (round binary32 false a c) (round-sgn binary32 false a c) most)
+  where
+    most : T (le (round binary32 false a c) full)
+    most = rw full-is at (round-mono binary32 a c 32767 1 C (zero-lt-suc 0) (omega arith))
+
+    go : (s : Bool) → AtMost 32767 (round binary32 false a c) × AtMost 32767 (neg (round binary32 false a c)) → AtMost 32767 (round binary32 s a c)
+    go true w = rw (round-neg binary32 false a c) (w .1)
+    go false w = w .0
 
 scaled : (h : Float) → AtMost 1 h → AtMost 32767 (mul binary32 h full)
 unfolding mul
 scaled nan s = tt
 scaled (inf t) s = absurd s
-scaled (fin t m e) s =
-    let a = m * up e * (32767 * 1) in
-    let c = down e * 1 in
-    let y = round binary32 false a c in
-    let grown = round-mono binary32 a c 32767 1 (mul-pos (down-pos e) (zero-lt-suc 0)) (zero-lt-suc 0) (grow (m * up e) (down e) s) in
-    let w = within y (round-sgn binary32 false a c) (subst (λ (z : Float). T (le y z)) full-is grown) in
-    either binary32 (unlike t false) a c (AtMost 32767) (w .0) (w .1)
-  where
-    grow : (m d : ℕ) → m ≤ 1 * d → m * (32767 * 1) * 1 ≤ 32767 * (d * 1)
-    grow m d h = omega arith
+scaled (fin t m e) s = rounded (unlike t false) (m * up e * (32767 * 1)) (down e * 1) (mul-pos (down-pos e) (zero-lt-suc 0)) (omega arith)
 
 pub product-at-most : (x : Float) → AtMost 32767 (mul binary32 (unitClamped x) full)
 product-at-most x = scaled (unitClamped x) (unit-at-most x)
 
 abs-neg : (a : ℕ) → natAbs (negℤ (pos a)) ≡ a
-abs-neg zero = refl
+abs-neg ℕ.zero = refl
 abs-neg (suc a) = refl
 
-cut-le : (y : Float) → AtMost 32767 y → natAbs (toSigned 15 y) ≤ 32767
+cut-at-most : (y : Float) → AtMost 32767 y → natAbs (toSigned 15 y) ≤ 32767
 unfolding toSigned
-cut-le nan l = lit≤ tt
-cut-le (inf s) l = absurd l
-cut-le (fin s m e) l = go s (m * up e / down e) (le-of-suc-le-suc (div-lt-iff-lt-mul (down-pos e) .1 (more (m * up e) (down e) (down-pos e) l)))
+cut-at-most nan l = lit≤ tt
+cut-at-most (inf s) l = absurd l
+cut-at-most (fin s m e) l = go s (m * up e / down e) (le-of-suc-le-suc (div-lt-iff-lt-mul (down-pos e) .1 (omega (arith, down-pos e))))
   where
-    more : (n d : ℕ) → 0 < d → n ≤ 32767 * d → n < 32768 * d
-    more n d D h = omega arith
-
     go : (s : Bool) (q : ℕ) → q ≤ 32767 → natAbs (cond s (negℤ (pos (min q 32768))) (pos (min q 32767))) ≤ 32767
-    go true q h = le-trans (le-of-eq (abs-neg (min q 32768))) (omega arith)
+    go true q h = omega (arith, abs-neg (min q 32768))
     go false q h = omega arith
 
 pub sample-range : (x : Float) → natAbs (toSigned 15 (mul binary32 (unitClamped x) full)) ≤ 32767
-sample-range x = cut-le (mul binary32 (unitClamped x) full) (product-at-most x)
+sample-range x = cut-at-most (mul binary32 (unitClamped x) full) (product-at-most x)

@@ -1,7 +1,7 @@
 -- Numbers as floats, and an f64 as an f32. IEEE 754 gives the meaning of each operation (`lib.Ieee`). Definitions only.
 use mathlib.Core.Bool.{false}
 use Prim.Native.Nat.{ℕ, _*_}
-use lib.IntN.{ℤ, pos, negsuc}
+use lib.IntN.{pos, negsuc}
 use lib.Ieee.{Float, nan, inf, fin, binary32, up, down, round, ofInt}
 
 abbrev pub zero : Float

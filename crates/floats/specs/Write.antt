@@ -1,5 +1,5 @@
 -- Document 01, "A write" and "Read": a sample in and out, play time, and the local speed with its test. Definitions only.
-use Prim.Native.Nat.{ℕ, _-_}
+use Prim.Native.Nat.{ℕ}
 use mathlib.Core.Bool.{Bool, true, false, cond, _||_}
 use lib.IntN.{ℤ, pos}
 use lib.Ieee.{Float, fin, binary32, binary64, round, add, mul, div, lt, ofInt, toSigned}

@@ -1,9 +1,7 @@
 -- `floats::casts::f64_to_f32` meets its contract: the pattern that it makes is that of `narrow x`, which is an `f32` and no NaN. Assumes nothing.
-use Prim.Native.Nat.{ℕ}
 use mathlib.Core.Path.{_≡_, sym, ap, _∙_, subst}
-use mathlib.Core.Bool.{not}
 use lib.Dec.{T}
-use lib.Ieee.{Float, binary32, binary64, fits, isNan, nanBits, ofBits, toBits}
+use lib.Ieee.{Float, binary32, binary64, fits, ofBits, toBits}
 use lib.Ieee.Bits.{ofBits-toBits}
 use lib.Ieee.Compare.{differs-from-itself}
 use Rattle.floats.specs.Numbers.{narrow}
@@ -21,12 +19,14 @@ nearest-bits-requires : tie.Need-nearest-bits-requires
 nearest-bits-requires c κs = no-nan-bits binary64 (c .before .args .x) (held (c .before)) (equals-itself (c .before .args .x) (c .if1 .left))
 
 made : (c : tie.After-nearest-bits) → c .nearest-bits .result ≡ toBits binary32 (narrow (c .before .before .args .x))
-made c = c .nearest-bits .ensures ∙ ap (λ (x : Float). toBits binary32 (narrow x)) (ofBits-toBits binary64 (c .before .before .args .x) (held (c .before .before)))
+made c =
+    let s = c .before .before in
+    c .nearest-bits .ensures ∙ ap (λ (x : Float). toBits binary32 (narrow x)) (ofBits-toBits binary64 (s .args .x) (held s))
 
 float-from-bits-result : tie.Need-float-from-bits-result
 float-from-bits-result c =
     let x = c .before .before .args .x in
-    subst (λ (n : ℕ). T (not (nanBits binary32 n))) (sym (made c)) (no-nan-bits binary32 (narrow x) (narrow-fits x) (narrow-no-nan x (equals-itself x (c .before .if1 .left))))
+    rw (made c) (no-nan-bits binary32 (narrow x) (narrow-fits x) (narrow-no-nan x (equals-itself x (c .before .if1 .left))))
 
 returns : tie.Need-returns
 returns c = zero-by-zero ∙ ap narrow (sym (differs-from-itself (c .before .args .x) (subst T (sym (c .if1 .taken)) tt)))

@@ -1,7 +1,8 @@
+-- `floats::casts::frames_to_f32` meets its contract. Assumes nothing.
 use mathlib.Core.Path.{refl}
 use Prim.Native.Nat.{_^_}
 use lib.Dec.{le→leb}
-use lib.Ieee.{binary32, inFloat, ofInt}
+use lib.Ieee.{inFloat, ofInt}
 use Rattle.floats.proofs.casts.frames_to_f32.Statement.{statement}
 use Rattle.floats.proofs.casts.frames_to_f32.Tie as tie
 

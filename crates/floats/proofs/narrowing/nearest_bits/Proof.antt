@@ -1,16 +1,15 @@
 -- `floats::narrowing::nearest_bits` meets its contract: the pattern of the magnitude with the sign of b. Assumes nothing.
 use borrow.Author.Needs.{needs}
-use Prim.Native.Nat.{ℕ, _+_, _%_, _/_, _^_, _≤_, _<_}
+use borrow.Author.Tests.{le-leb, lt-leb}
+use Prim.Native.Nat.{ℕ, _%_, _/_, _^_, _<_}
 use native.Mathlib.Nat.{zero-add}
 use native.Mathlib.Omega.{arith}
-use mathlib.Core.Path.{_≡_, sym, ap, _∙_}
-use mathlib.Core.Bool.{Bool, true, false, not}
-use lib.Dec.{T, leb, le→leb, leb→le, not-T}
-use lib.Ieee as Ieee
-use lib.Ieee.{Float, binary32, binary64, ofFields, toBits}
-use lib.Ieee.Bits.{is-true, is-false}
+use mathlib.Core.Path.{_≡_, sym, _∙_}
+use mathlib.Core.Bool.{Bool, true, false}
+use lib.Dec.{leb}
+use lib.Ieee.{binary32, binary64, ofBits, toBits}
 use Rattle.floats.specs.Numbers.{narrow}
-use Rattle.floats.proofs.Narrow.{ofBits-is, no-nan-fields}
+use Rattle.floats.proofs.NarrowFields.{narrowed, ofBits-is, no-nan-fields}
 use Rattle.floats.proofs.narrowing.nearest_bits.Statement.{statement}
 use Rattle.floats.proofs.narrowing.nearest_bits.Tie as tie
 
@@ -23,22 +22,20 @@ magnitude-requires c κs =
 add-result : tie.Need-add-result
 add-result c = search needs
 
-signed : (b : ℕ) (s : Bool) → leb (2 ^ 63) b ≡ s → toBits binary32 (narrow (ofFields binary64 s (b % 2 ^ 63 / 2 ^ 52) (b % 2 ^ 52))) ≡ toBits binary32 (narrow (Ieee.ofBits binary64 b))
-signed b s h = sym (ap (λ (x : Float). toBits binary32 (narrow x)) (ofBits-is b ∙ ap (λ (z : Bool). ofFields binary64 z (b % 2 ^ 63 / 2 ^ 52) (b % 2 ^ 52)) h))
-
-clash : (a b : ℕ) → b < a → a ≤ b → ⊥
-clash a b h k = omega arith
+signed : (b : ℕ) (s : Bool) → leb (2 ^ 63) b ≡ s
+    → narrowed s (b % 2 ^ 63 / 2 ^ 52) (b % 2 ^ 52) ≡ toBits binary32 (narrow (ofBits binary64 b))
+signed b s h = rw (ofBits-is b, h)
 
 returns : tie.Need-returns
 returns c =
     let b = c .before .before .args .b in
-    sym (c .before .magnitude .ensures .0 true) ∙ signed b true (is-true (leb (2 ^ 63) b) (le→leb (2 ^ 63) b (c .if1 .taken)))
+    sym (c .before .magnitude .ensures .0 true) ∙ signed b true (le-leb (2 ^ 63) b (c .if1 .taken))
 
 returns-2 : tie.Need-returns-2
 returns-2 c =
     let b = c .before .before .args .b in
     sym (zero-add (c .before .magnitude .result)) ∙ sym (c .before .magnitude .ensures .0 false)
-    ∙ signed b false (is-false (leb (2 ^ 63) b) (not-T (leb (2 ^ 63) b) (λ t. clash (2 ^ 63) b (c .if1 .left) (leb→le (2 ^ 63) b t))))
+    ∙ signed b false (lt-leb (2 ^ 63) b (c .if1 .left))
 
 pub nearest-bits-spec : {M : Type 1} → statement M
 nearest-bits-spec = tie.close (tie.spec magnitude-requires add-result returns returns-2)

@@ -1,14 +1,14 @@
 -- `floats::scales::fixed_point` meets its contract. Assumes nothing.
 use borrow.Author.Needs.{needs}
 use mathlib.Core.Path.{_≡_, ap, _∙_}
-use native.Mathlib.Omega.{arith}
 use Prim.Native.Nat.{_≤_}
+use native.Mathlib.Omega.{arith}
 use lib.IntN.{pos}
 use lib.Ieee.{ofBits}
 use mir.Syntax.{w32}
 use mir.Facts.{toZ-pos}
 use Rattle.floats.specs.Scales.{gain}
-use Rattle.floats.proofs.Ranges.{gain-cut}
+use Rattle.floats.proofs.Facts.{gain-range}
 use Rattle.floats.proofs.scales.fixed_point.Statement.{statement}
 use Rattle.floats.proofs.scales.fixed_point.Tie as tie
 
@@ -16,8 +16,7 @@ f32-to-usize-requires : tie.Need-f32-to-usize-requires
 f32-to-usize-requires c κs = search needs
 
 at-most : (c : tie.After-f32-to-usize) → gain (c .before .args .volume) ≤ 25600
-unfolding gain ofBits
-at-most c = gain-cut (c .before .args .volume) (c .before .pre .0) (c .before .pre .1)
+at-most c = gain-range (c .before .args .volume) (c .before .pre .0) (c .before .pre .1) .1
 
 is : (c : tie.After-f32-to-usize) → c .f32-to-usize .result ≡ gain (c .before .args .volume)
 unfolding gain ofBits

@@ -1,5 +1,5 @@
 -- `floats::settings::clamp` meets its contract. Assumes nothing.
-use mathlib.Core.Path.{_≡_, sym, ap, _∙_}
+use mathlib.Core.Path.{_≡_}
 use mathlib.Core.Bool.{Bool, true, false, cond}
 use lib.Ieee.{Float, le}
 use Rattle.floats.specs.Settings.{clamped}
@@ -8,11 +8,11 @@ use Rattle.floats.proofs.settings.clamp.Tie as tie
 
 by : (v lo hi : Float) (a b : Bool) → le lo v ≡ a → le v hi ≡ b → cond a (cond b v hi) lo ≡ clamped v lo hi
 unfolding clamped
-by v lo hi a b p q = sym (ap (λ (x : Bool). cond x (cond (le v hi) v hi) lo) p ∙ ap (λ (x : Bool). cond a (cond x v hi) lo) q)
+by v lo hi a b p q = rw (p, q)
 
-outside : (v lo hi : Float) → le lo v ≡ false → lo ≡ clamped v lo hi
+below : (v lo hi : Float) → le lo v ≡ false → lo ≡ clamped v lo hi
 unfolding clamped
-outside v lo hi p = sym (ap (λ (x : Bool). cond x (cond (le v hi) v hi) lo) p)
+below v lo hi p = rw p
 
 returns : tie.Need-returns
 returns c =
@@ -27,7 +27,7 @@ returns-2 c =
 returns-3 : tie.Need-returns-3
 returns-3 c =
     let a = c .before .args in
-    outside (a .value) (a .low) (a .high) (c .if1 .left)
+    below (a .value) (a .low) (a .high) (c .if1 .left)
 
 pub clamp-spec : {M : Type 1} → statement M
 clamp-spec = tie.close (tie.spec returns returns-2 returns-3)

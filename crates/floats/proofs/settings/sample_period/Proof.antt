@@ -1,6 +1,7 @@
+-- `floats::settings::sample_period` meets its contract. Assumes nothing.
+use borrow.Author.Needs.{needs}
 use lib.Ieee.{ofBits}
 use Rattle.floats.specs.Settings.{samplePeriod}
-use borrow.Author.Needs.{needs}
 use Rattle.floats.proofs.settings.sample_period.Statement.{statement}
 use Rattle.floats.proofs.settings.sample_period.Tie as tie
 

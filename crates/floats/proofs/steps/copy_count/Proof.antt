@@ -1,27 +1,39 @@
--- `floats::steps::copy_count` meets its contract (`proofs/Counts.antt`). Assumes nothing.
+-- `floats::steps::copy_count` meets its contract (`proofs/CopyCount.antt`). Assumes nothing.
 use borrow.Author.Needs.{needs}
-use mathlib.Core.Path.{_≡_, refl, sym, ap, _∙_, subst}
-use mathlib.Core.Bool.{Bool, true, false, not}
+use mathlib.Core.Path.{_≡_, sym, ap, _∙_}
+use mathlib.Core.Bool.{Bool, true, false, cond}
 use Prim.Native.Nat.{ℕ, _^_, _≤_, _<_}
-use native.Mathlib.Nat.{le-refl, le-of-eq, le-trans}
-use lib.IntN.{ℤ, pos, natAbs}
-use lib.Signed.{mag, ltZ, nonNeg}
+use native.Mathlib.Nat.{le-refl}
+use native.Mathlib.Omega.{arith}
+use lib.IntN.{natAbs}
+use lib.Signed.{mag, nonNeg}
 use lib.Dec.{T}
-use lib.Ieee.{Float, binary32, lt, ofInt, toSigned}
+use lib.Ieee.{Float, lt, toSigned}
 use lib.Ieee.Casts.{toSigned-in}
 use mir.Syntax.{w32, w64}
 use mir.Val.{Fits, toZ, ofZ}
 use mir.ValLaws.{toZ-ofZ}
+use Rattle.floats.specs.Numbers.{count}
 use Rattle.floats.specs.Steps.{toCopy, natOf, copyCount}
-use Rattle.floats.proofs.CopyCount.{copy-by, copy-le, none, some}
+use Rattle.floats.proofs.CopyCount.{copy-by, copy-le, natOf-below-zero, natOf-from-zero}
 use Rattle.floats.proofs.Cut.{yes, no}
 use Rattle.floats.proofs.steps.copy_count.Statement.{statement}
 use Rattle.floats.proofs.steps.copy_count.Tie as tie
 
+-- the frames to copy, and the contract's count, of the values passed
+abbrev wanted : tie.Start → Float
+wanted c = toCopy (c .args .error) (c .args .s) (c .args .sample-period)
+
+abbrev counted : tie.Start → ℕ
+counted c = copyCount (c .args .error) (c .args .s) (c .args .sample-period) (c .args .left .0)
+
+by : (c : tie.Start) (b : Bool) → lt (count (c .args .left .0)) (wanted c) ≡ b → cond b (c .args .left .0) (natOf (toSigned 31 (wanted c))) ≡ counted c
+by c b h = copy-by (c .args .error) (c .args .s) (c .args .sample-period) (c .args .left .0) b h
+
 -- the test of the first `if`, in the contract's words
 tested : (c : tie.After-frames-to-f32) (b : Bool) → lt (c .frames-to-f32 .result) (c .before .to-copy .result) ≡ b
-    → lt (ofInt binary32 (pos (c .before .before .args .left .0))) (toCopy (c .before .before .args .error) (c .before .before .args .s) (c .before .before .args .sample-period)) ≡ b
-tested c b h = sym (ap (λ (z : Float). lt z (c .before .to-copy .result)) (c .frames-to-f32 .ensures) ∙ ap (lt (ofInt binary32 (pos (c .before .before .args .left .0)))) (c .before .to-copy .ensures)) ∙ h
+    → lt (count (c .before .before .args .left .0)) (wanted (c .before .before)) ≡ b
+tested c b h = sym (λ i. lt (c .frames-to-f32 .ensures i) (c .before .to-copy .ensures i)) ∙ h
 
 to-copy-requires : tie.Need-to-copy-requires
 to-copy-requires c κs = search needs
@@ -30,42 +42,46 @@ frames-to-f32-requires : tie.Need-frames-to-f32-requires
 frames-to-f32-requires c κs = search needs
 
 returns : tie.Need-returns
-returns c =
-    let a = c .before .before .before .args in
-    (copy-by (a .error) (a .s) (a .sample-period) (a .left .0) true (tested (c .before) true (c .if1 .taken)), le-refl (a .left .0))
+returns c = (by (c .before .before .before) true (tested (c .before) true (c .if1 .taken)), le-refl (c .before .before .before .args .left .0))
 
 f32-to-i32-requires : tie.Need-f32-to-i32-requires
 f32-to-i32-requires c κs = search needs
 
+-- the cast fits, and reads back from its bits
+cast-in : (c : tie.After-f32-to-i32) → mag (c .f32-to-i32 .result) < 2 ^ 31
+cast-in c = rw (c .f32-to-i32 .ensures) (toSigned-in 31 (c .before .before .before .to-copy .result))
+
 back : (c : tie.After-f32-to-i32) → toZ w32 (ofZ w32 (c .f32-to-i32 .result)) ≡ c .f32-to-i32 .result
-back c = toZ-ofZ w32 (c .f32-to-i32 .result) (record { sfits = subst (λ (v : ℤ). mag v < 2 ^ 31) (sym (c .f32-to-i32 .ensures)) (toSigned-in 31 (c .before .before .before .to-copy .result)) })
+back c = toZ-ofZ w32 (c .f32-to-i32 .result) (record { sfits = cast-in c })
 
 -- what is returned past the first `if`
-cut : (c : tie.After-f32-to-i32) → natOf (c .f32-to-i32 .result) ≡ copyCount (c .before .before .before .before .args .error) (c .before .before .before .before .args .s) (c .before .before .before .before .args .sample-period) (c .before .before .before .before .args .left .0)
+cut : (c : tie.After-f32-to-i32) → natOf (c .f32-to-i32 .result) ≡ counted (c .before .before .before .before)
 cut c =
-    let a = c .before .before .before .before .args in
-    ap natOf (c .f32-to-i32 .ensures ∙ ap (toSigned 31) (c .before .before .before .to-copy .ensures)) ∙ copy-by (a .error) (a .s) (a .sample-period) (a .left .0) false (tested (c .before .before) false (c .before .if1 .left))
+    ap natOf (c .f32-to-i32 .ensures ∙ ap (toSigned 31) (c .before .before .before .to-copy .ensures))
+    ∙ by (c .before .before .before .before) false (tested (c .before .before) false (c .before .if1 .left))
 
-few : (c : tie.After-f32-to-i32) → natOf (c .f32-to-i32 .result) ≤ c .before .before .before .before .args .left .0
+few : (c : tie.After-f32-to-i32) → counted (c .before .before .before .before) ≤ c .before .before .before .before .args .left .0
 few c =
-    let a = c .before .before .before .before .args in
-    le-trans (le-of-eq (cut c)) (copy-le (a .error) (a .s) (a .sample-period) (a .left .0) (c .before .before .before .before .pre))
+    let s = c .before .before .before .before in
+    copy-le (s .args .error) (s .args .s) (s .args .sample-period) (s .args .left .0) (s .pre)
 
 returns-2 : tie.Need-returns-2
 returns-2 c =
-    let z : natOf (c .before .f32-to-i32 .result) ≡ 0 = none (c .before .f32-to-i32 .result) (subst (λ (v : ℤ). T (ltZ v (pos 0))) (back (c .before)) (yes (c .if2 .taken))) in
-    (sym z ∙ cut (c .before), subst (λ (n : ℕ). n ≤ c .before .before .before .before .before .args .left .0) z (few (c .before)))
+    let none = natOf-below-zero (c .before .f32-to-i32 .result) (yes (rw (back (c .before)) at (c .if2 .taken))) in
+    (sym none ∙ cut (c .before), omega arith)
 
-kept : (c : tie.Else2) → T (nonNeg (c .before .f32-to-i32 .result)) × Fits w64 (natAbs (c .before .f32-to-i32 .result)) × (natAbs (c .before .f32-to-i32 .result) ≡ natOf (c .before .f32-to-i32 .result))
-kept c = some (c .before .f32-to-i32 .result) (subst (λ (v : ℤ). mag v < 2 ^ 31) (sym (c .before .f32-to-i32 .ensures)) (toSigned-in 31 (c .before .before .before .before .to-copy .result))) (subst (λ (v : ℤ). T (not (ltZ v (pos 0)))) (back (c .before)) (no (c .if2 .left)))
+kept : (c : tie.Else2)
+    → T (nonNeg (c .before .f32-to-i32 .result)) × Fits w64 (natAbs (c .before .f32-to-i32 .result))
+    × (natAbs (c .before .f32-to-i32 .result) ≡ natOf (c .before .f32-to-i32 .result))
+kept c = natOf-from-zero (c .before .f32-to-i32 .result) (cast-in (c .before)) (no (rw (back (c .before)) at (c .if2 .left)))
 
 cast-n : tie.Need-cast-n
-cast-n c = subst (λ (v : ℤ). T (nonNeg v) × Fits w64 (natAbs v)) (sym (back (c .before))) (kept c .0, kept c .1)
+cast-n c = rw (back (c .before)) (kept c .0, kept c .1)
 
 returns-3 : tie.Need-returns-3
 returns-3 c =
-    let is = ap natAbs (back (c .before)) ∙ kept c .2 in
-    (is ∙ cut (c .before), le-trans (le-of-eq is) (few (c .before)))
+    let is = ap natAbs (back (c .before)) ∙ kept c .2 ∙ cut (c .before) in
+    (is, rw is (few (c .before)))
 
 pub copy-count-spec : {M : Type 1} → statement M
 copy-count-spec = tie.close (tie.spec to-copy-requires frames-to-f32-requires returns f32-to-i32-requires returns-2 cast-n returns-3)

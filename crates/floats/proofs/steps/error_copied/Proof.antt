@@ -36,4 +36,12 @@ returns c =
     ∙ (λ i. narrow (add binary64 (old i) (div binary64 (mul binary64 (time i) (sub binary64 (s i) one)) (s i))))
 
 pub error-copied-spec : {M : Type 1} → statement M
-error-copied-spec = tie.close (tie.spec frames-to-f32-requires f32-to-f64-with-nan-requires f32-to-f64-with-nan-requires-2 f32-to-f64-with-nan-requires-3 f64-to-f32-requires returns)
+error-copied-spec =
+    tie.close
+    (tie.spec
+    frames-to-f32-requires
+    f32-to-f64-with-nan-requires
+    f32-to-f64-with-nan-requires-2
+    f32-to-f64-with-nan-requires-3
+    f64-to-f32-requires
+    returns)

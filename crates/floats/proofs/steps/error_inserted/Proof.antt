@@ -1,6 +1,6 @@
 -- `floats::steps::error_inserted` meets its contract. Assumes nothing.
 use borrow.Author.Needs.{needs}
-use mathlib.Core.Path.{_≡_, sym, _∙_}
+use mathlib.Core.Path.{_≡_}
 use mathlib.Core.Bool.{true, false}
 use lib.Ieee.{ofBits, lt}
 use Rattle.floats.specs.Numbers.{half}
@@ -19,14 +19,14 @@ unfolding errorInserted ofBits
 returns c =
     let a = c .before .before .before .before .args in
     let t : lt half (a .s) ≡ true = c .before .before .before .if1 .taken in
-    c .error-moved .ensures ∙ sym (rw t)
+    rw (c .error-moved .ensures, t)
 
 returns-2 : tie.Need-returns-2
 unfolding errorInserted ofBits
 returns-2 c =
     let a = c .before .args in
     let t : lt half (a .s) ≡ false = c .if1 .left in
-    sym (rw t)
+    rw t
 
 pub error-inserted-spec : {M : Type 1} → statement M
 error-inserted-spec = tie.close (tie.spec add-made error-moved-requires returns returns-2)

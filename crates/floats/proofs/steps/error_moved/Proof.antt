@@ -1,6 +1,5 @@
 -- `floats::steps::error_moved` meets its contract. Assumes nothing.
 use borrow.Author.Needs.{needs}
-use mathlib.Core.Path.{_≡_}
 use lib.Ieee.{binary32, add, sub, mul, div}
 use Rattle.floats.specs.Steps.{errorMoved}
 use Rattle.floats.proofs.steps.error_moved.Statement.{statement}

@@ -1,6 +1,6 @@
 -- `floats::steps::error_skipped` meets its contract. Assumes nothing.
 use borrow.Author.Needs.{needs}
-use mathlib.Core.Path.{_≡_, sym, _∙_}
+use mathlib.Core.Path.{_≡_}
 use mathlib.Core.Bool.{true, false}
 use lib.Ieee.{ofBits, lt}
 use Rattle.floats.specs.Numbers.{two}
@@ -19,14 +19,14 @@ unfolding errorSkipped ofBits
 returns c =
     let a = c .before .before .before .before .args in
     let t : lt (a .s) two ≡ true = c .before .before .before .if1 .taken in
-    c .error-moved .ensures ∙ sym (rw t)
+    rw (c .error-moved .ensures, t)
 
 returns-2 : tie.Need-returns-2
 unfolding errorSkipped ofBits
 returns-2 c =
     let a = c .before .args in
     let t : lt (a .s) two ≡ false = c .if1 .left in
-    sym (rw t)
+    rw t
 
 pub error-skipped-spec : {M : Type 1} → statement M
 error-skipped-spec = tie.close (tie.spec add-used error-moved-requires returns returns-2)

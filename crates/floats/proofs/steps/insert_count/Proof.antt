@@ -2,13 +2,13 @@
 use borrow.Author.Needs.{needs}
 use mathlib.Core.Path.{_≡_, sym, ap, _∙_}
 use mathlib.Core.Bool.{true, false}
-use Prim.Native.Nat.{ℕ, _≤_, _<_, max}
+use Prim.Native.Nat.{max}
 use native.Mathlib.Nat.{le-refl}
 use native.Mathlib.Omega.{arith}
-use lib.Ieee.{Float, binary32, ofBits, sub, mul, div, le, toUnsigned}
+use lib.Ieee.{binary32, ofBits, sub, mul, div, le, toUnsigned}
 use Rattle.floats.specs.Numbers.{half, one}
 use Rattle.floats.specs.Steps.{insertCount}
-use Rattle.floats.proofs.StepRules.{insertCount-ge, insertCount-le}
+use Rattle.floats.proofs.StepRules.{insertCount-le}
 use Rattle.floats.proofs.steps.insert_count.Statement.{statement}
 use Rattle.floats.proofs.steps.insert_count.Tie as tie
 
@@ -19,13 +19,14 @@ f32-to-usize-requires : tie.Need-f32-to-usize-requires
 f32-to-usize-requires c κs = search needs
 
 -- what the code cuts, in the contract's words
-cut-is : (c : tie.After-f32-to-usize) → max 1 (c .f32-to-usize .result) ≡ insertCount (c .before .before .before .args .s) (c .before .before .before .args .period .0)
+cut-is : (c : tie.After-f32-to-usize)
+    → max 1 (c .f32-to-usize .result) ≡ insertCount (c .before .before .before .args .s) (c .before .before .before .args .period .0)
 unfolding insertCount ofBits
 cut-is c =
     let a = c .before .before .before .args in
     let t : le (a .s) half ≡ true = c .before .before .if1 .taken in
-    ap (max 1) (c .f32-to-usize .ensures ∙ ap (λ (z : Float). toUnsigned 64 (div binary32 (mul binary32 z (a .s)) (sub binary32 one (a .s)))) (c .before .frames-to-f32 .ensures))
-    ∙ sym (rw t)
+    let n = c .before .frames-to-f32 .ensures in
+    ap (max 1) (c .f32-to-usize .ensures ∙ (λ i. toUnsigned 64 (div binary32 (mul binary32 (n i) (a .s)) (sub binary32 one (a .s))))) ∙ sym (rw t)
 
 returns : tie.Need-returns
 returns c =

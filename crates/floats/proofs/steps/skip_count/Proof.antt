@@ -1,11 +1,10 @@
 -- `floats::steps::skip_count` meets its contract. Assumes nothing.
 use borrow.Author.Needs.{needs}
-use mathlib.Core.Path.{_≡_, sym, ap, _∙_}
+use mathlib.Core.Path.{_≡_, sym, _∙_}
 use mathlib.Core.Bool.{true, false}
-use Prim.Native.Nat.{_≤_, _^_}
 use native.Mathlib.Nat.{le-refl}
 use native.Mathlib.Omega.{arith}
-use lib.Ieee.{Float, binary32, ofBits, sub, div, le, toUnsigned}
+use lib.Ieee.{binary32, ofBits, sub, div, le, toUnsigned}
 use Rattle.floats.specs.Numbers.{one, two}
 use Rattle.floats.specs.Steps.{skipCount}
 use Rattle.floats.proofs.StepRules.{skipCount-le}
@@ -18,14 +17,14 @@ frames-to-f32-requires c κs = search needs
 f32-to-usize-requires : tie.Need-f32-to-usize-requires
 f32-to-usize-requires c κs = search needs
 
+-- what the code cuts, in the contract's words
 is : (c : tie.After-f32-to-usize) → c .f32-to-usize .result ≡ skipCount (c .before .before .before .args .s) (c .before .before .before .args .period .0)
 unfolding skipCount ofBits
 is c =
     let a = c .before .before .before .args in
     let t : le two (a .s) ≡ true = c .before .before .if1 .taken in
-    c .f32-to-usize .ensures
-    ∙ ap (λ (z : Float). toUnsigned 64 (div binary32 z (sub binary32 (a .s) one))) (c .before .frames-to-f32 .ensures)
-    ∙ sym (rw t)
+    let n = c .before .frames-to-f32 .ensures in
+    c .f32-to-usize .ensures ∙ (λ i. toUnsigned 64 (div binary32 (n i) (sub binary32 (a .s) one))) ∙ sym (rw t)
 
 returns : tie.Need-returns
 returns c =

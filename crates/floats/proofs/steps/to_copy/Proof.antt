@@ -1,8 +1,9 @@
-use mathlib.Core.Path.{_≡_, ap, _∙_}
-use lib.Ieee.{Float, binary32, binary64, ofBits, mul, div, sub}
+-- `floats::steps::to_copy` meets its contract. Assumes nothing.
+use borrow.Author.Needs.{needs}
+use mathlib.Core.Path.{_∙_}
+use lib.Ieee.{binary64, ofBits, mul, div, sub}
 use Rattle.floats.specs.Numbers.{narrow, one}
 use Rattle.floats.specs.Steps.{toCopy}
-use borrow.Author.Needs.{needs}
 use Rattle.floats.proofs.steps.to_copy.Statement.{statement}
 use Rattle.floats.proofs.steps.to_copy.Tie as tie
 
@@ -21,13 +22,11 @@ f64-to-f32-requires c κs = search needs
 returns : tie.Need-returns
 unfolding toCopy ofBits
 returns c =
-    let p = c .before .before .before .f32-to-f64-with-nan in
-    let w = c .before .before .f32-to-f64-with-nan2 in
-    let v = c .before .f32-to-f64-with-nan3 in
+    let product = c .before .before .before .f32-to-f64-with-nan .ensures in
+    let s = c .before .before .f32-to-f64-with-nan2 .ensures in
+    let period = c .before .f32-to-f64-with-nan3 .ensures in
     c .f64-to-f32 .ensures
-    ∙ ap (λ (z : Float). narrow (sub binary64 one (div binary64 z (mul binary64 (v .result) (sub binary64 (w .result) one))))) (p .ensures)
-    ∙ ap (λ (z : Float). narrow (sub binary64 one (div binary64 (mul binary32 (c .before .before .before .before .args .error) (c .before .before .before .before .args .s)) (mul binary64 z (sub binary64 (w .result) one))))) (v .ensures)
-    ∙ ap (λ (z : Float). narrow (sub binary64 one (div binary64 (mul binary32 (c .before .before .before .before .args .error) (c .before .before .before .before .args .s)) (mul binary64 (c .before .before .before .before .args .sample-period) (sub binary64 z one))))) (w .ensures)
+    ∙ (λ i. narrow (sub binary64 one (div binary64 (product i) (mul binary64 (period i) (sub binary64 (s i) one)))))
 
 pub to-copy-spec : {M : Type 1} → statement M
 to-copy-spec =
