@@ -1,11 +1,11 @@
 -- `find_sinc_coefficient` and `interpolate` of the Rust original: the coefficient of a tap, an interpolated sample, an interpolated frame.
 -- N is the new rate, the width of one step of the old rate; r is the ratio, below N; i is the tap. Definitions only. Assumes nothing.
-use mathlib.Core.Bool.{cond}
 use mathlib.Core.List.{List, [], _∷_}
 use Prim.Native.Nat.{ℕ, zero, suc, _+_, _-_, _*_, _/_}
 use lib.IntN.{ℤ, pos, negsuc, _+ℤ_, _*ℤ_}
 use lib.ListN.{getD}
-use lib.Signed.{ltZ, quotZ, shrZ}
+use lib.Signed.{quotZ, shrZ}
+use Rattle.frames.specs.Clamp.{clampZ}
 use Rattle.sinc.specs.SincTable.{sincTable}
 
 -- ---- coefficients
@@ -48,7 +48,7 @@ tapSum taps r N k = weightedSum taps (λ i. sincCoefficient i r N) k
 
 -- z held to −32768..32767
 unfoldable pub heldSample : ℤ → ℤ
-heldSample z = cond (ltZ (pos 32767) z) (pos 32767) (cond (ltZ z (negsuc 32767)) (negsuc 32767) z)
+heldSample z = clampZ (negsuc 32767) (pos 32767) z
 
 -- `interpolate`: the sum of the 12 taps, shifted right by 16 and held
 unfoldable pub interpolate : (ℕ → ℤ) → ℕ → ℕ → ℤ

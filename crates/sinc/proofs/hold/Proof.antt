@@ -8,6 +8,7 @@ use lib.Signed.{ltZ}
 use mir.Syntax.{w16, w64}
 use mir.Val.{SFits}
 use mir.Facts.{toZ-ofZ}
+use Rattle.frames.specs.Clamp.{clampZ}
 use Rattle.sinc.specs.Sinc.{heldSample}
 use Rattle.sinc.proofs.hold.Statement.{statement}
 use Rattle.sinc.proofs.hold.Tie as tie
@@ -26,13 +27,13 @@ inside : (c : tie.Else2) → SFits w16 (c .before .before .args .z)
 inside c = between-fits (c .before .before .args .z) (not-above (c .before)) (not-below c)
 
 returns : tie.Need-returns
-unfolding heldSample
+unfolding heldSample clampZ
 returns c =
     let above : ltZ (pos 32767) (c .before .args .z) ≡ true = rw (toZ-ofZ {w = w64} (c .before .fits .z)) at (c .if1 .taken) in
     simp above
 
 returns-2 : tie.Need-returns-2
-unfolding heldSample
+unfolding heldSample clampZ
 returns-2 c =
     let below : ltZ (c .before .before .args .z) (negsuc 32767) ≡ true = rw (toZ-ofZ {w = w64} (c .before .before .fits .z)) at (c .if2 .taken) in
     simp (not-above (c .before), below)
@@ -41,7 +42,7 @@ cast-result : tie.Need-cast-result
 cast-result c = rw (toZ-ofZ {w = w64} (c .before .before .fits .z)) (inside c)
 
 returns-3 : tie.Need-returns-3
-unfolding heldSample
+unfolding heldSample clampZ
 returns-3 c = rw (toZ-ofZ {w = w64} (c .before .before .fits .z), toZ-ofZ {w = w16} (inside c)) (simp (not-above (c .before), not-below c))
 
 pub hold-spec : {M : Type 1} → statement M

@@ -1,0 +1,2 @@
+mod Scaling
+mod Figures
