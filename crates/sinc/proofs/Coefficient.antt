@@ -10,7 +10,7 @@ use lib.Signed.{quotZ}
 use mir.Syntax.{w16, w32}
 use mir.Val.{SFits, toZ}
 use mir.Facts.{toZ-ofZ, toZ-pos}
-use Rattle.laws.proofs.Integers.{sfits-abs, abs-add, abs-mul, abs-quot, pos-sub}
+use Rattle.laws.proofs.Integers.{sfits-of-natAbs, natAbs-add-le, natAbs-mul, natAbs-quot, pos-sub}
 use Rattle.laws.proofs.Widening.{i16, i32, widened-reads}
 use Rattle.sinc.specs.SincTable.{sincTable}
 use Rattle.sinc.specs.Sinc.{tablePlace, remainder, tableValue, sincCoefficient}
@@ -48,25 +48,25 @@ pub record Blend (x y : ℤ) (N e : ℕ) : Type 0 where
 
 module _ {x y : ℤ} {N e : ℕ} (b : Blend x y N e) where
   pub left-sample : SFits w16 x
-  left-sample = sfits-abs x (omega (arith, b .left-small))
+  left-sample = sfits-of-natAbs x (omega (arith, b .left-small))
 
   pub right-sample : SFits w16 y
-  right-sample = sfits-abs y (omega (arith, b .right-small))
+  right-sample = sfits-of-natAbs y (omega (arith, b .right-small))
 
   left-abs : natAbs (x *ℤ pos (N - e)) ≤ 32767 * (N - e)
-  left-abs = rw abs-mul (mul-le-mul-right (N - e) (b .left-small))
+  left-abs = rw natAbs-mul (mul-le-mul-right (N - e) (b .left-small))
 
   right-abs : natAbs (y *ℤ pos e) ≤ 32767 * e
-  right-abs = rw abs-mul (mul-le-mul-right e (b .right-small))
+  right-abs = rw natAbs-mul (mul-le-mul-right e (b .right-small))
 
   blend-abs : natAbs (blend x y N e) ≤ 32767 * N
-  blend-abs = omega (arith, abs-add (x *ℤ pos (N - e)) (y *ℤ pos e), left-abs, right-abs, b .inside)
+  blend-abs = omega (arith, natAbs-add-le (x *ℤ pos (N - e)) (y *ℤ pos e), left-abs, right-abs, b .inside)
 
   double-abs : natAbs (pos 2 *ℤ blend x y N e) ≤ 65534 * N
-  double-abs = rw abs-mul (omega (arith, blend-abs))
+  double-abs = rw natAbs-mul (omega (arith, blend-abs))
 
   mean-abs : natAbs (quotZ (pos 2 *ℤ blend x y N e) (pos N)) ≤ 65534
-  mean-abs = rw abs-quot (div-le-of-le-mul N (omega (arith, double-abs, mul-comm N 65534)))
+  mean-abs = rw natAbs-quot (div-le-of-le-mul N (omega (arith, double-abs, mul-comm N 65534)))
 
 -- ---- the steps of the code: `-fits` says that a step fits, `-reads` what it reads back as
 
@@ -82,7 +82,7 @@ module _ {x y : ℤ} {N e : ℕ} (b : Blend x y N e) (narrow : N ≤ 16384) wher
   rest-is = rw (width-reads, remainder-reads, pos-sub N e (le-of-lt (b .inside)))
 
   pub rest-fits : SFits w32 (toZ w32 N -ℤ toZ w32 e)
-  rest-fits = rw rest-is (sfits-abs (pos (N - e)) (omega arith))
+  rest-fits = rw rest-is (sfits-of-natAbs (pos (N - e)) (omega arith))
 
   rest-reads : i32 (toZ w32 N -ℤ toZ w32 e) ≡ pos (N - e)
   rest-reads = toZ-ofZ rest-fits ∙ rest-is
@@ -92,31 +92,31 @@ module _ {x y : ℤ} {N e : ℕ} (b : Blend x y N e) (narrow : N ≤ 16384) wher
   left-is = rw (widened-reads w32 tt (left-sample b), rest-reads)
 
   pub left-fits : SFits w32 (i32 (i16 x) *ℤ i32 (toZ w32 N -ℤ toZ w32 e))
-  left-fits = rw left-is (sfits-abs (x *ℤ pos (N - e)) (omega (arith, left-abs b)))
+  left-fits = rw left-is (sfits-of-natAbs (x *ℤ pos (N - e)) (omega (arith, left-abs b)))
 
   -- right_value * e
   right-is : i32 (i16 y) *ℤ toZ w32 e ≡ y *ℤ pos e
   right-is = rw (widened-reads w32 tt (right-sample b), remainder-reads)
 
   pub right-fits : SFits w32 (i32 (i16 y) *ℤ toZ w32 e)
-  right-fits = rw right-is (sfits-abs (y *ℤ pos e) (omega (arith, right-abs b, b .inside)))
+  right-fits = rw right-is (sfits-of-natAbs (y *ℤ pos e) (omega (arith, right-abs b, b .inside)))
 
   -- the sum
   sum-is : i32 (i32 (i16 x) *ℤ i32 (toZ w32 N -ℤ toZ w32 e)) +ℤ i32 (i32 (i16 y) *ℤ toZ w32 e) ≡ blend x y N e
   sum-is = rw (toZ-ofZ left-fits, left-is, toZ-ofZ right-fits, right-is)
 
   pub sum-fits : SFits w32 (i32 (i32 (i16 x) *ℤ i32 (toZ w32 N -ℤ toZ w32 e)) +ℤ i32 (i32 (i16 y) *ℤ toZ w32 e))
-  sum-fits = rw sum-is (sfits-abs (blend x y N e) (omega (arith, blend-abs b)))
+  sum-fits = rw sum-is (sfits-of-natAbs (blend x y N e) (omega (arith, blend-abs b)))
 
   pub sum-reads : i32 (i32 (i32 (i16 x) *ℤ i32 (toZ w32 N -ℤ toZ w32 e)) +ℤ i32 (i32 (i16 y) *ℤ toZ w32 e)) ≡ blend x y N e
   sum-reads = toZ-ofZ sum-fits ∙ sum-is
 
   -- 2 * sum, and its quotient
   pub double-fits : SFits w32 (pos 2 *ℤ blend x y N e)
-  double-fits = sfits-abs (pos 2 *ℤ blend x y N e) (omega (arith, double-abs b))
+  double-fits = sfits-of-natAbs (pos 2 *ℤ blend x y N e) (omega (arith, double-abs b))
 
   pub mean-fits : SFits w32 (quotZ (pos 2 *ℤ blend x y N e) (pos N))
-  mean-fits = sfits-abs (quotZ (pos 2 *ℤ blend x y N e) (pos N)) (omega (arith, mean-abs b))
+  mean-fits = sfits-of-natAbs (quotZ (pos 2 *ℤ blend x y N e) (pos N)) (omega (arith, mean-abs b))
 
 -- ---- the size of a coefficient
 

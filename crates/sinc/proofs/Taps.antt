@@ -9,7 +9,7 @@ use lib.Signed.{shrZ, mag-shr, natAbs-le}
 use mir.Syntax.{w16, w32, w64}
 use mir.Val.{SFits, toZ}
 use mir.Facts.{toZ-ofZ}
-use Rattle.laws.proofs.Integers.{sfits-abs, mag-natAbs, abs-add, abs-mul}
+use Rattle.laws.proofs.Integers.{sfits-of-natAbs, mag-le-natAbs, natAbs-add-le, natAbs-mul}
 use Rattle.laws.proofs.Widening.{i16, i32, i64, widened-fits, widened-reads}
 use Rattle.sinc.specs.Sinc.{weightedSum, heldSample}
 
@@ -34,32 +34,32 @@ module _ {taps weights : ℕ → ℤ} {i : ℕ} (t : Tap taps weights i) where
 
   -- tap * weight
   product-abs : natAbs (taps i *ℤ weights i) ≤ limit 1
-  product-abs = rw abs-mul (mul-le-mul (natAbs-le (taps i) (t .sample .sfits)) (t .small))
+  product-abs = rw natAbs-mul (mul-le-mul (natAbs-le (taps i) (t .sample .sfits)) (t .small))
 
   product-is : i64 (i16 (taps i)) *ℤ i64 (i32 (weights i)) ≡ taps i *ℤ weights i
   product-is = rw (widened-reads w64 tt (t .sample), widened-reads w64 tt (t .weight))
 
   pub product-fits : SFits w64 (i64 (i16 (taps i)) *ℤ i64 (i32 (weights i)))
-  product-fits = rw product-is (sfits-abs (taps i *ℤ weights i) (omega (arith, product-abs)))
+  product-fits = rw product-is (sfits-of-natAbs (taps i *ℤ weights i) (omega (arith, product-abs)))
 
   -- sum + tap * weight
   pub next-abs : natAbs (weightedSum taps weights (i + 1)) ≤ limit (i + 1)
   unfolding weightedSum
-  next-abs = rw (add-one i) (omega (arith, abs-add (weightedSum taps weights i) (taps i *ℤ weights i), product-abs, t .before))
+  next-abs = rw (add-one i) (omega (arith, natAbs-add-le (weightedSum taps weights i) (taps i *ℤ weights i), product-abs, t .before))
 
   sum-is : weightedSum taps weights i +ℤ i64 (i64 (i16 (taps i)) *ℤ i64 (i32 (weights i))) ≡ weightedSum taps weights (i + 1)
   unfolding weightedSum
   sum-is = rw (add-one i, toZ-ofZ product-fits, product-is)
 
   pub sum-fits : SFits w64 (weightedSum taps weights i +ℤ i64 (i64 (i16 (taps i)) *ℤ i64 (i32 (weights i))))
-  sum-fits = rw sum-is (sfits-abs (weightedSum taps weights (i + 1)) (omega (arith, next-abs, t .early)))
+  sum-fits = rw sum-is (sfits-of-natAbs (weightedSum taps weights (i + 1)) (omega (arith, next-abs, t .early)))
 
   pub sum-reads : i64 (weightedSum taps weights i +ℤ i64 (i64 (i16 (taps i)) *ℤ i64 (i32 (weights i)))) ≡ weightedSum taps weights (i + 1)
   sum-reads = toZ-ofZ sum-fits ∙ sum-is
 
 -- the whole sum, shifted
 shifted-fits : (z : ℤ) (m : ℕ) → natAbs z ≤ limit 12 → SFits w64 (shrZ z m)
-shifted-fits z m h = record { sfits = lt-of-le-of-lt (mag-shr z m) (omega (arith, mag-natAbs z)) }
+shifted-fits z m h = record { sfits = lt-of-le-of-lt (mag-shr z m) (omega (arith, mag-le-natAbs z)) }
 
 -- what the code holds: z, read back from `sum`, and shifted
 pub held-is : {value : ℤ} (sum : ℕ) (z : ℤ) (m : ℕ) → toZ w64 sum ≡ z → natAbs z ≤ limit 12 → value ≡ heldSample (i64 (shrZ (toZ w64 sum) m))
