@@ -1,0 +1,6 @@
+pub mod Candidates
+pub mod Means
+pub mod SearchRule
+pub mod Ranges
+pub mod Record
+pub mod Figures

@@ -1,0 +1,91 @@
+-- `period::pitch::coarse_search` meets its contract: the numbers computed from the rate are those of the definition. Assumes nothing.
+use borrow.Author.Needs.{needs}
+use mathlib.Core.Path.{_≡_, ap, _∙_}
+use Prim.Native.Nat.{ℕ, _*_, _/_}
+use native.Mathlib.Omega.{arith}
+use native.Mathlib.Nat.{mul-le-mul}
+use Rattle.period.specs.Rates.{skip}
+use Rattle.period.specs.Search.{findPitchPeriodInRange}
+use Rattle.period.specs.Pitch.{valuesOf, coarse}
+use Rattle.period.proofs.Ranges.{Skip, skip-in, coarse-searchable, coarse-averageable}
+use Rattle.period.proofs.pitch.coarse_search.Statement.{statement}
+use Rattle.period.proofs.pitch.coarse_search.Tie as tie
+
+skip-requires : tie.Need-skip-requires
+skip-requires c κs = search needs
+
+min-period-requires : tie.Need-min-period-requires
+min-period-requires c κs = search needs
+
+max-period-requires : tie.Need-max-period-requires
+max-period-requires c κs = search needs
+
+max-required-requires : tie.Need-max-required-requires
+max-required-requires c κs = search needs
+
+skip-few : (c : tie.After-struct-known) → Skip (c .before .before .before .before .before .args .rate) (c .before .before .before .before .skip .result)
+skip-few c =
+    let s = c .before .before .before .before in
+    skip-in (s .before .pre .0) (s .skip .ensures)
+
+div-num-values : tie.Need-div-num-values
+div-num-values c = skip-few c .some
+
+samples-requires : tie.Need-samples-requires
+samples-requires c κs = omega (arith, mul-le-mul (skip-few c .few) (c .before .before .before .before .before .pre .0 .channels-high))
+
+div-search-values : tie.Need-div-search-values
+div-search-values c = skip-few (c .before) .some
+
+div-search-values-2 : tie.Need-div-search-values-2
+div-search-values-2 c = skip-few (c .before) .some
+
+search-values-requires : tie.Need-search-values-requires
+search-values-requires c κs =
+    let m = c .before .before .before in
+    let high = m .before in
+    let low = high .before in
+    let s = low .before in
+    let p = s .before .pre in (
+      coarse-averageable (p .0) (p .1 .0) (p .1 .1) (s .skip .ensures) (m .max-required .ensures) (c .before .samples .ensures),
+      coarse-searchable (p .0) (s .skip .ensures) (low .min-period .ensures) (high .max-period .ensures) (m .max-required .ensures),
+    )
+
+same-length : tie.Need-same-length
+same-length c = search needs
+
+returns : tie.Need-returns
+unfolding coarse
+returns c =
+    let v = c .before in
+    let a = v .before .before in
+    let m = a .before .before in
+    let high = m .before in
+    let low = high .before in
+    let s = low .before in
+    let x = s .before .args .samples .now in
+    let channels = s .before .args .channels in
+    let k = s .skip .ensures in
+    let n = m .max-required .ensures in
+    let per : a .samples .result .0 ≡ skip (s .before .args .rate) * channels = a .samples .ensures ∙ ap (λ (t : ℕ). t * channels) k in
+    let l = low .min-period .ensures in
+    let h = high .max-period .ensures in (
+      v .search-values .ensures .0 ∙ (λ i. findPitchPeriodInRange (valuesOf x (n i / k i) (per i)) (l i / k i) (h i / k i)),
+      v .search-values .ensures .1,
+    )
+
+pub coarse-search-spec : {M : Type 1} → statement M
+coarse-search-spec =
+    tie.close
+    (tie.spec
+    skip-requires
+    min-period-requires
+    max-period-requires
+    max-required-requires
+    div-num-values
+    samples-requires
+    div-search-values
+    div-search-values-2
+    search-values-requires
+    same-length
+    returns)

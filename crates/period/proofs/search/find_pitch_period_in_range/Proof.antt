@@ -1,0 +1,140 @@
+-- `period::search::find_pitch_period_in_range` meets its contract: at period q the two candidates are those of the range up to q.
+-- Assumes nothing.
+use borrow.Author.Needs.{needs}
+use mathlib.Core.Path.{_≡_, _∙_, ap}
+use Prim.Native.Nat.{_+_, _-_, _≤_}
+use native.Mathlib.Nat.{le-refl}
+use native.Mathlib.Omega.{arith}
+use Rattle.period.specs.Search.{lesser, greater, sweep, best, worst, foundOf, findPitchPeriodInRange, Bounded}
+use Rattle.period.proofs.Candidates.{searchable-within, sweep-one, sweep-two}
+use Rattle.period.proofs.search.find_pitch_period_in_range.Statement.{statement}
+use Rattle.period.proofs.search.find_pitch_period_in_range.Tie as tie
+
+abbrev Inv-loop : tie.InvT-loop
+Inv-loop samples min-period max-period best₀ worst₀ period₀ b w period =
+    (min-period ≤ period) × (period ≤ max-period) × (b ≡ best samples min-period period) × (w ≡ worst samples min-period period) × Bounded b × Bounded w
+
+abbrev μ-loop : tie.MeasureT-loop
+μ-loop samples min-period max-period best₀ worst₀ period₀ b w period = max-period - period
+
+candidate-at-requires : tie.Need-candidate-at-requires Inv-loop μ-loop
+candidate-at-requires c κs = searchable-within (c .pre) (le-refl _) (le-refl _) (c .pre .order)
+
+loop-holds : tie.Need-loop-holds Inv-loop μ-loop
+unfolding sweep
+loop-holds c =
+    let a = c .before .args in
+    let r = c .candidate-at .ensures in
+    let none : a .min-period - a .min-period ≡ 0 = omega arith in
+    (omega arith, omega (arith, c .before .pre .order), rw none (r .0), rw none (r .0), r .1, r .1)
+
+add-loop : tie.Need-add-loop Inv-loop μ-loop
+add-loop c = omega (arith, c .loop .inv .1, c .before .before .pre .short)
+
+add-neighbours-from : tie.Need-add-neighbours-from Inv-loop μ-loop
+add-neighbours-from c = omega (arith, c .before .loop .inv .1, c .before .before .before .pre .short)
+
+neighbours-from-requires : tie.Need-neighbours-from-requires Inv-loop μ-loop
+neighbours-from-requires c κs =
+    let l = c .before .loop in
+    searchable-within (c .before .before .before .pre) (omega (arith, l .inv .0)) (omega arith) (omega arith)
+
+lesser-requires : tie.Need-lesser-requires Inv-loop μ-loop
+lesser-requires c κs = (c .before .before .before .before .loop .inv .4, c .before .before .neighbours-from .ensures .1)
+
+lesser-requires-2 : tie.Need-lesser-requires-2 Inv-loop μ-loop
+lesser-requires-2 c κs = (c .lesser .ensures .1, c .before .before .before .neighbours-from .ensures .3)
+
+greater-requires : tie.Need-greater-requires Inv-loop μ-loop
+greater-requires c κs = (c .before .before .before .before .before .before .loop .inv .5, c .before .before .before .before .neighbours-from .ensures .1)
+
+greater-requires-2 : tie.Need-greater-requires-2 Inv-loop μ-loop
+greater-requires-2 c κs = (c .greater .ensures .1, c .before .before .before .before .before .neighbours-from .ensures .3)
+
+add-period : tie.Need-add-period Inv-loop μ-loop
+add-period c =
+    let n = c .before .before .before .before .before .before in
+    record { fits = omega (arith, n .before .before .loop .inv .1, n .before .before .before .before .pre .short) }
+
+loop-less : tie.Need-loop-less Inv-loop μ-loop
+loop-less c = search needs
+
+loop-again : tie.Need-loop-again Inv-loop μ-loop
+loop-again c =
+    let n = c .before .before .before .before .before .before in
+    let l = n .before .before .loop in
+    let a = n .before .before .before .before .args in
+    let two = n .neighbours-from .ensures in
+    let m = c .before .before in
+    let x = a .samples .now in (
+      omega (arith, l .inv .0),
+      omega (arith, n .before .loop-test),
+      sweep-two lesser x (a .min-period) (l .period) (l .inv .0) (l .inv .2) (two .0) (two .2) (m .before .lesser .ensures .0) (m .lesser2 .ensures .0),
+      sweep-two greater x (a .min-period) (l .period) (l .inv .0) (l .inv .3) (two .0) (two .2) (c .before .greater .ensures .0) (c .greater2 .ensures .0),
+      m .lesser2 .ensures .1,
+      c .greater2 .ensures .1,
+    )
+
+candidate-at-requires-2 : tie.Need-candidate-at-requires-2 Inv-loop μ-loop
+candidate-at-requires-2 c κs =
+    let p = c .before .before .before .before .pre in
+    searchable-within p (p .order) (le-refl _) (le-refl _)
+
+lesser-requires-3 : tie.Need-lesser-requires-3 Inv-loop μ-loop
+lesser-requires-3 c κs = (c .before .before .before .loop .inv .4, c .candidate-at2 .ensures .1)
+
+greater-requires-3 : tie.Need-greater-requires-3 Inv-loop μ-loop
+greater-requires-3 c κs = (c .before .before .before .before .loop .inv .5, c .before .candidate-at2 .ensures .1)
+
+found-of-requires : tie.Need-found-of-requires Inv-loop μ-loop
+found-of-requires c κs = (c .before .lesser3 .ensures .1, c .greater3 .ensures .1)
+
+returns : tie.Need-returns Inv-loop μ-loop
+unfolding findPitchPeriodInRange
+returns c =
+    let l = c .before .before .before .before .before .before .loop in
+    let a = c .before .before .before .before .before .before .before .before .args in
+    let last = c .before .before .before .candidate-at2 .ensures .0 in
+    let e : l .period + 1 ≡ a .max-period = omega arith in
+    let b = sweep-one lesser (a .samples .now) (a .min-period) (l .period) (l .inv .0) (l .inv .2) e last (c .before .before .lesser3 .ensures .0) in
+    let w = sweep-one greater (a .samples .now) (a .min-period) (l .period) (l .inv .0) (l .inv .3) e last (c .before .greater3 .ensures .0) in
+    (c .found-of .ensures .0 ∙ (λ i. foundOf (b i) (w i)), c .found-of .ensures .1)
+
+found-of-requires-2 : tie.Need-found-of-requires-2 Inv-loop μ-loop
+found-of-requires-2 c κs = (c .before .before .loop .inv .4, c .before .before .loop .inv .5)
+
+returns-2 : tie.Need-returns-2 Inv-loop μ-loop
+unfolding findPitchPeriodInRange
+returns-2 c =
+    let l = c .before .before .before .loop in
+    let a = c .before .before .before .before .before .args in
+    let e : l .period ≡ a .max-period = omega arith in
+    let b = l .inv .2 ∙ ap (best (a .samples .now) (a .min-period)) e in
+    let w = l .inv .3 ∙ ap (worst (a .samples .now) (a .min-period)) e in
+    (c .found-of2 .ensures .0 ∙ (λ i. foundOf (b i) (w i)), c .found-of2 .ensures .1)
+
+pub find-pitch-period-in-range-spec : {M : Type 1} → statement M
+find-pitch-period-in-range-spec =
+    tie.close
+    (tie.spec
+    Inv-loop
+    μ-loop
+    candidate-at-requires
+    loop-holds
+    add-loop
+    add-neighbours-from
+    neighbours-from-requires
+    lesser-requires
+    lesser-requires-2
+    greater-requires
+    greater-requires-2
+    add-period
+    loop-less
+    loop-again
+    candidate-at-requires-2
+    lesser-requires-3
+    greater-requires-3
+    found-of-requires
+    returns
+    found-of-requires-2
+    returns-2)

@@ -1,0 +1,9 @@
+pub mod Ceiling
+pub mod Positions
+pub mod Chunks
+pub mod Counts
+mod Turns
+mod Window
+mod Figures
+mod Adjusting
+pub mod Halving

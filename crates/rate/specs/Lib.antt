@@ -1,0 +1,4 @@
+pub mod Halving
+pub mod Tail
+pub mod Conversion
+pub mod Adjusting

@@ -1,0 +1,153 @@
+// Rate conversion: `adjust_rate` of the Rust original. `specs/Conversion.antt` says what it gives.
+mod scan;
+
+use frames::Frames;
+ghost use mathlib.Core.Path.{_≡_};
+ghost use Prim.Native.Nat.{_+_, _^_, _≤_, _<_};
+ghost use Rattle.rate.specs.Halving.{ratesOf};
+ghost use Rattle.rate.specs.Adjusting.{Lent, Placed, Ready, StraightOut, ConvertedTail, AdjustedRate};
+
+// The most that either of the two rates may be.
+const MAX_RATE: usize = 16384;
+
+// N and O: the new rate and the old one.
+pub struct Rates {
+    pub new: usize,
+    pub old: usize,
+}
+
+// p and n: the positions in old frames and in new ones.
+pub struct Position {
+    pub old: usize,
+    pub new: usize,
+}
+
+// The frames made; the tail that is left, `left` frames of the stage from `from` on; the positions.
+pub struct Adjusted {
+    pub made: Frames,
+    pub from: Frames,
+    pub left: Frames,
+    pub at: Position,
+}
+
+// Full: the frames do not fit behind those that wait.
+pub enum Adjustment {
+    Full,
+    Done(Adjusted),
+}
+
+// N and O of a rate in Hz and a pitch.
+pub fn rates_of(rate: u32, pitch: f32) -> Rates
+    requires { ⌜ rate ≤ 2 ^ 24 ⌝ }
+    ensures { λ r. ⌜ r ≡ ratesOf rate pitch ⌝ }
+{
+    let mut new = floats::scales::new_rate(rate, pitch);
+    let mut old = rate as usize;
+    while new > MAX_RATE || old > MAX_RATE {
+        new = new / 2;
+        old = old / 2;
+    }
+    Rates { new, old }
+}
+
+// At pitch 1.0 the new frames of the stage go straight out, and the tail stays.
+fn straight_out(
+    stage: &[i16],
+    tail: Frames,
+    new: Frames,
+    channels: usize,
+    at: Position,
+    output: &mut [i16],
+    waiting: Frames,
+) -> Adjustment
+    requires { ⌜ Lent channels (tail .0 + new .0) (waiting .0) (now stage) (now output) ⌝ }
+    ensures { λ r. ⌜ StraightOut channels (tail .0) (new .0) (waiting .0) at (now (stage .entry)) (now (output .entry)) (now (output .exit)) r ⌝ }
+{
+    let n = new.0;
+    let w = waiting.0;
+    if output.len() / channels - w < n {
+        return Adjustment::Full;
+    }
+    frames::copy(
+        stage,
+        tail.samples(channels),
+        new.samples(channels),
+        output,
+        waiting.samples(channels),
+    );
+    Adjustment::Done(Adjusted {
+        made: new,
+        from: Frames(0),
+        left: tail,
+        at,
+    })
+}
+
+// At another pitch all but the last 12 tail frames of the stage are consumed.
+fn convert(
+    stage: &[i16],
+    tail: Frames,
+    channels: usize,
+    rates: Rates,
+    at: Position,
+    output: &mut [i16],
+    waiting: Frames,
+) -> Adjustment
+    requires { ⌜ Lent channels (tail .0) (waiting .0) (now stage) (now output) × Placed rates at ⌝ }
+    ensures { λ r. ⌜ ConvertedTail channels rates (tail .0) (waiting .0) at (now (stage .entry)) (now (output .entry)) (now (output .exit)) r ⌝ }
+{
+    let table = sinc::sinc_table();
+    let end = scan::scan_tail(&table, stage, tail, channels, rates, at, output, waiting);
+    if end.full {
+        return Adjustment::Full;
+    }
+    let total = tail.0;
+    let consumed = end.consumed.0;
+    let made = end.made;
+    let position = end.at;
+    Adjustment::Done(Adjusted {
+        made,
+        from: Frames(consumed),
+        left: Frames(total - consumed),
+        at: position,
+    })
+}
+
+// The new frames of the stage, which stand behind its tail, at the pitch: behind the frames waiting in the output.
+pub fn adjust_rate(
+    stage: &[i16],
+    tail: Frames,
+    new: Frames,
+    channels: usize,
+    rate: u32,
+    pitch: f32,
+    at: Position,
+    output: &mut [i16],
+    waiting: Frames,
+) -> Adjustment
+    requires { ⌜ Ready channels rate pitch at (tail .0) (new .0) (waiting .0) (now stage) (now output) ⌝ }
+    ensures { λ r. ⌜ AdjustedRate channels rate pitch at (tail .0) (new .0) (waiting .0) (now (stage .entry)) (now (output .entry)) (now (output .exit)) r ⌝ }
+{
+    if pitch == 1.0 {
+        return straight_out(stage, tail, new, channels, at, output, waiting);
+    }
+    let t = tail.0;
+    let n = new.0;
+    if n == 0 {
+        return Adjustment::Done(Adjusted {
+            made: Frames(0),
+            from: Frames(0),
+            left: tail,
+            at,
+        });
+    }
+    convert(
+        stage,
+        Frames(t + n),
+        channels,
+        rates_of(rate, pitch),
+        at,
+        output,
+        waiting,
+    )
+}

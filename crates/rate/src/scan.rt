@@ -1,0 +1,103 @@
+// The scan of the tail: the frames that it makes, until one does not fit.
+use crate::Position;
+use crate::Rates;
+use frames::Frames;
+ghost use mathlib.Core.Path.{_≡_};
+ghost use Prim.Native.Nat.{_+_, _*_, _≤_, _<_};
+ghost use lib.ListN.{length, drop};
+ghost use lib.Seq.{paste};
+ghost use Rattle.frames.specs.Framing.{framesOf};
+ghost use Rattle.sinc.specs.SincTable.{sincTable};
+ghost use Rattle.rate.specs.Halving.{maxRate};
+ghost use Rattle.rate.specs.Tail.{interpolateWindow};
+ghost use Rattle.rate.specs.Adjusting.{Lent, Placed, Scanned};
+
+// The taps of the interpolation: the tail frames that a frame is made of.
+const SINC_FILTER_POINTS: usize = 12;
+
+// How a scan ended: full if a frame did not fit; else the frames made and consumed, and the positions.
+pub struct ScanEnd {
+    pub full: bool,
+    pub made: Frames,
+    pub consumed: Frames,
+    pub at: Position,
+}
+
+// Makes one frame of the 12 tail frames from `first` on, behind the first `to` frames of the output.
+fn make_frame(
+    table: &[i16],
+    stage: &[i16],
+    first: Frames,
+    channels: usize,
+    ratio: usize,
+    width: usize,
+    output: &mut [i16],
+    to: Frames,
+)
+    requires { ⌜ (now table ≡ sincTable) × (ratio < width) × (width ≤ maxRate) ⌝ }
+    requires { ⌜ ((first .0 + 12) * channels ≤ length (now stage)) × ((to .0 + 1) * channels ≤ length (now output)) ⌝ }
+    ensures { λ _. ⌜ now (output .exit) ≡ paste (now (output .entry)) (to .0 * channels)
+        (interpolateWindow (framesOf channels 12 (drop (first .0 * channels) (now (stage .entry)))) ratio width) channels ⌝ }
+{
+    sinc::interpolate_frame(
+        table,
+        stage,
+        first.samples(channels),
+        channels,
+        ratio,
+        width,
+        output,
+        to.samples(channels),
+    );
+}
+
+// Consumes tail frames while more than 12 lie ahead; the frames that they make go behind those that wait in the output.
+pub fn scan_tail(
+    table: &[i16],
+    stage: &[i16],
+    tail: Frames,
+    channels: usize,
+    rates: Rates,
+    at: Position,
+    output: &mut [i16],
+    waiting: Frames,
+) -> ScanEnd
+    requires { ⌜ (now table ≡ sincTable) × Lent channels (tail .0) (waiting .0) (now stage) (now output) × Placed rates at ⌝ }
+    ensures { λ r. ⌜ Scanned channels (waiting .0) rates at (framesOf channels (tail .0) (now (stage .entry))) (now (output .entry)) (now (output .exit)) r ⌝ }
+{
+    let t = tail.0;
+    let w = waiting.0;
+    let new_rate = rates.new;
+    let old_rate = rates.old;
+    let mut p = at.old;
+    let mut n = at.new;
+    let mut made: usize = 0;
+    let mut j: usize = 0;
+    'scan: while j + SINC_FILTER_POINTS < t {
+        let right = (p + 1) * new_rate;
+        while n * old_rate < right {
+            let to = Frames(w + made);
+            if output.len() - to.0 * channels < channels {
+                break 'scan;
+            }
+            let first = Frames(j);
+            let ratio = right - n * old_rate - 1;
+            make_frame(table, stage, first, channels, ratio, new_rate, output, to);
+            made += 1;
+            n += 1;
+        }
+        p += 1;
+        if p == old_rate {
+            p = 0;
+            n = 0;
+        }
+        j += 1;
+    }
+    let full = j + SINC_FILTER_POINTS < t;
+    ScanEnd {
+        full,
+        made: Frames(made),
+        consumed: Frames(j),
+        at: Position { old: p, new: n },
+    }
+}

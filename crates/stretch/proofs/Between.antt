@@ -1,0 +1,200 @@
+-- A call between two of its steps: what is made so far and what the steps from here on give make up the whole. Assumes nothing.
+use mathlib.Core.Path.{_≡_, refl, sym, ap, _∙_, subst}
+use mathlib.Core.Bool.{Bool, true, false, cond, _||_}
+use mathlib.Core.List.{List, [], _∷_, _++_, append-assoc, append-nil}
+use Prim.Native.Nat.{ℕ, _+_, _-_, _*_, _≤_, _<_}
+use native.Mathlib.Nat.{zero-mul, zero-add, add-zero, add-mul, mul-le-mul-right}
+use native.Mathlib.Omega.{arith}
+use lib.IntN.{ℤ}
+use lib.ListN.{length, take, length-append}
+use lib.Seq.{paste, paste-zero}
+use Rattle.frames.specs.declared.Frames.{Frames}
+use Rattle.frames.proofs.Pasted.{paste-front}
+use Rattle.period.specs.Rates.{maxRequired}
+use Rattle.period.specs.Pitch.{InOrder}
+use Rattle.stretch.specs.declared.Call.{Call}
+use Rattle.stretch.specs.declared.Place.{Place}
+use Rattle.stretch.specs.declared.Step.{Step}
+use Rattle.stretch.specs.declared.Turn.the-variants.{NoRoom, Went}
+use Rattle.stretch.specs.Steps.{nextStep, framesOut, stalls, samplesOut, recordAfter, placeAfter, after, turnFor, stageFor, Ready, Sound}
+use Rattle.stretch.specs.Speed.{steps, framesMade, samplesOf, lastPlace, stalled}
+use Rattle.stretch.proofs.Pasting.{paste-append}
+use Rattle.stretch.proofs.Soundness.{nextStep-sound, samplesOut-length, sound-in}
+use Rattle.stretch.proofs.Progress.{next, further, steps-on, steps-end}
+use Rattle.stretch.proofs.Turning.{Gone, gone, no-room, stage-written, stage-left}
+
+-- what a call is lent: the frames held, and room for `room` frames at the place `to` of the stage
+pub record Lent (u : Call) (x stage : List ℤ) (to room : ℕ) : Type 0 where
+  pub ready : Ready u
+  pub whole : u .held .0 * u .channels ≤ length x
+  pub area : to + room * u .channels ≤ length stage
+
+-- `made` frames of the call that began at h₀ stand at the place `to` of the stage; h is the place that it has come to
+pub record Going (u : Call) (x : List ℤ) (h₀ : Place) (stage₀ stage : List ℤ) (to room : ℕ) (h : Place) (made : ℕ) : Type 0 where
+  pub front : List ℤ
+  pub front-length : length front ≡ made * u .channels
+  pub stage-is : stage ≡ paste stage₀ to front (made * u .channels)
+  pub samples : samplesOf (u .channels) x (h₀ .position .0) (steps u x h₀) ≡ front ++ samplesOf (u .channels) x (h .position .0) (steps u x h)
+  pub frames : framesMade (steps u x h₀) ≡ made + framesMade (steps u x h)
+  pub place : lastPlace u x h₀ (steps u x h₀) ≡ lastPlace u x h (steps u x h)
+  pub stall : stalled (steps u x h₀) ≡ stalled (steps u x h)
+  pub fits : made ≤ room
+  pub in-order : InOrder (u .rate) (h .«record»)
+  pub within : h .position .0 ≤ u .held .0
+
+-- the call has ended at h: all its frames are made and stand in the stage
+pub record Ended (u : Call) (x : List ℤ) (h₀ : Place) (stage₀ stage : List ℤ) (to room : ℕ) (h : Place) (made : ℕ) (t : Bool) : Type 0 where
+  pub frames : framesMade (steps u x h₀) ≡ made
+  pub samples : stage ≡ paste stage₀ to (samplesOf (u .channels) x (h₀ .position .0) (steps u x h₀)) (made * u .channels)
+  pub place : lastPlace u x h₀ (steps u x h₀) ≡ h
+  pub stall : stalled (steps u x h₀) ≡ t
+  pub fits : made ≤ room
+  pub in-order : InOrder (u .rate) (h .«record»)
+  pub kept : take to stage ≡ take to stage₀
+
+pub going-start : (u : Call) (x : List ℤ) (h : Place) (stage : List ℤ) (to room : ℕ) → InOrder (u .rate) (h .«record») → h .position .0 ≤ u .held .0
+    → Going u x h stage stage to room h 0
+going-start u x h stage to room o w =
+    record {
+      front = [];
+      front-length = sym (zero-mul (u .channels));
+      stage-is = paste-zero stage to [] ∙ ap (paste stage to []) (sym (zero-mul (u .channels)));
+      samples = refl;
+      frames = sym (zero-add (framesMade (steps u x h)));
+      place = refl;
+      stall = refl;
+      fits = omega arith;
+      in-order = o;
+      within = w;
+    }
+
+module _ {u : Call} {x : List ℤ} {h₀ : Place} {stage₀ stage : List ℤ} {to room : ℕ} {h : Place} {made : ℕ}
+    (l : Lent u x stage₀ to room) (g : Going u x h₀ stage₀ stage to room h made) where
+  -- what is made lies within the room, and what is left of it behind that
+  pub going-room : made * u .channels + (room - made) * u .channels ≡ room * u .channels
+  going-room =
+      let fits = g .fits in
+      let e : made + (room - made) ≡ room = omega arith in
+      sym (add-mul made (room - made) (u .channels)) ∙ ap (λ (n : ℕ). n * u .channels) e
+
+  -- what lies before the place `to` is as it was
+  pub going-kept : take to stage ≡ take to stage₀
+  going-kept = ap (take to) (g .stage-is) ∙ paste-front stage₀ (g .front) to (made * u .channels) (omega (arith, l .area))
+
+  -- no step is due
+  pub going-end : u .held .0 < h .position .0 + maxRequired (u .rate) → Ended u x h₀ stage₀ stage to room h made false
+  unfolding samplesOf framesMade lastPlace stalled
+  going-end d =
+      let e = steps-end u x h d in
+      let all = g .samples ∙ ap (λ (ss : List Step). g .front ++ samplesOf (u .channels) x (h .position .0) ss) e ∙ append-nil (g .front) in
+      record {
+        frames = g .frames ∙ ap (λ (ss : List Step). made + framesMade ss) e ∙ add-zero made;
+        samples = g .stage-is ∙ ap (λ (s : List ℤ). paste stage₀ to s (made * u .channels)) (sym all);
+        place = g .place ∙ ap (lastPlace u x h) e;
+        stall = g .stall ∙ ap stalled e;
+        fits = g .fits;
+        in-order = g .in-order;
+        kept = going-kept;
+      }
+
+  module _ (d : h .position .0 + maxRequired (u .rate) ≤ u .held .0) where
+    sound : Sound (u .held .0) (h .position .0) (nextStep u x h)
+    sound = nextStep-sound x h (l .ready) (g .in-order .period-in) d
+
+    on : {t : Bool} → stalls (nextStep u x h) ≡ t → steps u x h ≡ nextStep u x h ∷ cond t [] (steps u x (next u x h))
+    on e = steps-on x (l .ready) h (g .in-order .period-in) d ∙ ap (λ (t : Bool). nextStep u x h ∷ cond t [] (steps u x (next u x h))) e
+
+    -- there is no room for the step that is due: nothing is written
+    pub going-full-kept : {stage' : List ℤ} → turnFor u x h (room - made) (nextStep u x h) ≡ NoRoom
+        → stage' ≡ stageFor u x h (room - made) stage (to + made * u .channels) (nextStep u x h) → take to stage' ≡ take to stage₀
+    going-full-kept e wrote =
+        let over = no-room u x h (room - made) (nextStep u x h) e in
+        ap (take to) (wrote ∙ stage-left u x h (room - made) (nextStep u x h) stage (to + made * u .channels) over) ∙ going-kept
+
+    pub going-full : turnFor u x h (room - made) (nextStep u x h) ≡ NoRoom → room < framesMade (steps u x h₀)
+    unfolding framesMade
+    going-full e =
+        let k = no-room u x h (room - made) (nextStep u x h) e in
+        let n = ap framesMade (on refl) in
+        omega (arith, g .frames)
+
+    -- the step that is due is taken
+    module _ {stage' : List ℤ} {p : Place} {n : Frames} {t : Bool} (w : turnFor u x h (room - made) (nextStep u x h) ≡ Went p n t)
+        (wrote : stage' ≡ stageFor u x h (room - made) stage (to + made * u .channels) (nextStep u x h))
+        (o : InOrder (u .rate) (recordAfter u x h (nextStep u x h))) where
+      abbrev more : List ℤ
+      more = samplesOut (u .channels) x (h .position .0) (nextStep u x h)
+
+      went : Gone u x h (room - made) (nextStep u x h) p n t
+      went = gone u x h (room - made) (nextStep u x h) w
+
+      few : made + framesOut (nextStep u x h) ≤ room
+      few = omega (arith, went .fits, g .fits)
+
+      count : made * u .channels + framesOut (nextStep u x h) * u .channels ≡ (made + framesOut (nextStep u x h)) * u .channels
+      count = sym (add-mul made (framesOut (nextStep u x h)) (u .channels))
+
+      more-length : length more ≡ framesOut (nextStep u x h) * u .channels
+      more-length = samplesOut-length (nextStep u x h) (u .channels) x sound (l .whole)
+
+      stage-on : stage' ≡ paste stage₀ to (g .front ++ more) ((made + framesOut (nextStep u x h)) * u .channels)
+      stage-on =
+          let room-for : (made + framesOut (nextStep u x h)) * u .channels ≤ room * u .channels = mul-le-mul-right (u .channels) few in
+          wrote ∙ stage-written u x h (room - made) (nextStep u x h) stage (to + made * u .channels) (went .fits)
+          ∙ ap (λ (s : List ℤ). paste s (to + made * u .channels) more (framesOut (nextStep u x h) * u .channels)) (g .stage-is)
+          ∙ paste-append stage₀ (g .front) more to (made * u .channels) (framesOut (nextStep u x h) * u .channels) (g .front-length) more-length
+          (omega (arith, l .area, count))
+          ∙ ap (paste stage₀ to (g .front ++ more)) count
+
+      -- the call goes on, or has ended, at the place after it
+      going-next : stalls (nextStep u x h) ≡ false → Going u x h₀ stage₀ stage' to room (next u x h) (made + framesOut (nextStep u x h))
+      unfolding samplesOf framesMade lastPlace stalled after placeAfter
+      going-next f =
+          let e = on f in
+          record {
+            front = g .front ++ more;
+            front-length = length-append (g .front) more ∙ (λ i. g .front-length i + more-length i) ∙ count;
+            stage-is = stage-on;
+            samples = g .samples ∙ ap (λ (ss : List Step). g .front ++ samplesOf (u .channels) x (h .position .0) ss) e
+                ∙ sym (append-assoc (g .front) more (samplesOf (u .channels) x (next u x h .position .0) (steps u x (next u x h))));
+            frames = omega (arith, g .frames, ap framesMade e);
+            place = g .place ∙ ap (lastPlace u x h) e;
+            stall = g .stall ∙ ap stalled e ∙ ap (λ (b : Bool). b || stalled (steps u x (next u x h))) f;
+            fits = few;
+            in-order = o;
+            within = sound-in sound;
+          }
+
+      ended-next : stalls (nextStep u x h) ≡ true → Ended u x h₀ stage₀ stage' to room (next u x h) (made + framesOut (nextStep u x h)) true
+      unfolding samplesOf framesMade lastPlace stalled after placeAfter
+      ended-next f =
+          let e = on f in
+          let all = g .samples ∙ ap (λ (ss : List Step). g .front ++ samplesOf (u .channels) x (h .position .0) ss) e
+          ∙ ap (λ (s : List ℤ). g .front ++ s) (append-nil more) in
+          record {
+            frames = omega (arith, g .frames, ap framesMade e);
+            samples = stage-on ∙ ap (λ (s : List ℤ). paste stage₀ to s ((made + framesOut (nextStep u x h)) * u .channels)) (sym all);
+            place = g .place ∙ ap (lastPlace u x h) e;
+            stall = g .stall ∙ ap stalled e ∙ ap (λ (b : Bool). b || false) f;
+            fits = few;
+            in-order = o;
+            kept = ap (take to) stage-on
+                ∙ paste-front stage₀ (g .front ++ more) to ((made + framesOut (nextStep u x h)) * u .channels) (omega (arith, l .area));
+          }
+
+      pub going-on : t ≡ false → Going u x h₀ stage₀ stage' to room p (made + n .0)
+      going-on e =
+          subst (λ (q : Place). Going u x h₀ stage₀ stage' to room q (made + n .0)) (sym (went .place))
+          (subst (λ (k : ℕ). Going u x h₀ stage₀ stage' to room (next u x h) (made + k)) (sym (went .frames)) (going-next (sym (went .stall) ∙ e)))
+
+      pub going-stall : t ≡ true → Ended u x h₀ stage₀ stage' to room p (made + n .0) true
+      going-stall e =
+          subst (λ (q : Place). Ended u x h₀ stage₀ stage' to room q (made + n .0) true) (sym (went .place))
+          (subst (λ (k : ℕ). Ended u x h₀ stage₀ stage' to room (next u x h) (made + k) true) (sym (went .frames)) (ended-next (sym (went .stall) ∙ e)))
+
+      -- its frames fit, and it uses one at least
+      pub going-fits : made + n .0 ≤ room
+      going-fits = omega (arith, few, went .frames)
+
+      pub going-further : h .position .0 < p .position .0
+      going-further = subst (λ (q : Place). h .position .0 < q .position .0) (sym (went .place)) (further x h (l .ready) (g .in-order .period-in) d)

@@ -1,0 +1,13 @@
+pub mod WeightedMean
+pub mod Pasting
+pub mod Crossfading
+pub mod DueStep
+pub mod Soundness
+pub mod Progress
+pub mod Turning
+pub mod Between
+pub mod Outcome
+pub mod Taken
+pub mod Claims
+pub mod Framed
+pub mod Figures

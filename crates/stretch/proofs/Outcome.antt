@@ -1,0 +1,43 @@
+-- The answer of a call that has ended, and of one whose frames do not fit. Assumes nothing.
+use mathlib.Core.Path.{_≡_, sym, ap, _∙_, subst}
+use mathlib.Core.Bool.{Bool, cond}
+use mathlib.Core.List.{List}
+use Prim.Native.Nat.{ℕ, _*_, _≤_, _<_}
+use native.Mathlib.Nat.{not-le-of-lt}
+use native.Mathlib.Omega.{arith}
+use borrow.Author.Tests.{lt-ltb, le-ltb}
+use lib.IntN.{ℤ}
+use lib.ListN.{take}
+use lib.Seq.{paste}
+use Rattle.period.specs.Pitch.{InOrder}
+use Rattle.stretch.specs.declared.Call.{Call}
+use Rattle.stretch.specs.declared.Place.{Place}
+use Rattle.stretch.specs.declared.Stretched.the-variants.{Made, Full}
+use Rattle.stretch.specs.Speed.{steps, framesMade, samplesOf, answer, answerFor, changeSpeed, Staged}
+use Rattle.stretch.proofs.Between.{Ended}
+
+module _ {u : Call} {x : List ℤ} {h₀ : Place} {stage₀ stage : List ℤ} {to room : ℕ} {h : Place} {made : ℕ} {t : Bool}
+    (e : Ended u x h₀ stage₀ stage to room h made t) where
+  pub ended-made : Made (answer made (cond t 0 (h .position .0)) h t) ≡ changeSpeed u x h₀ room
+  unfolding changeSpeed answerFor
+  ended-made =
+      let fits : framesMade (steps u x h₀) ≤ room = omega (arith, e .frames, e .fits) in
+      sym (rw (le-ltb room (framesMade (steps u x h₀)) fits)
+      (λ i. Made (answer (e .frames i) (cond (e .stall i) 0 (e .place i .position .0)) (e .place i) (e .stall i))))
+
+  pub ended-staged : Staged u x h₀ room stage₀ stage to
+  ended-staged =
+      let samples = samplesOf (u .channels) x (h₀ .position .0) (steps u x h₀) in
+      record {
+        kept = e .kept;
+        written = λ _. e .samples ∙ ap (λ (n : ℕ). paste stage₀ to samples (n * u .channels)) (sym (e .frames));
+        in-order = λ _. subst (λ (p : Place). InOrder (u .rate) (p .«record»)) (sym (e .place)) (e .in-order);
+      }
+
+module _ (u : Call) (x : List ℤ) (h₀ : Place) (room : ℕ) (over : room < framesMade (steps u x h₀)) where
+  pub full-made : Full ≡ changeSpeed u x h₀ room
+  unfolding changeSpeed
+  full-made = sym (rw (lt-ltb room (framesMade (steps u x h₀)) over))
+
+  pub full-staged : {stage₀ stage : List ℤ} {to : ℕ} → take to stage ≡ take to stage₀ → Staged u x h₀ room stage₀ stage to
+  full-staged k = record { kept = k; written = λ f. absurd (not-le-of-lt over f); in-order = λ f. absurd (not-le-of-lt over f) }

@@ -1,0 +1,119 @@
+-- The step that is due is sound: it uses a frame at least and stays within the frames held; and the period record after it is in the range.
+-- Assumes nothing.
+use mathlib.Core.Path.{_≡_, refl, sym, subst}
+use mathlib.Core.Bool.{Bool, true, false}
+use mathlib.Core.List.{List}
+use Prim.Native.Nat.{ℕ, _+_, _-_, _*_, _≤_}
+use native.Mathlib.Nat.{le-refl, le-trans, add-mul, mul-le-mul-right}
+use native.Mathlib.Omega.{arith}
+use lib.IntN.{ℤ}
+use lib.Ieee.{Float, lt}
+use lib.ListN.{length, drop, length-append}
+use Rattle.floats.specs.Numbers.{one}
+use Rattle.floats.specs.Steps.{copyingDue, copyCount, skipCount, insertCount}
+use Rattle.floats.proofs.CopyCount.{copy-le}
+use Rattle.floats.proofs.StepRules.{copyCount-ge, skipCount-le, insertCount-ge, insertCount-le}
+use Rattle.period.specs.Rates.{maxRequired}
+use Rattle.period.specs.Pitch.{InRange, PeriodIn}
+use Rattle.period.proofs.Record.{findPitchPeriod-in, findPitchPeriod-record-in}
+use Rattle.stretch.specs.declared.Call.{Call}
+use Rattle.stretch.specs.declared.Place.{Place}
+use Rattle.stretch.specs.declared.Step.{Step}
+use Rattle.stretch.specs.declared.Step.the-variants.{Copied, Skipped, Inserted}
+use Rattle.stretch.specs.Steps.{searchAt, nextStep, framesOut, framesUsed, framesRead, samplesOut, recordAfter, placeAfter, after, Ready, Sound}
+use Rattle.stretch.specs.Crossfade.{skipPitchPeriod, insertPitchPeriod}
+use Rattle.stretch.proofs.Crossfading.{overlapAdd-length, copyUnmodifiedSamples-length}
+use Rattle.stretch.proofs.DueStep.{nextStep-copied, nextStep-skipped, nextStep-inserted}
+
+-- ---- the step that is due
+
+module _ {u : Call} (x : List ℤ) (h : Place) (r : Ready u) (o : PeriodIn (u .rate) (h .«record»)) where
+  period-in : InRange (u .rate) (searchAt u x h .period .0)
+  unfolding searchAt
+  period-in = findPitchPeriod-in (drop (h .position .0 * u .channels) x) (h .«record») (r .opened) o
+
+  found-in : PeriodIn (u .rate) (searchAt u x h .«record»)
+  unfolding searchAt
+  found-in = findPitchPeriod-record-in (drop (h .position .0 * u .channels) x) (h .«record») (r .opened) o
+
+  record-in : (s : Step) → PeriodIn (u .rate) (recordAfter u x h s)
+  unfolding recordAfter
+  record-in (Copied n) = o
+  record-in (Skipped period k) = found-in
+  record-in (Inserted period k) = found-in
+
+  -- the period record after any step is in the range
+  pub after-in : (s : Step) → PeriodIn (u .rate) (after u x h s .«record»)
+  unfolding after placeAfter
+  after-in s = record-in s
+
+  module _ (room : h .position .0 + maxRequired (u .rate) ≤ u .held .0) where
+    abbrev Here : Step → Type 0
+    Here s = Sound (u .held .0) (h .position .0) s
+
+    copied-sound : copyingDue (u .speed) (h .«time_error») ≡ true
+        → Here (Copied (record { 0 = copyCount (h .«time_error») (u .speed) (u .«sample_period») (u .held .0 - h .position .0) }))
+    copied-sound due =
+        let left = u .held .0 - h .position .0 in
+        let low = r .opened .rate-low in
+        let few = r .few in
+        let some : 1 ≤ left = omega arith in
+        let one-more = copyCount-ge (u .rate) (h .«time_error») (u .speed) left low (r .opened .rate-high) (r .speed-fits) due some in
+        record {
+          some = subst (λ (t : Float). 1 ≤ copyCount (h .«time_error») (u .speed) t left) (sym (r .period-is)) one-more;
+          within = omega (arith, copy-le (h .«time_error») (u .speed) (u .«sample_period») left (omega arith));
+          short = omega arith;
+        }
+
+    skipped-sound : Here (Skipped (searchAt u x h .period) (record { 0 = skipCount (u .speed) (searchAt u x h .period .0) }))
+    skipped-sound =
+        let i = period-in in
+        let low = r .opened .rate-low in
+        let high = r .opened .rate-high in
+        let k = skipCount-le (u .speed) (searchAt u x h .period .0) (omega (arith, i .high)) in
+        record { some = omega (arith, i .low); within = omega (arith, i .high); short = omega (arith, i .high) }
+
+    inserted-sound : Here (Inserted (searchAt u x h .period) (record { 0 = insertCount (u .speed) (searchAt u x h .period .0) }))
+    inserted-sound =
+        let i = period-in in
+        let low = r .opened .rate-low in
+        let high = r .opened .rate-high in
+        let k = insertCount-le (u .speed) (searchAt u x h .period .0) (omega (arith, i .low)) (omega (arith, i .high)) in
+        record { some = insertCount-ge (u .speed) (searchAt u x h .period .0); within = omega (arith, i .high); short = omega (arith, i .high) }
+
+    by-tests : (copying fast : Bool) → copyingDue (u .speed) (h .«time_error») ≡ copying → lt one (u .speed) ≡ fast → Here (nextStep u x h)
+    by-tests true fast e f = subst Here (sym (nextStep-copied u x h e)) (copied-sound e)
+    by-tests false true e f = subst Here (sym (nextStep-skipped u x h e f)) skipped-sound
+    by-tests false false e f = subst Here (sym (nextStep-inserted u x h e f)) inserted-sound
+
+    pub nextStep-sound : Sound (u .held .0) (h .position .0) (nextStep u x h)
+    nextStep-sound = by-tests (copyingDue (u .speed) (h .«time_error»)) (lt one (u .speed)) refl refl
+
+-- ---- what a sound step gives and uses
+
+pub framesUsed-le : (s : Step) → framesUsed s ≤ framesRead s
+framesUsed-le (Copied n) = le-refl (n .0)
+framesUsed-le (Skipped period k) = le-refl (period .0 + k .0)
+framesUsed-le (Inserted period k) = omega arith
+
+pub framesOut-le : (s : Step) → framesOut s ≤ framesRead s
+framesOut-le (Copied n) = le-refl (n .0)
+framesOut-le (Skipped period k) = omega arith
+framesOut-le (Inserted period k) = le-refl (period .0 + k .0)
+
+-- as many samples as frames out
+pub samplesOut-length : {held at : ℕ} (s : Step) (channels : ℕ) (x : List ℤ) → Sound held at s → held * channels ≤ length x
+    → length (samplesOut channels x at s) ≡ framesOut s * channels
+unfolding samplesOut skipPitchPeriod insertPitchPeriod
+samplesOut-length {held} {at} (Copied n) channels x r h = copyUnmodifiedSamples-length channels x at (n .0) (le-trans (mul-le-mul-right channels (r .within)) h)
+samplesOut-length {held} {at} (Skipped period k) channels x r h =
+    overlapAdd-length (k .0) channels (drop (at * channels) x) (drop ((at + period .0) * channels) x)
+samplesOut-length {held} {at} (Inserted period k) channels x r h =
+    let fade = overlapAdd-length (k .0) channels (drop ((at + period .0) * channels) x) (drop (at * channels) x) in
+    let low : at + period .0 ≤ held = omega (arith, r .within) in
+    let copied = copyUnmodifiedSamples-length channels x at (period .0) (le-trans (mul-le-mul-right channels low) h) in
+    rw length-append (omega (arith, copied, fade, add-mul (period .0) (k .0) channels))
+
+-- the position after it is within the frames held
+pub sound-in : {held at : ℕ} {s : Step} → Sound held at s → at + framesUsed s ≤ held
+sound-in {held} {at} {s} r = omega (arith, r .within, framesUsed-le s)

@@ -1,0 +1,50 @@
+-- `stretch::samples::skip_pitch_period` meets its contract. Assumes nothing.
+use borrow.Author.Needs.{needs}
+use mathlib.Core.Path.{_∙_}
+use Prim.Native.Nat.{_+_, _*_}
+use native.Mathlib.Nat.{mul-le-mul-left}
+use native.Mathlib.Omega.{arith}
+use lib.ListN.{drop}
+use lib.Seq.{paste}
+use Rattle.stretch.specs.Crossfade.{overlapAdd, skipPitchPeriod}
+use borrow.Author.Needs.{needs}
+use Rattle.stretch.proofs.samples.skip_pitch_period.Statement.{statement}
+use Rattle.stretch.proofs.samples.skip_pitch_period.Tie as tie
+
+add-later : tie.Need-add-later
+add-later c =
+    let b = c .before .before in
+    record { fits = omega (arith, mul-le-mul-left (b .args .position .0 + (b .args .period .0 + b .args .k .0)) (b .pre .0), b .pre .2) }
+
+samples-requires : tie.Need-samples-requires
+samples-requires c κs = search needs
+
+samples-requires-2 : tie.Need-samples-requires-2
+samples-requires-2 c κs = search needs
+
+overlap-add-requires : tie.Need-overlap-add-requires
+overlap-add-requires c κs = search needs
+
+same-length : tie.Need-same-length
+same-length c = search needs
+
+returns : tie.Need-returns
+unfolding skipPitchPeriod
+returns c =
+    let a = c .before .before .before .before .before .before .before .args in
+    let here = c .before .before .before .before .samples .ensures in
+    let there = c .before .before .before .samples2 .ensures in
+    let x = a .input .now in
+    c .before .overlap-add .ensures
+    ∙ (λ j. paste (a .stage .now) (a .to .0) (overlapAdd (a .k .0) (a .channels) (drop (here j) x) (drop (there j) x)) (a .k .0 * a .channels))
+
+pub skip-pitch-period-spec : {M : Type 1} → statement M
+skip-pitch-period-spec =
+    tie.close
+    (tie.spec
+    add-later
+    samples-requires
+    samples-requires-2
+    overlap-add-requires
+    same-length
+    returns)

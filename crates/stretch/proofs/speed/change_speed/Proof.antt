@@ -1,0 +1,221 @@
+-- `stretch::speed::change_speed` meets its contract: between two turns what is made and what is due make up the whole (`Between`), and each
+-- turn uses a frame at least. Assumes nothing.
+use borrow.Author.Needs.{needs}
+use mathlib.Core.Path.{_≡_, refl, sym, ap, _∙_}
+use mathlib.Core.List.{List}
+use Prim.Native.Nat.{ℕ, _+_, _-_, _*_, _^_, _≤_, _<_}
+use native.Mathlib.Omega.{arith}
+use lib.IntN.{ℤ}
+use lib.ListN.{length}
+use Rattle.frames.proofs.Room.{count-le}
+use Rattle.period.specs.Rates.{maxRequired}
+use Rattle.stretch.specs.declared.Stretched.the-variants.{Made}
+use Rattle.stretch.specs.declared.Turn.the-variants.{Went}
+use Rattle.stretch.specs.Steps.{nextStep, turnFor, stageFor}
+use Rattle.stretch.specs.Speed.{begun}
+use Rattle.stretch.proofs.Progress.{required-some}
+use Rattle.stretch.proofs.Between.{Lent, Going, going-start, going-room, going-end, going-full, going-full-kept}
+use Rattle.stretch.proofs.Between.{going-on, going-stall, going-fits, going-further}
+use Rattle.stretch.proofs.Outcome.{ended-made, ended-staged, full-made, full-staged}
+use Rattle.stretch.proofs.speed.change_speed.Statement.{statement}
+use Rattle.stretch.proofs.speed.change_speed.Tie as tie
+
+abbrev Inv-loop : tie.InvT-loop
+Inv-loop input call time-error stage₀ scratch₀ required held all first place₀ made₀ stage scratch place made =
+    Going call input place₀ stage₀ stage first all place made × (length stage ≡ length stage₀) × (length scratch ≡ length scratch₀)
+
+abbrev μ-loop : tie.MeasureT-loop
+μ-loop input call time-error stage₀ scratch₀ required held all first place₀ made₀ stage scratch place made = held - place .position .0
+
+max-required-requires : tie.Need-max-required-requires Inv-loop μ-loop
+max-required-requires c κs = search needs
+
+loop-holds : tie.Need-loop-holds Inv-loop μ-loop
+loop-holds c =
+    let a = c .before .args in
+    let begin = begun (a .time-error) (a .«record») in
+    (going-start (a .call) (a .input .now) begin (a .stage .now) (a .to .0) (a .room .0) (c .before .pre .1 .0) (omega arith), refl, refl)
+
+-- what the call is lent
+lent : (c : tie.Start Inv-loop μ-loop) → Lent (c .args .call) (c .args .input .now) (c .args .stage .now) (c .args .to .0) (c .args .room .0)
+lent c = record { ready = c .pre .0; whole = c .pre .1 .1 .0; area = c .pre .1 .1 .2 }
+
+add-if1 : tie.Need-add-if1 Inv-loop μ-loop
+add-if1 c =
+    let l = c .before in
+    let b = l .before .before in
+    record { fits = omega (arith, l .loop .inv .0 .within, l .before .max-required .ensures, b .pre .0 .few, b .pre .0 .opened .rate-high) }
+
+-- a turn: where it begins, and that a step is due there
+module _ (c : tie.Then1 Inv-loop μ-loop) where
+  abbrev here : tie.At-loop Inv-loop μ-loop
+  here = c .before .before
+
+  abbrev start : tie.Start Inv-loop μ-loop
+  start = here .before .before
+
+  room : here .loop .made * start .args .call .channels + (start .args .room .0 - here .loop .made) * start .args .call .channels
+      ≡ start .args .room .0 * start .args .call .channels
+  room = going-room (lent start) (here .loop .inv .0)
+
+  at-fits : start .args .to .0 + here .loop .made * start .args .call .channels < 2 ^ 64
+  at-fits = omega (arith, room, lent start .area)
+
+  due : here .loop .place .position .0 + maxRequired (start .args .call .rate) ≤ start .args .call .held .0
+  due = omega (arith, c .if1 .taken, here .before .max-required .ensures)
+
+samples-requires : tie.Need-samples-requires Inv-loop μ-loop
+samples-requires c κs = omega (arith, at-fits c)
+
+add-at : tie.Need-add-at Inv-loop μ-loop
+add-at c = record { fits = omega (arith, at-fits (c .before .before), c .before .samples .ensures) }
+
+sub-left : tie.Need-sub-left Inv-loop μ-loop
+sub-left c = here (c .before .before) .loop .inv .0 .fits
+
+take-step-requires : tie.Need-take-step-requires Inv-loop μ-loop
+take-step-requires c κs =
+    let s = c .before .before .before in
+    let t = s .before in
+    let p = start t .pre in
+    let inv = here t .loop .inv in
+    let area = lent (start t) .area in
+    let scratch : maxRequired (start t .args .call .rate) ≤ length (here t .loop .scratch) = omega (arith, inv .2, p .1 .1 .1) in
+    (p .0, (inv .0 .in-order, (due t, p .1 .1 .0, scratch, omega (arith, room t, area, inv .1, s .samples .ensures))))
+
+-- what a turn wrote
+module _ (c : tie.After-take-step Inv-loop μ-loop) where
+  abbrev begun-at : tie.Then1 Inv-loop μ-loop
+  begun-at = c .before .before .before .before .before
+
+  abbrev stageAt : ℕ → List ℤ
+  stageAt to =
+      let a = start begun-at .args in
+      let l = here begun-at .loop in
+      let x = a .input .now in
+      stageFor (a .call) x (l .place) (a .room .0 - l .made) (l .stage) to (nextStep (a .call) x (l .place))
+
+  wrote : c .take-step .last .1 .1 .1 .0 ≡ stageAt (start begun-at .args .to .0 + here begun-at .loop .made * start begun-at .args .call .channels)
+  wrote = c .take-step .ensures .1 ∙ ap (λ (n : ℕ). stageAt (start begun-at .args .to .0 + n)) (c .before .before .before .before .samples .ensures)
+
+enum-told : tie.Need-enum-told Inv-loop μ-loop
+enum-told c = search needs
+
+same-length : tie.Need-same-length Inv-loop μ-loop
+same-length c = search needs
+
+same-length-2 : tie.Need-same-length-2 Inv-loop μ-loop
+same-length-2 c = search needs
+
+returns : tie.Need-returns Inv-loop μ-loop
+returns c =
+    let k = c .before .before .before .before in
+    let t = begun-at k in
+    let a = start t .args in
+    let begin = begun (a .time-error) (a .«record») in
+    let none = sym (k .take-step .ensures .0) ∙ c .enum-told .given .1 in
+    let over = going-full (lent (start t)) (here t .loop .inv .0) (due t) none in
+    let kept = going-full-kept (lent (start t)) (here t .loop .inv .0) (due t) none (wrote k) in
+    (full-made (a .call) (a .input .now) begin (a .room .0) over, full-staged (a .call) (a .input .now) begin (a .room .0) over kept)
+
+enum-known-turn : tie.Need-enum-known-turn Inv-loop μ-loop
+enum-known-turn c = search needs
+
+-- a turn that went on
+module _ (c : tie.After-turn Inv-loop μ-loop) where
+  abbrev turned : tie.After-take-step Inv-loop μ-loop
+  turned = c .before .before .before .before
+
+  abbrev from : tie.Then1 Inv-loop μ-loop
+  from = begun-at turned
+
+  went : (let a = start from .args in
+      let l = here from .loop in
+      turnFor (a .call) (a .input .now) (l .place) (a .room .0 - l .made) (nextStep (a .call) (a .input .now) (l .place)))
+      ≡ Went (c .turn .given .0 .0) (c .turn .given .0 .1 .0) (c .turn .given .0 .1 .1 .0)
+  went = sym (turned .take-step .ensures .0) ∙ c .turn .given .1
+
+add-made : tie.Need-add-made Inv-loop μ-loop
+add-made c =
+    let v = c .before .before in
+    let b = start (from v) in
+    let fits = going-fits (lent b) (here (from v) .loop .inv .0) (due (from v)) (went v) (wrote (turned v)) (turned v .take-step .ensures .2) in
+    let few = count-le (b .args .call .channels) (b .args .room .0) (b .pre .0 .opened .channels-low) in
+    record { fits = omega (arith, fits, few, lent b .area) }
+
+answer-requires : tie.Need-answer-requires Inv-loop μ-loop
+answer-requires c κs = search needs
+
+same-length-3 : tie.Need-same-length-3 Inv-loop μ-loop
+same-length-3 c = let v = c .before .before .before .before in turned v .take-step .kept .1 .1 .1 .0 ∙ here (from v) .loop .inv .1
+
+same-length-4 : tie.Need-same-length-4 Inv-loop μ-loop
+same-length-4 c = let v = c .before .before .before .before in turned v .take-step .kept .1 .1 .1 .1 .1 .1 .0 ∙ here (from v) .loop .inv .2
+
+returns-2 : tie.Need-returns-2 Inv-loop μ-loop
+returns-2 c =
+    let v = c .before .before .before .before in
+    let t = from v in
+    let order = turned v .take-step .ensures .2 in
+    let e = going-stall (lent (start t)) (here t .loop .inv .0) (due t) (went v) (wrote (turned v)) order (c .before .if2 .taken) in
+    (ap Made (c .answer .ensures) ∙ ended-made e, ended-staged e)
+
+loop-less : tie.Need-loop-less Inv-loop μ-loop
+loop-less c =
+    let v = c .before .before .before in
+    let t = from v in
+    let f = going-further (lent (start t)) (here t .loop .inv .0) (due t) (went v) (wrote (turned v)) (turned v .take-step .ensures .2) in
+    omega (arith, f, due t, required-some (start t .pre .0))
+
+loop-again : tie.Need-loop-again Inv-loop μ-loop
+loop-again c =
+    let v = c .before .before .before in
+    let t = from v in
+    let order = turned v .take-step .ensures .2 in
+    let g = going-on (lent (start t)) (here t .loop .inv .0) (due t) (went v) (wrote (turned v)) order (c .if2 .left) in
+    (g, search needs, search needs)
+
+answer-requires-2 : tie.Need-answer-requires-2 Inv-loop μ-loop
+answer-requires-2 c κs = search needs
+
+same-length-5 : tie.Need-same-length-5 Inv-loop μ-loop
+same-length-5 c = search needs
+
+same-length-6 : tie.Need-same-length-6 Inv-loop μ-loop
+same-length-6 c = search needs
+
+returns-3 : tie.Need-returns-3 Inv-loop μ-loop
+returns-3 c =
+    let l = c .before .before .before in
+    let e = going-end (lent (l .before .before)) (l .loop .inv .0) (omega (arith, c .before .if1 .left, l .before .max-required .ensures)) in
+    (ap Made (c .answer2 .ensures) ∙ ended-made e, ended-staged e)
+
+pub change-speed-spec : {M : Type 1} → statement M
+change-speed-spec =
+    tie.close
+    (tie.spec
+    Inv-loop
+    μ-loop
+    max-required-requires
+    loop-holds
+    add-if1
+    samples-requires
+    add-at
+    sub-left
+    take-step-requires
+    enum-told
+    same-length
+    same-length-2
+    returns
+    enum-known-turn
+    add-made
+    answer-requires
+    same-length-3
+    same-length-4
+    returns-2
+    loop-less
+    loop-again
+    answer-requires-2
+    same-length-5
+    same-length-6
+    returns-3)

@@ -1,0 +1,62 @@
+-- `stretch::steps::error_after` meets its contract, case by case. Assumes nothing.
+use borrow.Author.Needs.{needs}
+use mathlib.Core.Path.{_≡_, sym, ap, _∙_, subst}
+use Prim.Native.Nat.{_≤_, _^_}
+use Rattle.stretch.specs.declared.Step.{Step}
+use Rattle.stretch.specs.Steps.{framesRead, errorAfter}
+use Rattle.stretch.proofs.steps.error_after.Statement.{statement}
+use Rattle.stretch.proofs.steps.error_after.Tie as tie
+
+-- few frames of the input are looked at, for the step that was matched
+short : (c : tie.Start) {s : Step} → c .args .step ≡ s → framesRead s ≤ 2 ^ 24
+short c e = subst (λ (s : Step). framesRead s ≤ 2 ^ 24) e (c .pre .0)
+
+enum-known-step : tie.Need-enum-known-step
+enum-known-step c = search needs
+
+error-copied-requires : tie.Need-error-copied-requires
+error-copied-requires c κs = short (c .before .before .before .before) (c .before .step .given .1)
+
+enum-known-step-2 : tie.Need-enum-known-step-2
+enum-known-step-2 c = search needs
+
+error-skipped-requires : tie.Need-error-skipped-requires
+error-skipped-requires c κs = (search needs, short (c .before .before .before .before) (c .before .step2 .given .1))
+
+enum-known-step-3 : tie.Need-enum-known-step-3
+enum-known-step-3 c = search needs
+
+error-inserted-requires : tie.Need-error-inserted-requires
+error-inserted-requires c κs = (search needs, short (c .before .before .before .before) (c .before .step3 .given .1))
+
+returns : tie.Need-returns
+unfolding errorAfter
+returns c =
+    let a = c .before .before .before .before .before .args in
+    c .error-copied .ensures ∙ sym (ap (errorAfter (a .call) (a .error)) (c .before .before .step .given .1))
+
+returns-2 : tie.Need-returns-2
+unfolding errorAfter
+returns-2 c =
+    let a = c .before .before .before .before .before .args in
+    c .error-skipped .ensures ∙ sym (ap (errorAfter (a .call) (a .error)) (c .before .before .step2 .given .1))
+
+returns-3 : tie.Need-returns-3
+unfolding errorAfter
+returns-3 c =
+    let a = c .before .before .before .before .before .args in
+    c .error-inserted .ensures ∙ sym (ap (errorAfter (a .call) (a .error)) (c .before .before .step3 .given .1))
+
+pub error-after-spec : {M : Type 1} → statement M
+error-after-spec =
+    tie.close
+    (tie.spec
+    enum-known-step
+    error-copied-requires
+    enum-known-step-2
+    error-skipped-requires
+    enum-known-step-3
+    error-inserted-requires
+    returns
+    returns-2
+    returns-3)

@@ -1,0 +1,115 @@
+-- `stretch::steps::take_step` meets its contract: the step that is due is sound, and its frames are written if there is room. Assumes nothing.
+use borrow.Author.Needs.{needs}
+use mathlib.Core.Path.{_≡_, sym, ap, _∙_, subst}
+use Prim.Native.Nat.{_*_, _≤_}
+use native.Mathlib.Nat.{mul-le-mul-right, le-trans}
+use native.Mathlib.Omega.{arith}
+use borrow.Author.Tests.{lt-ltb, le-ltb}
+use lib.Seq.{paste}
+use Rattle.period.specs.Pitch.{InOrder}
+use Rattle.stretch.specs.declared.Step.{Step}
+use Rattle.stretch.specs.declared.Turn.the-variants.{Went}
+use Rattle.stretch.specs.Steps.{nextStep, framesOut, stalls, samplesOut, recordAfter, placeAfter, after, turnFor, stageFor, Sound}
+use Rattle.stretch.proofs.Soundness.{nextStep-sound, framesOut-le}
+use Rattle.stretch.proofs.steps.take_step.Statement.{statement}
+use Rattle.stretch.proofs.steps.take_step.Tie as tie
+
+next-step-requires : tie.Need-next-step-requires
+next-step-requires c κs = search needs
+
+-- the step that is due is sound, and the period record after it in order
+module _ (c : tie.After-next-step) where
+  abbrev start : tie.Start
+  start = c .before .before
+
+  abbrev step : Step
+  step = nextStep (start .args .call) (start .args .input .now) (start .args .place)
+
+  sound : Sound (start .args .call .held .0) (start .args .place .position .0) (c .next-step .result .step)
+  sound =
+      let a = start .args in
+      subst (Sound (a .call .held .0) (a .place .position .0)) (sym (c .next-step .ensures .0))
+      (nextStep-sound (a .input .now) (a .place) (start .pre .0) (start .pre .1 .0 .period-in) (start .pre .1 .1 .0))
+
+  in-order : InOrder (start .args .call .rate) (recordAfter (start .args .call) (start .args .input .now) (start .args .place) step)
+  in-order = subst (InOrder (start .args .call .rate)) (c .next-step .ensures .1) (c .next-step .ensures .2)
+
+-- its frames, as counted
+out : (c : tie.After-frames-out) → c .frames-out .result .0 ≡ framesOut (step (c .before .before .before))
+out c = c .frames-out .ensures ∙ ap framesOut (c .before .before .before .next-step .ensures .0)
+
+frames-out-requires : tie.Need-frames-out-requires
+frames-out-requires c κs =
+    let n = c .before .before in
+    omega (arith, sound n .within, framesOut-le (n .next-step .result .step), start n .pre .0 .few)
+
+same-length : tie.Need-same-length
+same-length c = search needs
+
+returns : tie.Need-returns
+unfolding turnFor stageFor
+returns c =
+    let f = c .before .before .before in
+    let n = f .before .before .before in
+    let t = lt-ltb (start n .args .room .0) (framesOut (step n)) (omega (arith, out f, c .if1 .taken)) in
+    (sym (rw t), sym (rw t), in-order n)
+
+write-step-requires : tie.Need-write-step-requires
+write-step-requires c κs =
+    let f = c .before .before .before .before in
+    let n = f .before .before .before in
+    let a = start n .args in
+    let p = start n .pre in
+    let s = n .next-step .result .step in
+    let few : framesOut s ≤ a .room .0 = omega (arith, f .frames-out .ensures, c .before .if1 .left) in
+    let out : framesOut s * a .call .channels ≤ a .room .0 * a .call .channels = mul-le-mul-right (a .call .channels) few in
+    let read = le-trans (mul-le-mul-right (a .call .channels) (sound n .within)) (p .1 .1 .1) in
+    (p .0 .opened .channels-low, sound n .short, read, omega (arith, out, p .1 .1 .3))
+
+place-after-requires : tie.Need-place-after-requires
+place-after-requires c κs =
+    let n = c .before .before .before .before .before .before .before .before .before in
+    (sound n, start n .pre .0 .few)
+
+stalls-requires : tie.Need-stalls-requires
+stalls-requires c κs = search needs
+
+same-length-2 : tie.Need-same-length-2
+same-length-2 c = search needs
+
+same-length-3 : tie.Need-same-length-3
+same-length-3 c = search needs
+
+returns-2 : tie.Need-returns-2
+unfolding turnFor stageFor after
+returns-2 c =
+    let f = c .before .before .before .before .before .before .before .before in
+    let n = f .before .before .before in
+    let a = start n .args in
+    let x = a .input .now in
+    let is = n .next-step .ensures .0 in
+    let t = le-ltb (a .room .0) (framesOut (step n)) (omega (arith, out f, c .before .before .before .before .before .if1 .left)) in
+    let place : c .before .place-after .result ≡ after (a .call) x (a .place) (step n) =
+    c .before .place-after .ensures ∙ (λ i. placeAfter (a .call) (a .place) (is i) (n .next-step .ensures .1 i)) in
+    let stall : c .stalls .result ≡ stalls (step n) = c .stalls .ensures ∙ ap stalls is in (
+      (λ i. Went (place i) (record { 0 = out f i }) (stall i)) ∙ sym (rw t),
+      c .before .before .before .write-step .ensures
+          ∙ (λ i. paste (a .stage .now) (a .to .0) (samplesOut (a .call .channels) x (a .place .position .0) (is i)) (framesOut (is i) * a .call .channels))
+          ∙ sym (rw t),
+      in-order n,
+    )
+
+pub take-step-spec : {M : Type 1} → statement M
+take-step-spec =
+    tie.close
+    (tie.spec
+    next-step-requires
+    frames-out-requires
+    same-length
+    returns
+    write-step-requires
+    place-after-requires
+    stalls-requires
+    same-length-2
+    same-length-3
+    returns-2)

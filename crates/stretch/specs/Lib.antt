@@ -1,0 +1,3 @@
+pub mod Crossfade
+pub mod Steps
+pub mod Speed

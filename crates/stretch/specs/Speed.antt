@@ -1,0 +1,77 @@
+-- Document 01, "Stretch steps": `change_speed`. The list of a call's steps, and what is computed from it. u is the call, x the held input,
+-- h a place. Definitions only.
+use Prim.Native.Nat.{ℕ, zero, suc, _+_, _*_, _≤_}
+use mathlib.Core.Bool.{Bool, false, cond, _||_}
+use mathlib.Core.List.{List, [], _∷_, _++_}
+use mathlib.Core.Path.{_≡_}
+use lib.Dec.{leb, ltb}
+use lib.IntN.{ℤ}
+use lib.Ieee.{Float}
+use lib.ListN.{take}
+use lib.Seq.{paste}
+use Rattle.period.specs.declared.PeriodRecord.{PeriodRecord}
+use Rattle.period.specs.Rates.{maxRequired}
+use Rattle.period.specs.Pitch.{InOrder}
+use Rattle.stretch.specs.declared.Call.{Call}
+use Rattle.stretch.specs.declared.Place.{Place}
+use Rattle.stretch.specs.declared.Step.{Step}
+use Rattle.stretch.specs.declared.Stretch.{Stretch}
+use Rattle.stretch.specs.declared.Stretched.{Stretched}
+use Rattle.stretch.specs.declared.Stretched.the-variants.{Made, Full}
+use Rattle.stretch.specs.Steps.{nextStep, framesOut, framesUsed, stalls, samplesOut, after}
+
+-- at most n steps, from a place until position + `max_required` exceeds the frames held or a step stalls
+unfoldable pub stepsIn : ℕ → Call → List ℤ → Place → List Step
+stepsIn zero u x h = []
+stepsIn (suc n) u x h =
+    cond (leb (h .position .0 + maxRequired (u .rate)) (u .held .0))
+    (nextStep u x h ∷ cond (stalls (nextStep u x h)) [] (stepsIn n u x (after u x h (nextStep u x h))))
+    []
+
+-- all of them: each uses a frame at least, so that there are no more than frames held (`proofs/Claims.antt`, steps-complete)
+unfoldable pub steps : Call → List ℤ → Place → List Step
+steps u x h = stepsIn (u .held .0) u x h
+
+-- the frames that steps give
+unfoldable pub framesMade : List Step → ℕ
+framesMade [] = 0
+framesMade (s ∷ ss) = framesOut s + framesMade ss
+
+-- their samples; the first of the steps is at frame `at`
+unfoldable pub samplesOf : ℕ → List ℤ → ℕ → List Step → List ℤ
+samplesOf channels x at [] = []
+samplesOf channels x at (s ∷ ss) = samplesOut channels x at s ++ samplesOf channels x (at + framesUsed s) ss
+
+-- the place after the last
+unfoldable pub lastPlace : Call → List ℤ → Place → List Step → Place
+lastPlace u x h [] = h
+lastPlace u x h (s ∷ ss) = lastPlace u x (after u x h s) ss
+
+-- whether one stalls
+unfoldable pub stalled : List Step → Bool
+stalled [] = false
+stalled (s ∷ ss) = stalls s || stalled ss
+
+-- where a call begins
+abbrev pub begun : Float → PeriodRecord → Place
+begun error prev = record { position = record { 0 = 0 }; «time_error» = error; «record» = prev }
+
+-- an answer with the time error and the period record of a place
+abbrev pub answer : ℕ → ℕ → Place → Bool → Stretch
+answer made used h stall =
+    record { made = record { 0 = made }; used = record { 0 = used }; «time_error» = h .«time_error»; «record» = h .«record»; stalled = stall }
+
+-- the answer for steps ss: a stall removes no input
+unfoldable pub answerFor : Call → List ℤ → Place → List Step → Stretch
+answerFor u x h ss = answer (framesMade ss) (cond (stalled ss) 0 (lastPlace u x h ss .position .0)) (lastPlace u x h ss) (stalled ss)
+
+-- `change_speed` with room for `room` frames
+unfoldable pub changeSpeed : Call → List ℤ → Place → ℕ → Stretched
+changeSpeed u x h room = cond (ltb room (framesMade (steps u x h))) Full (Made (answerFor u x h (steps u x h)))
+
+-- the stage after it: what lies before the place `to` stays; if the frames fit, they stand there, and the period record is in order
+pub record Staged (u : Call) (x : List ℤ) (h : Place) (room : ℕ) (stage stage' : List ℤ) (to : ℕ) : Type 0 where
+  pub kept : take to stage' ≡ take to stage
+  pub written : framesMade (steps u x h) ≤ room
+      → stage' ≡ paste stage to (samplesOf (u .channels) x (h .position .0) (steps u x h)) (framesMade (steps u x h) * u .channels)
+  pub in-order : framesMade (steps u x h) ≤ room → InOrder (u .rate) (lastPlace u x h (steps u x h) .«record»)

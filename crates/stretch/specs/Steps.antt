@@ -1,0 +1,123 @@
+-- Document 01, "Stretch steps": which step is due at a place, what it gives and uses, and the place after it. u is the call, x the held
+-- input, h a place. Definitions only.
+use Prim.Native.Nat.{ℕ, _+_, _-_, _*_, _^_, _≤_}
+use mathlib.Core.Path.{_≡_}
+use mathlib.Core.Bool.{Bool, false, cond}
+use mathlib.Core.List.{List}
+use lib.Dec.{T, eqb, ltb}
+use lib.IntN.{ℤ}
+use lib.Ieee.{Float, binary32, lt, fits}
+use lib.ListN.{drop}
+use lib.Seq.{paste}
+use Rattle.frames.specs.declared.Frames.{Frames}
+use Rattle.floats.specs.Numbers.{one}
+use Rattle.floats.specs.Settings.{samplePeriod}
+use Rattle.floats.specs.Steps.{copyingDue, copyCount, skipCount, insertCount, errorCopied, errorSkipped, errorInserted}
+use Rattle.period.specs.declared.PeriodRecord.{PeriodRecord}
+use Rattle.period.specs.declared.Chosen.{Chosen}
+use Rattle.period.specs.Rates.{Opened}
+use Rattle.period.specs.Search.{longestPeriod}
+use Rattle.period.specs.Pitch.{findPitchPeriod}
+use Rattle.stretch.specs.declared.Call.{Call}
+use Rattle.stretch.specs.declared.Place.{Place}
+use Rattle.stretch.specs.declared.Step.{Step}
+use Rattle.stretch.specs.declared.Step.the-variants.{Copied, Skipped, Inserted}
+use Rattle.stretch.specs.declared.Turn.{Turn}
+use Rattle.stretch.specs.declared.Turn.the-variants.{NoRoom, Went}
+use Rattle.stretch.specs.Crossfade.{copyUnmodifiedSamples, skipPitchPeriod, insertPitchPeriod}
+
+-- the search at a place
+unfoldable pub searchAt : Call → List ℤ → Place → Chosen
+searchAt u x h = findPitchPeriod (drop (h .position .0 * u .channels) x) (u .channels) (u .rate) (h .«record»)
+
+-- a skip step (s > 1) or an insert step (any other s)
+abbrev pub periodStep : Float → Frames → Step
+periodStep s period = cond (lt one s) (Skipped period (record { 0 = skipCount s (period .0) })) (Inserted period (record { 0 = insertCount s (period .0) }))
+
+-- the step that is due: a copying step, or one of those
+unfoldable pub nextStep : Call → List ℤ → Place → Step
+nextStep u x h =
+    cond (copyingDue (u .speed) (h .«time_error»))
+    (Copied (record { 0 = copyCount (h .«time_error») (u .speed) (u .«sample_period») (u .held .0 - h .position .0) }))
+    (periodStep (u .speed) (searchAt u x h .period))
+
+-- the frames that a step gives
+abbrev pub framesOut : Step → ℕ
+framesOut (Copied n) = n .0
+framesOut (Skipped period k) = k .0
+framesOut (Inserted period k) = period .0 + k .0
+
+-- the frames of the input that it uses
+abbrev pub framesUsed : Step → ℕ
+framesUsed (Copied n) = n .0
+framesUsed (Skipped period k) = period .0 + k .0
+framesUsed (Inserted period k) = k .0
+
+-- a skip with k = 0 ends the call as stalled
+abbrev pub stalls : Step → Bool
+stalls (Copied n) = false
+stalls (Skipped period k) = eqb (k .0) 0
+stalls (Inserted period k) = false
+
+-- the samples that a step at frame `at` gives
+unfoldable pub samplesOut : ℕ → List ℤ → ℕ → Step → List ℤ
+samplesOut channels x at (Copied n) = copyUnmodifiedSamples channels x at (n .0)
+samplesOut channels x at (Skipped period k) = skipPitchPeriod channels x at (period .0) (k .0)
+samplesOut channels x at (Inserted period k) = insertPitchPeriod channels x at (period .0) (k .0)
+
+-- the time error after a step
+unfoldable pub errorAfter : Call → Float → Step → Float
+errorAfter u error (Copied n) = errorCopied error (u .speed) (u .«sample_period») (n .0)
+errorAfter u error (Skipped period k) = errorSkipped error (u .speed) (u .«sample_period») (u .«play_time») (u .held .0) (period .0) (k .0)
+errorAfter u error (Inserted period k) = errorInserted error (u .speed) (u .«sample_period») (u .«play_time») (u .held .0) (period .0) (k .0)
+
+-- the period record after a step: a copying step makes no search
+unfoldable pub recordAfter : Call → List ℤ → Place → Step → PeriodRecord
+recordAfter u x h (Copied n) = h .«record»
+recordAfter u x h (Skipped period k) = searchAt u x h .«record»
+recordAfter u x h (Inserted period k) = searchAt u x h .«record»
+
+-- the place after a step
+unfoldable pub placeAfter : Call → Place → Step → PeriodRecord → Place
+placeAfter u h s found =
+    record { position = record { 0 = h .position .0 + framesUsed s }; «time_error» = errorAfter u (h .«time_error») s; «record» = found }
+
+unfoldable pub after : Call → List ℤ → Place → Step → Place
+after u x h s = placeAfter u h s (recordAfter u x h s)
+
+-- ---- one turn, with room for `room` frames
+
+-- whether there is room for the step; the place after it, its frames, and whether it stalls
+unfoldable pub turnFor : Call → List ℤ → Place → ℕ → Step → Turn
+turnFor u x h room s = cond (ltb room (framesOut s)) NoRoom (Went (after u x h s) (record { 0 = framesOut s }) (stalls s))
+
+-- the stage after it: the step's frames at the place `to`
+unfoldable pub stageFor : Call → List ℤ → Place → ℕ → List ℤ → ℕ → Step → List ℤ
+stageFor u x h room stage to s =
+    cond (ltb room (framesOut s)) stage (paste stage to (samplesOut (u .channels) x (h .position .0) s) (framesOut s * u .channels))
+
+-- ---- what calls and steps are handed
+
+-- a call: opened, T that of the rate, a local speed that is an f32, and few frames
+pub record Ready (u : Call) : Type 0 where
+  pub opened : Opened (u .rate) (u .channels)
+  pub period-is : u .«sample_period» ≡ samplePeriod (u .rate)
+  pub speed-fits : T (fits binary32 (u .speed))
+  pub few : u .held .0 ≤ 2 ^ 24
+
+-- the frames of the input that a step looks at, and those that it crossfades
+abbrev pub framesRead : Step → ℕ
+framesRead (Copied n) = n .0
+framesRead (Skipped period k) = period .0 + k .0
+framesRead (Inserted period k) = period .0 + k .0
+
+abbrev pub crossfaded : Step → ℕ
+crossfaded (Copied n) = 0
+crossfaded (Skipped period k) = k .0
+crossfaded (Inserted period k) = k .0
+
+-- a step at frame `at` uses a frame at least and stays within the frames held
+pub record Sound (held at : ℕ) (s : Step) : Type 0 where
+  pub some : 1 ≤ framesUsed s
+  pub within : at + framesRead s ≤ held
+  pub short : crossfaded s ≤ longestPeriod

@@ -1,0 +1,59 @@
+// The stretch: steps that copy, skip or insert pitch periods, and `change_speed` that takes them. `specs/` says what each function gives.
+mod samples;
+mod speed;
+mod steps;
+
+use frames::Frames;
+use period::PeriodRecord;
+pub use speed::change_speed;
+
+// What is fixed for a call: what follows from the opening, the local speed, the play time and the frames held.
+pub struct Call {
+    pub channels: usize,
+    pub rate: usize,
+    pub sample_period: f32,
+    pub speed: f32,
+    pub play_time: f32,
+    pub held: Frames,
+}
+
+// Where a call has come to: the frames used, the time error and the period record.
+pub struct Place {
+    pub position: Frames,
+    pub time_error: f32,
+    pub record: PeriodRecord,
+}
+
+// A step: the frames copied; the period skipped and the frames made; the period inserted and the frames made behind it.
+pub enum Step {
+    Copied(Frames),
+    Skipped(Frames, Frames),
+    Inserted(Frames, Frames),
+}
+
+// The step that is due, and the period record after its search.
+pub struct Due {
+    pub step: Step,
+    pub record: PeriodRecord,
+}
+
+// One turn of a call: no room for the step's frames; or the place after it, its frames, and whether it stalls.
+pub enum Turn {
+    NoRoom,
+    Went(Place, Frames, bool),
+}
+
+// What a call gives: the frames made, the frames of the input used, the time error and the period record after it, whether it stalled.
+pub struct Stretch {
+    pub made: Frames,
+    pub used: Frames,
+    pub time_error: f32,
+    pub record: PeriodRecord,
+    pub stalled: bool,
+}
+
+// The same, or that the frames made do not fit.
+pub enum Stretched {
+    Made(Stretch),
+    Full,
+}

@@ -1,0 +1,88 @@
+// A call: step after step.
+use crate::Call;
+use crate::Place;
+use crate::Stretch;
+use crate::Stretched;
+use crate::Turn;
+use crate::steps::take_step;
+use frames::Frames;
+use frames::Samples;
+use period::PeriodRecord;
+ghost use mathlib.Core.Path.{_≡_};
+ghost use Prim.Native.Nat.{_+_, _*_, _≤_};
+ghost use lib.ListN.{length};
+ghost use Rattle.period.specs.Rates.{maxRequired};
+ghost use Rattle.period.specs.Pitch.{InOrder};
+ghost use Rattle.stretch.specs.Steps.{Ready};
+ghost use Rattle.stretch.specs.Speed.{changeSpeed, begun, answer as answerOf, Staged};
+
+// A call's answer, with the time error and the period record of a place.
+fn answer(made: Frames, used: Frames, place: Place, stalled: bool) -> Stretch
+    ensures { λ r. ⌜ r ≡ answerOf (made .0) (used .0) place stalled ⌝ }
+{
+    let record = place.record;
+    Stretch {
+        made,
+        used,
+        time_error: place.time_error,
+        record,
+        stalled,
+    }
+}
+
+// The stretch of the frames held: step after step until too few frames are left, one stalls, or one does not fit. The frames go to the
+// place `to` of the stage, which has room for `room` frames there.
+pub fn change_speed(
+    input: &[i16],
+    call: Call,
+    time_error: f32,
+    record: PeriodRecord,
+    stage: &mut [i16],
+    to: Samples,
+    room: Frames,
+    scratch: &mut [i16],
+) -> Stretched
+    requires { ⌜ Ready call ⌝ }
+    requires { ⌜ InOrder (call .rate) «record» ⌝ }
+    requires { ⌜ (call .held .0 * call .channels ≤ length (now input)) × (maxRequired (call .rate) ≤ length (now scratch))
+        × (to .0 + room .0 * call .channels ≤ length (now stage)) ⌝ }
+    ensures { λ r. ⌜ (r ≡ changeSpeed call (now (input .entry)) (begun «time_error» «record») (room .0))
+        × Staged call (now (input .entry)) (begun «time_error» «record») (room .0) (now (stage .entry)) (now (stage .exit)) (to .0) ⌝ }
+{
+    let required = period::max_required(call.rate).0;
+    let held = call.held.0;
+    let all = room.0;
+    let first = to.0;
+    let mut place = Place {
+        position: Frames(0),
+        time_error,
+        record,
+    };
+    let mut made: usize = 0;
+    while place.position.0 + required <= held {
+        let at = first + Frames(made).samples(call.channels).0;
+        let left = all - made;
+        let turn = take_step(
+            input,
+            call,
+            place,
+            stage,
+            Samples(at),
+            Frames(left),
+            scratch,
+        );
+        match turn {
+            Turn::NoRoom => {
+                return Stretched::Full;
+            }
+            Turn::Went(next, n, stalled) => {
+                made += n.0;
+                place = next;
+                if stalled {
+                    return Stretched::Made(answer(Frames(made), Frames(0), next, true));
+                }
+            }
+        }
+    }
+    Stretched::Made(answer(Frames(made), place.position, place, false))
+}

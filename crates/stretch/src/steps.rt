@@ -1,0 +1,174 @@
+// One turn of a call: the step that is due at a place, and the place after it.
+use crate::Call;
+use crate::Due;
+use crate::Place;
+use crate::Step;
+use crate::Turn;
+use frames::Frames;
+use frames::Samples;
+use period::Chosen;
+use period::PeriodRecord;
+ghost use mathlib.Core.Path.{_≡_};
+ghost use Prim.Native.Nat.{_+_, _*_, _≤_, _^_};
+ghost use lib.ListN.{length, drop};
+ghost use Rattle.period.specs.Rates.{Opened, maxRequired};
+ghost use Rattle.period.specs.Pitch.{findPitchPeriod, InRange, InOrder};
+ghost use Rattle.stretch.specs.Steps.{nextStep, framesOut, framesUsed, framesRead, stalls as stallsOf, errorAfter};
+ghost use Rattle.stretch.specs.Steps.{recordAfter, placeAfter, turnFor, stageFor, Ready, Sound};
+
+// The search at the place `from` of the input.
+fn search_at(
+    input: &[i16],
+    from: Samples,
+    channels: usize,
+    rate: usize,
+    prev: PeriodRecord,
+    scratch: &mut [i16],
+) -> Chosen
+    requires { ⌜ Opened rate channels ⌝ }
+    requires { ⌜ InOrder rate prev ⌝ }
+    requires { ⌜ (from .0 + maxRequired rate * channels ≤ length (now input)) × (maxRequired rate ≤ length (now scratch)) ⌝ }
+    ensures { λ r. ⌜ (r ≡ findPitchPeriod (drop (from .0) (now (input .entry))) channels rate prev)
+        × InRange rate (r .period .0) × InOrder rate (r .«record») ⌝ }
+{
+    let first = from.0;
+    period::find_pitch_period(&input[first..], channels, rate, prev, scratch)
+}
+
+// The step that is due at a place, and the period record after it.
+fn next_step(input: &[i16], call: Call, place: Place, scratch: &mut [i16]) -> Due
+    requires { ⌜ Ready call ⌝ }
+    requires { ⌜ InOrder (call .rate) (place .«record») ⌝ }
+    requires { ⌜ (place .position .0 + maxRequired (call .rate) ≤ call .held .0) × (call .held .0 * call .channels ≤ length (now input))
+        × (maxRequired (call .rate) ≤ length (now scratch)) ⌝ }
+    ensures { λ r. ⌜ (r .step ≡ nextStep call (now (input .entry)) place)
+        × (r .«record» ≡ recordAfter call (now (input .entry)) place (nextStep call (now (input .entry)) place)) × InOrder (call .rate) (r .«record») ⌝ }
+{
+    let s = call.speed;
+    let error = place.time_error;
+    let prev = place.record;
+    let position = place.position;
+    if floats::steps::copying_due(s, error) {
+        let left = call.held.0 - position.0;
+        let n = floats::steps::copy_count(error, s, call.sample_period, Frames(left));
+        return Due {
+            step: Step::Copied(n),
+            record: prev,
+        };
+    }
+    let from = position.samples(call.channels);
+    let chosen = search_at(input, from, call.channels, call.rate, prev, scratch);
+    let period = chosen.period;
+    let record = chosen.record;
+    if s > 1.0 {
+        let k = floats::steps::skip_count(s, period);
+        return Due {
+            step: Step::Skipped(period, k),
+            record,
+        };
+    }
+    let k = floats::steps::insert_count(s, period);
+    Due {
+        step: Step::Inserted(period, k),
+        record,
+    }
+}
+
+// The frames that a step gives.
+fn frames_out(step: Step) -> Frames
+    requires { ⌜ framesOut step ≤ 2 ^ 24 ⌝ }
+    ensures { λ r. ⌜ r .0 ≡ framesOut step ⌝ }
+{
+    match step {
+        Step::Copied(n) => n,
+        Step::Skipped(_, k) => k,
+        Step::Inserted(period, k) => Frames(period.0 + k.0),
+    }
+}
+
+// The frames of the input that a step uses.
+fn frames_used(step: Step) -> Frames
+    requires { ⌜ framesUsed step ≤ 2 ^ 24 ⌝ }
+    ensures { λ r. ⌜ r .0 ≡ framesUsed step ⌝ }
+{
+    match step {
+        Step::Copied(n) => n,
+        Step::Skipped(period, k) => Frames(period.0 + k.0),
+        Step::Inserted(_, k) => k,
+    }
+}
+
+// Whether a step ends the call as stalled.
+fn stalls(step: Step) -> bool
+    ensures { λ r. ⌜ r ≡ stallsOf step ⌝ }
+{
+    match step {
+        Step::Copied(_) => false,
+        Step::Skipped(_, k) => k.0 == 0,
+        Step::Inserted(_, _) => false,
+    }
+}
+
+// The time error after a step.
+fn error_after(call: Call, error: f32, step: Step) -> f32
+    requires { ⌜ (framesRead step ≤ 2 ^ 24) × (call .held .0 ≤ 2 ^ 24) ⌝ }
+    ensures { λ r. ⌜ r ≡ errorAfter call error step ⌝ }
+{
+    let s = call.speed;
+    let t = call.sample_period;
+    let play = call.play_time;
+    let held = call.held;
+    match step {
+        Step::Copied(n) => floats::steps::error_copied(error, s, t, n),
+        Step::Skipped(period, k) => {
+            floats::steps::error_skipped(error, s, t, play, held, period, k)
+        }
+        Step::Inserted(period, k) => {
+            floats::steps::error_inserted(error, s, t, play, held, period, k)
+        }
+    }
+}
+
+// The place after a step, with the period record after it.
+fn place_after(call: Call, place: Place, step: Step, record: PeriodRecord) -> Place
+    requires { ⌜ Sound (call .held .0) (place .position .0) step × (call .held .0 ≤ 2 ^ 24) ⌝ }
+    ensures { λ r. ⌜ r ≡ placeAfter call place step «record» ⌝ }
+{
+    let used = frames_used(step);
+    let position = place.position.0 + used.0;
+    Place {
+        position: Frames(position),
+        time_error: error_after(call, place.time_error, step),
+        record,
+    }
+}
+
+// One turn: the step that is due, its frames written at the place `to` of the stage if there is room for them among `room` frames.
+pub fn take_step(
+    input: &[i16],
+    call: Call,
+    place: Place,
+    stage: &mut [i16],
+    to: Samples,
+    room: Frames,
+    scratch: &mut [i16],
+) -> Turn
+    requires { ⌜ Ready call ⌝ }
+    requires { ⌜ InOrder (call .rate) (place .«record») ⌝ }
+    requires { ⌜ (place .position .0 + maxRequired (call .rate) ≤ call .held .0) × (call .held .0 * call .channels ≤ length (now input))
+        × (maxRequired (call .rate) ≤ length (now scratch)) × (to .0 + room .0 * call .channels ≤ length (now stage)) ⌝ }
+    ensures { λ r. ⌜ (r ≡ turnFor call (now (input .entry)) place (room .0) (nextStep call (now (input .entry)) place))
+        × (now (stage .exit) ≡ stageFor call (now (input .entry)) place (room .0) (now (stage .entry)) (to .0) (nextStep call (now (input .entry)) place))
+        × InOrder (call .rate) (recordAfter call (now (input .entry)) place (nextStep call (now (input .entry)) place)) ⌝ }
+{
+    let due = next_step(input, call, place, scratch);
+    let step = due.step;
+    let record = due.record;
+    let n = frames_out(step);
+    if room.0 < n.0 {
+        return Turn::NoRoom;
+    }
+    crate::samples::write_step(step, input, call.channels, place.position, stage, to);
+    let next = place_after(call, place, step, record);
+    Turn::Went(next, n, stalls(step))
+}
