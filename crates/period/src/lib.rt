@@ -6,6 +6,7 @@ mod rates;
 mod search;
 
 use frames::Frames;
+pub use averages::down_sample_input;
 pub use pitch::find_pitch_period;
 pub use rates::max_period;
 pub use rates::max_required;

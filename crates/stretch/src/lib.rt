@@ -5,6 +5,7 @@ mod steps;
 
 use frames::Frames;
 use period::PeriodRecord;
+pub use samples::overlap_add;
 pub use speed::change_speed;
 
 // What is fixed for a call: what follows from the opening, the local speed, the play time and the frames held.

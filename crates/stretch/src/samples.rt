@@ -51,7 +51,7 @@ fn crossfade_frame(
 }
 
 // A crossfade of k frames from the place `down` of the input into the place `up`, written at the place `to` of the stage.
-fn overlap_add(
+pub fn overlap_add(
     k: Frames,
     channels: usize,
     input: &[i16],

@@ -1,0 +1,85 @@
+// Search, averages, interpolation, crossfade, volume.
+use frames::Frames;
+use frames::Samples;
+ghost use mathlib.Core.Path.{_≡_};
+ghost use mathlib.Core.List.{map, _++_};
+ghost use Prim.Native.Nat.{_+_, _*_, _≤_, _<_};
+ghost use lib.Dec.{T};
+ghost use lib.Ieee.{le};
+ghost use lib.ListN.{length, drop};
+ghost use lib.Seq.{paste};
+ghost use Rattle.floats.specs.Settings.{minVolume, maxVolume};
+ghost use Rattle.floats.specs.Write.{sampleIn};
+ghost use Rattle.period.specs.Averages.{downSampleInput, Averageable};
+ghost use Rattle.period.specs.Search.{findPitchPeriodInRange, longestPeriod, Searchable};
+ghost use Rattle.sinc.specs.Sinc.{interpolateFrame};
+ghost use Rattle.sinc.specs.SincTable.{sincTable};
+ghost use Rattle.stretch.specs.Crossfade.{overlapAdd};
+ghost use Rattle.volume.specs.Volume.{scaled};
+
+// A search's answer.
+#[repr(C)]
+pub struct Search {
+    pub period: usize,
+    pub min_diff: usize,
+    pub max_diff: usize,
+}
+
+#[no_mangle]
+pub extern "C" fn kernel_samples_in(source: &[f32], area: &mut [i16])
+    requires { ⌜ length (now source) ≤ length (now area) ⌝ }
+    ensures { λ _. ⌜ now (area .exit) ≡ paste (now (area .entry)) 0 (map sampleIn (now (source .entry))) (length (now (source .entry))) ⌝ }
+{
+    floats::samples::samples_in(source, Samples(source.len()), area, Samples(0));
+}
+
+#[no_mangle]
+pub extern "C" fn kernel_find_pitch_period_in_range(samples: &[i16], low: usize, high: usize) -> Search
+    requires { ⌜ Searchable (length (now samples)) low high ⌝ }
+    ensures { λ r. ⌜ (r .period ≡ findPitchPeriodInRange (now (samples .entry)) low high .period)
+        × (r .«min_diff» ≡ findPitchPeriodInRange (now (samples .entry)) low high .«min_diff»)
+        × (r .«max_diff» ≡ findPitchPeriodInRange (now (samples .entry)) low high .«max_diff») ⌝ }
+{
+    let found = period::find_pitch_period_in_range(samples, low, high);
+    Search {
+        period: found.period,
+        min_diff: found.min_diff,
+        max_diff: found.max_diff,
+    }
+}
+
+#[no_mangle]
+pub extern "C" fn kernel_down_sample_input(samples: &[i16], out: &mut [i16], count: usize, per: usize)
+    requires { ⌜ Averageable (length (now samples)) (length (now out)) count per ⌝ }
+    ensures { λ _. ⌜ now (out .exit) ≡ downSampleInput (now (samples .entry)) count per ++ drop count (now (out .entry)) ⌝ }
+{
+    period::down_sample_input(samples, out, count, Samples(per));
+}
+
+#[no_mangle]
+pub extern "C" fn kernel_interpolate_frame(table: &[i16], stage: &[i16], channels: usize, ratio: usize, width: usize, output: &mut [i16])
+    requires { ⌜ (now table ≡ sincTable) × (ratio < width) × (width ≤ 16384) ⌝ }
+    requires { ⌜ (12 * channels ≤ length (now stage)) × (channels ≤ length (now output)) ⌝ }
+    ensures { λ _. ⌜ now (output .exit) ≡ paste (now (output .entry)) 0 (interpolateFrame (now (stage .entry)) channels ratio width) channels ⌝ }
+{
+    sinc::interpolate_frame(table, stage, Samples(0), channels, ratio, width, output, Samples(0));
+}
+
+#[no_mangle]
+pub extern "C" fn kernel_overlap_add(k: usize, channels: usize, input: &[i16], down: usize, up: usize, stage: &mut [i16])
+    requires { ⌜ k ≤ longestPeriod ⌝ }
+    requires { ⌜ (down + k * channels ≤ length (now input)) × (up + k * channels ≤ length (now input)) × (k * channels ≤ length (now stage)) ⌝ }
+    ensures { λ _. ⌜ now (stage .exit) ≡ paste (now (stage .entry)) 0
+        (overlapAdd k channels (drop down (now (input .entry))) (drop up (now (input .entry)))) (k * channels) ⌝ }
+{
+    stretch::overlap_add(Frames(k), channels, input, Samples(down), Samples(up), stage, Samples(0));
+}
+
+#[no_mangle]
+pub extern "C" fn kernel_scale_samples(area: &mut [i16], volume: f32)
+    requires { ⌜ T (le minVolume volume) × T (le volume maxVolume) ⌝ }
+    ensures { λ _. ⌜ now (area .exit) ≡ paste (now (area .entry)) 0 (map (scaled volume) (now (area .entry))) (length (now (area .entry))) ⌝ }
+{
+    let n = area.len();
+    volume::scale_samples(area, Samples(0), Samples(n), volume);
+}
