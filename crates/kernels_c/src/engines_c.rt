@@ -34,7 +34,11 @@ pub extern "C" fn kernel_samples_in(source: &[f32], area: &mut [i16])
 }
 
 #[no_mangle]
-pub extern "C" fn kernel_find_pitch_period_in_range(samples: &[i16], low: usize, high: usize) -> Search
+pub extern "C" fn kernel_find_pitch_period_in_range(
+    samples: &[i16],
+    low: usize,
+    high: usize,
+) -> Search
     requires { ⌜ Searchable (length (now samples)) low high ⌝ }
     ensures { λ r. ⌜ (r .period ≡ findPitchPeriodInRange (now (samples .entry)) low high .period)
         × (r .«min_diff» ≡ findPitchPeriodInRange (now (samples .entry)) low high .«min_diff»)
@@ -49,7 +53,12 @@ pub extern "C" fn kernel_find_pitch_period_in_range(samples: &[i16], low: usize,
 }
 
 #[no_mangle]
-pub extern "C" fn kernel_down_sample_input(samples: &[i16], out: &mut [i16], count: usize, per: usize)
+pub extern "C" fn kernel_down_sample_input(
+    samples: &[i16],
+    out: &mut [i16],
+    count: usize,
+    per: usize,
+)
     requires { ⌜ Averageable (length (now samples)) (length (now out)) count per ⌝ }
     ensures { λ _. ⌜ now (out .exit) ≡ downSampleInput (now (samples .entry)) count per ++ drop count (now (out .entry)) ⌝ }
 {
@@ -57,22 +66,53 @@ pub extern "C" fn kernel_down_sample_input(samples: &[i16], out: &mut [i16], cou
 }
 
 #[no_mangle]
-pub extern "C" fn kernel_interpolate_frame(table: &[i16], stage: &[i16], channels: usize, ratio: usize, width: usize, output: &mut [i16])
+pub extern "C" fn kernel_interpolate_frame(
+    table: &[i16],
+    stage: &[i16],
+    channels: usize,
+    ratio: usize,
+    width: usize,
+    output: &mut [i16],
+)
     requires { ⌜ (now table ≡ sincTable) × (ratio < width) × (width ≤ 16384) ⌝ }
     requires { ⌜ (12 * channels ≤ length (now stage)) × (channels ≤ length (now output)) ⌝ }
     ensures { λ _. ⌜ now (output .exit) ≡ paste (now (output .entry)) 0 (interpolateFrame (now (stage .entry)) channels ratio width) channels ⌝ }
 {
-    sinc::interpolate_frame(table, stage, Samples(0), channels, ratio, width, output, Samples(0));
+    sinc::interpolate_frame(
+        table,
+        stage,
+        Samples(0),
+        channels,
+        ratio,
+        width,
+        output,
+        Samples(0),
+    );
 }
 
 #[no_mangle]
-pub extern "C" fn kernel_overlap_add(k: usize, channels: usize, input: &[i16], down: usize, up: usize, stage: &mut [i16])
+pub extern "C" fn kernel_overlap_add(
+    k: usize,
+    channels: usize,
+    input: &[i16],
+    down: usize,
+    up: usize,
+    stage: &mut [i16],
+)
     requires { ⌜ k ≤ longestPeriod ⌝ }
     requires { ⌜ (down + k * channels ≤ length (now input)) × (up + k * channels ≤ length (now input)) × (k * channels ≤ length (now stage)) ⌝ }
     ensures { λ _. ⌜ now (stage .exit) ≡ paste (now (stage .entry)) 0
         (overlapAdd k channels (drop down (now (input .entry))) (drop up (now (input .entry)))) (k * channels) ⌝ }
 {
-    stretch::overlap_add(Frames(k), channels, input, Samples(down), Samples(up), stage, Samples(0));
+    stretch::overlap_add(
+        Frames(k),
+        channels,
+        input,
+        Samples(down),
+        Samples(up),
+        stage,
+        Samples(0),
+    );
 }
 
 #[no_mangle]

@@ -5,8 +5,8 @@ mod pitch;
 mod rates;
 mod search;
 
-use frames::Frames;
 pub use averages::down_sample_input;
+use frames::Frames;
 pub use pitch::find_pitch_period;
 pub use rates::max_period;
 pub use rates::max_required;
