@@ -78,7 +78,7 @@ module _ {u : Call} {x : List ℤ} {h₀ : Place} {stage₀ stage : List ℤ} {t
       sym (add-mul made (room - made) (u .channels)) ∙ ap (λ (n : ℕ). n * u .channels) e
 
   -- what lies before the place `to` is as it was
-  pub going-kept : take to stage ≡ take to stage₀
+  going-kept : take to stage ≡ take to stage₀
   going-kept = ap (take to) (g .stage-is) ∙ paste-front stage₀ (g .front) to (made * u .channels) (omega (arith, l .area))
 
   -- no step is due

@@ -19,7 +19,7 @@ use Rattle.stretch.proofs.Taken.{AllSound, steps-sound, member-sound, f
 
 module _ {u : Call} (x : List ℤ) (h : Place) (r : Ready u) (o : PeriodIn (u .rate) (h .«record»)) where
   sound : AllSound u x h (steps u x h)
-  sound = steps-sound u x h r o
+  sound = steps-sound x h r o
 
   -- a call stalls exactly when one of its steps gives no frame
   pub stalled-exactly : (stalled (steps u x h) ≡ true → (s : Step) × List·Memᴰ s (steps u x h) × (framesOut s ≡ 0))
@@ -40,7 +40,7 @@ module _ {u : Call} (x : List ℤ) (h : Place) (r : Ready u) (o : PeriodIn (u .r
 
   -- so that the list is complete: if no step stalls, position + `max_required` exceeds the frames held after the last
   pub steps-complete : stalled (steps u x h) ≡ false → u .held .0 < lastPlace u x h (steps u x h) .position .0 + maxRequired (u .rate)
-  steps-complete = steps-ends x r h o
+  steps-complete = steps-ends x h r o
 
   -- the position never passes the frames held
   pub position-held : (front back : List Step) → steps u x h ≡ front ++ back → h .position .0 ≤ u .held .0

@@ -1,16 +1,17 @@
--- The step that is due, by the tests of the code. Assumes nothing.
-use mathlib.Core.Path.{_≡_}
-use mathlib.Core.Bool.{true, false}
+-- The step that is due, by the tests of the code, and the period record after it. Assumes nothing.
+use mathlib.Core.Path.{_≡_, refl}
+use mathlib.Core.Bool.{Bool, true, false, cond}
 use mathlib.Core.List.{List}
 use Prim.Native.Nat.{_-_}
 use lib.IntN.{ℤ}
-use lib.Ieee.{lt}
+use lib.Ieee.{Float, lt}
+use Rattle.frames.specs.declared.Frames.{Frames}
 use Rattle.floats.specs.Numbers.{one}
 use Rattle.floats.specs.Steps.{copyingDue, copyCount, skipCount, insertCount}
 use Rattle.stretch.specs.declared.Call.{Call}
 use Rattle.stretch.specs.declared.Place.{Place}
 use Rattle.stretch.specs.declared.Step.the-variants.{Copied, Skipped, Inserted}
-use Rattle.stretch.specs.Steps.{searchAt, nextStep}
+use Rattle.stretch.specs.Steps.{searchAt, periodStep, nextStep, recordAfter}
 
 module _ (u : Call) (x : List ℤ) (h : Place) where
   pub nextStep-copied : copyingDue (u .speed) (h .«time_error») ≡ true
@@ -18,12 +19,17 @@ module _ (u : Call) (x : List ℤ) (h : Place) where
   unfolding nextStep
   nextStep-copied e = rw e
 
-  pub nextStep-skipped : copyingDue (u .speed) (h .«time_error») ≡ false → lt one (u .speed) ≡ true
-      → nextStep u x h ≡ Skipped (searchAt u x h .period) (record { 0 = skipCount (u .speed) (searchAt u x h .period .0) })
+  pub nextStep-searched : copyingDue (u .speed) (h .«time_error») ≡ false → nextStep u x h ≡ periodStep (u .speed) (searchAt u x h .period)
   unfolding nextStep
-  nextStep-skipped e f = rw (e, f)
+  nextStep-searched e = rw e
 
-  pub nextStep-inserted : copyingDue (u .speed) (h .«time_error») ≡ false → lt one (u .speed) ≡ false
-      → nextStep u x h ≡ Inserted (searchAt u x h .period) (record { 0 = insertCount (u .speed) (searchAt u x h .period .0) })
-  unfolding nextStep
-  nextStep-inserted e f = rw (e, f)
+  -- both steps of a period take the record of the search
+  pub recordAfter-period : (s : Float) (period : Frames) → recordAfter u x h (periodStep s period) ≡ searchAt u x h .«record»
+  unfolding recordAfter
+  recordAfter-period s period = go (lt one s)
+    where
+      go : (t : Bool)
+          → recordAfter u x h (cond t (Skipped period (record { 0 = skipCount s (period .0) })) (Inserted period (record { 0 = insertCount s (period .0) })))
+          ≡ searchAt u x h .«record»
+      go true = refl
+      go false = refl

@@ -1,10 +1,10 @@
 -- Each step uses a frame at least, so that a call has no more steps than frames held, and `stepsIn` does not run out. Assumes nothing.
-use mathlib.Core.Path.{_≡_, refl, sym, ap}
+use mathlib.Core.Path.{_≡_, refl, sym, ap, subst}
 use mathlib.Core.Bool.{Bool, true, false, cond}
 use mathlib.Core.List.{List, [], _∷_}
 use Prim.Native.Nat.{ℕ, zero, suc, _+_, _≤_, _<_}
 use native.Mathlib.Omega.{arith}
-use borrow.Author.Tests.{leb-true, le-leb, lt-leb}
+use borrow.Author.Tests.{leb-true, leb-false, le-leb, lt-leb}
 use lib.Dec.{leb}
 use lib.IntN.{ℤ}
 use Rattle.period.specs.Rates.{maxRequired}
@@ -84,3 +84,35 @@ module _ {u : Call} (x : List ℤ) (r : Ready u) where
 pub steps-end : (u : Call) (x : List ℤ) (h : Place) → u .held .0 < h .position .0 + maxRequired (u .rate) → steps u x h ≡ []
 unfolding steps
 steps-end u x h p = not-due (u .held .0) u x h p
+
+-- ---- what holds where a call ends, where it stalls, and of one step more, holds of all steps from a place on
+
+module _ {u : Call} (x : List ℤ) (r : Ready u) (P : Place → List Step → Type 0)
+    (ends : (h : Place) → u .held .0 < h .position .0 + maxRequired (u .rate) → P h [])
+    (stops : (h : Place) → PeriodIn (u .rate) (h .«record») → h .position .0 + maxRequired (u .rate) ≤ u .held .0 → stalls (nextStep u x h) ≡ true
+    → P h (nextStep u x h ∷ []))
+    (goes : (h : Place) (ss : List Step) → PeriodIn (u .rate) (h .«record») → h .position .0 + maxRequired (u .rate) ≤ u .held .0
+    → stalls (nextStep u x h) ≡ false → P (next u x h) ss → P h (nextStep u x h ∷ ss)) where
+  by-stall : (t : Bool) (h : Place) → PeriodIn (u .rate) (h .«record») → h .position .0 + maxRequired (u .rate) ≤ u .held .0
+      → stalls (nextStep u x h) ≡ t → P (next u x h) (steps u x (next u x h)) → P h (nextStep u x h ∷ cond t [] (steps u x (next u x h)))
+  by-stall true h o d e k = stops h o d e
+  by-stall false h o d e k = goes h (steps u x (next u x h)) o d e k
+
+  by-due : (t : Bool) (h : Place) → PeriodIn (u .rate) (h .«record») → Due u h ≡ t
+      → (h .position .0 + maxRequired (u .rate) ≤ u .held .0 → P (next u x h) (steps u x (next u x h))) → P h (steps u x h)
+  by-due false h o e k =
+      let d = leb-false (h .position .0 + maxRequired (u .rate)) (u .held .0) e in
+      subst (P h) (sym (steps-end u x h d)) (ends h d)
+  by-due true h o e k =
+      let d = leb-true (h .position .0 + maxRequired (u .rate)) (u .held .0) e in
+      subst (P h) (sym (steps-on x r h o d)) (by-stall (stalls (nextStep u x h)) h o d refl (k d))
+
+  by-count : (n : ℕ) (h : Place) → PeriodIn (u .rate) (h .«record») → u .held .0 ≤ h .position .0 + n → P h (steps u x h)
+  by-count zero h o k =
+      let d : u .held .0 < h .position .0 + maxRequired (u .rate) = omega (arith, required-some r) in
+      subst (P h) (sym (steps-end u x h d)) (ends h d)
+  by-count (suc n) h o k =
+      by-due (Due u h) h o refl (λ d. let v = further x h r o d in by-count n (next u x h) (after-in x h r o (nextStep u x h)) (omega arith))
+
+  pub steps-induct : (h : Place) → PeriodIn (u .rate) (h .«record») → P h (steps u x h)
+  steps-induct h o = by-count (u .held .0) h o (omega arith)

@@ -1,7 +1,7 @@
 -- The step that is due is sound: it uses a frame at least and stays within the frames held; and the period record after it is in the range.
 -- Assumes nothing.
 use mathlib.Core.Path.{_≡_, refl, sym, subst}
-use mathlib.Core.Bool.{Bool, true, false}
+use mathlib.Core.Bool.{Bool, true, false, cond}
 use mathlib.Core.List.{List}
 use Prim.Native.Nat.{ℕ, _+_, _-_, _*_, _≤_}
 use native.Mathlib.Nat.{le-refl, le-trans, add-mul, mul-le-mul-right}
@@ -23,7 +23,7 @@ use Rattle.stretch.specs.declared.Step.the-variants.{Copied, Skipped, In
 use Rattle.stretch.specs.Steps.{searchAt, nextStep, framesOut, framesUsed, framesRead, samplesOut, recordAfter, placeAfter, after, Ready, Sound}
 use Rattle.stretch.specs.Crossfade.{skipPitchPeriod, insertPitchPeriod}
 use Rattle.stretch.proofs.Crossfading.{overlapAdd-length, copyUnmodifiedSamples-length}
-use Rattle.stretch.proofs.DueStep.{nextStep-copied, nextStep-skipped, nextStep-inserted}
+use Rattle.stretch.proofs.DueStep.{nextStep-copied, nextStep-searched}
 
 -- ---- the step that is due
 
@@ -65,33 +65,31 @@ module _ {u : Call} (x : List ℤ) (h : Place) (r : Ready u) (o : PeriodIn (u .r
           short = omega arith;
         }
 
-    skipped-sound : Here (Skipped (searchAt u x h .period) (record { 0 = skipCount (u .speed) (searchAt u x h .period .0) }))
-    skipped-sound =
+    period-sound : (s : Float) (t : Bool) → (let p = searchAt u x h .period in
+        Here (cond t (Skipped p (record { 0 = skipCount s (p .0) })) (Inserted p (record { 0 = insertCount s (p .0) }))))
+    period-sound s true =
         let i = period-in in
         let low = r .opened .rate-low in
         let high = r .opened .rate-high in
-        let k = skipCount-le (u .speed) (searchAt u x h .period .0) (omega (arith, i .high)) in
+        let k = skipCount-le s (searchAt u x h .period .0) (omega (arith, i .high)) in
         record { some = omega (arith, i .low); within = omega (arith, i .high); short = omega (arith, i .high) }
-
-    inserted-sound : Here (Inserted (searchAt u x h .period) (record { 0 = insertCount (u .speed) (searchAt u x h .period .0) }))
-    inserted-sound =
+    period-sound s false =
         let i = period-in in
         let low = r .opened .rate-low in
         let high = r .opened .rate-high in
-        let k = insertCount-le (u .speed) (searchAt u x h .period .0) (omega (arith, i .low)) (omega (arith, i .high)) in
-        record { some = insertCount-ge (u .speed) (searchAt u x h .period .0); within = omega (arith, i .high); short = omega (arith, i .high) }
+        let k = insertCount-le s (searchAt u x h .period .0) (omega (arith, i .low)) (omega (arith, i .high)) in
+        record { some = insertCount-ge s (searchAt u x h .period .0); within = omega (arith, i .high); short = omega (arith, i .high) }
 
-    by-tests : (copying fast : Bool) → copyingDue (u .speed) (h .«time_error») ≡ copying → lt one (u .speed) ≡ fast → Here (nextStep u x h)
-    by-tests true fast e f = subst Here (sym (nextStep-copied u x h e)) (copied-sound e)
-    by-tests false true e f = subst Here (sym (nextStep-skipped u x h e f)) skipped-sound
-    by-tests false false e f = subst Here (sym (nextStep-inserted u x h e f)) inserted-sound
+    by-test : (t : Bool) → copyingDue (u .speed) (h .«time_error») ≡ t → Here (nextStep u x h)
+    by-test true e = subst Here (sym (nextStep-copied u x h e)) (copied-sound e)
+    by-test false e = subst Here (sym (nextStep-searched u x h e)) (period-sound (u .speed) (lt one (u .speed)))
 
     pub nextStep-sound : Sound (u .held .0) (h .position .0) (nextStep u x h)
-    nextStep-sound = by-tests (copyingDue (u .speed) (h .«time_error»)) (lt one (u .speed)) refl refl
+    nextStep-sound = by-test (copyingDue (u .speed) (h .«time_error»)) refl
 
 -- ---- what a sound step gives and uses
 
-pub framesUsed-le : (s : Step) → framesUsed s ≤ framesRead s
+framesUsed-le : (s : Step) → framesUsed s ≤ framesRead s
 framesUsed-le (Copied n) = le-refl (n .0)
 framesUsed-le (Skipped period k) = le-refl (period .0 + k .0)
 framesUsed-le (Inserted period k) = omega arith

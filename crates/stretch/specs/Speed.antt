@@ -9,6 +9,7 @@ use lib.IntN.{ℤ}
 use lib.Ieee.{Float}
 use lib.ListN.{take}
 use lib.Seq.{paste}
+use Rattle.frames.specs.Framing.{Frame, framesOf}
 use Rattle.period.specs.declared.PeriodRecord.{PeriodRecord}
 use Rattle.period.specs.Rates.{maxRequired}
 use Rattle.period.specs.Pitch.{InOrder}
@@ -68,6 +69,10 @@ answerFor u x h ss = answer (framesMade ss) (cond (stalled ss) 0 (lastPlace u x 
 -- `change_speed` with room for `room` frames
 unfoldable pub changeSpeed : Call → List ℤ → Place → ℕ → Stretched
 changeSpeed u x h room = cond (ltb room (framesMade (steps u x h))) Full (Made (answerFor u x h (steps u x h)))
+
+-- the frames that a call makes
+abbrev pub stretchedFrames : Call → List ℤ → Place → List Frame
+stretchedFrames u x h = framesOf (u .channels) (framesMade (steps u x h)) (samplesOf (u .channels) x (h .position .0) (steps u x h))
 
 -- the stage after it: what lies before the place `to` stays; if the frames fit, they stand there, and the period record is in order
 pub record Staged (u : Call) (x : List ℤ) (h : Place) (room : ℕ) (stage stage' : List ℤ) (to : ℕ) : Type 0 where

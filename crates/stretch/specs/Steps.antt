@@ -77,11 +77,12 @@ recordAfter u x h (Copied n) = h .«record»
 recordAfter u x h (Skipped period k) = searchAt u x h .«record»
 recordAfter u x h (Inserted period k) = searchAt u x h .«record»
 
--- the place after a step
+-- the place after a step whose search found a period record
 unfoldable pub placeAfter : Call → Place → Step → PeriodRecord → Place
 placeAfter u h s found =
     record { position = record { 0 = h .position .0 + framesUsed s }; «time_error» = errorAfter u (h .«time_error») s; «record» = found }
 
+-- the place after a step at a place
 unfoldable pub after : Call → List ℤ → Place → Step → Place
 after u x h s = placeAfter u h s (recordAfter u x h s)
 

@@ -14,11 +14,11 @@ ghost use lib.ListN.{length};
 ghost use Rattle.period.specs.Rates.{maxRequired};
 ghost use Rattle.period.specs.Pitch.{InOrder};
 ghost use Rattle.stretch.specs.Steps.{Ready};
-ghost use Rattle.stretch.specs.Speed.{changeSpeed, begun, answer as answerOf, Staged};
+ghost use Rattle.stretch.specs.Speed.{changeSpeed, begun, answer, Staged};
 
 // A call's answer, with the time error and the period record of a place.
 fn answer(made: Frames, used: Frames, place: Place, stalled: bool) -> Stretch
-    ensures { λ r. ⌜ r ≡ answerOf (made .0) (used .0) place stalled ⌝ }
+    ensures { λ r. ⌜ r ≡ answer (made .0) (used .0) place stalled ⌝ }
 {
     let record = place.record;
     Stretch {

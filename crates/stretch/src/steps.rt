@@ -9,14 +9,14 @@ use frames::Samples;
 use period::Chosen;
 use period::PeriodRecord;
 ghost use mathlib.Core.Path.{_≡_};
-ghost use Prim.Native.Nat.{_+_, _*_, _≤_, _^_};
+ghost use Prim.Native.Nat.{_+_, _*_, _≤_, _<_, _^_};
 ghost use lib.ListN.{length, drop};
 ghost use Rattle.period.specs.Rates.{Opened, maxRequired};
 ghost use Rattle.period.specs.Pitch.{findPitchPeriod, InRange, InOrder};
-ghost use Rattle.stretch.specs.Steps.{nextStep, framesOut, framesUsed, framesRead, stalls as stallsOf, errorAfter};
+ghost use Rattle.stretch.specs.Steps.{periodStep, nextStep, framesOut, framesUsed, framesRead, stalls, errorAfter};
 ghost use Rattle.stretch.specs.Steps.{recordAfter, placeAfter, turnFor, stageFor, Ready, Sound};
 
-// The search at the place `from` of the input.
+// The period that a step at the place `from` of the input uses, in frames, and the period record after the search.
 fn search_at(
     input: &[i16],
     from: Samples,
@@ -35,7 +35,20 @@ fn search_at(
     period::find_pitch_period(&input[first..], channels, rate, prev, scratch)
 }
 
-// The step that is due at a place, and the period record after it.
+// The skip step or the insert step of a period at local speed s.
+fn period_step(s: f32, period: Frames) -> Step
+    requires { ⌜ (1 ≤ period .0) × (period .0 < 2 ^ 24) ⌝ }
+    ensures { λ r. ⌜ r ≡ periodStep s period ⌝ }
+{
+    if s > 1.0 {
+        let k = floats::steps::skip_count(s, period);
+        return Step::Skipped(period, k);
+    }
+    let k = floats::steps::insert_count(s, period);
+    Step::Inserted(period, k)
+}
+
+// The step that is due at a place, and the period record after its search.
 fn next_step(input: &[i16], call: Call, place: Place, scratch: &mut [i16]) -> Due
     requires { ⌜ Ready call ⌝ }
     requires { ⌜ InOrder (call .rate) (place .«record») ⌝ }
@@ -60,16 +73,8 @@ fn next_step(input: &[i16], call: Call, place: Place, scratch: &mut [i16]) -> Du
     let chosen = search_at(input, from, call.channels, call.rate, prev, scratch);
     let period = chosen.period;
     let record = chosen.record;
-    if s > 1.0 {
-        let k = floats::steps::skip_count(s, period);
-        return Due {
-            step: Step::Skipped(period, k),
-            record,
-        };
-    }
-    let k = floats::steps::insert_count(s, period);
     Due {
-        step: Step::Inserted(period, k),
+        step: period_step(s, period),
         record,
     }
 }
@@ -100,7 +105,7 @@ fn frames_used(step: Step) -> Frames
 
 // Whether a step ends the call as stalled.
 fn stalls(step: Step) -> bool
-    ensures { λ r. ⌜ r ≡ stallsOf step ⌝ }
+    ensures { λ r. ⌜ r ≡ stalls step ⌝ }
 {
     match step {
         Step::Copied(_) => false,

@@ -1,12 +1,9 @@
 -- `stretch::samples::copy_unmodified_samples` meets its contract: a copy of the frames, counted in samples. Assumes nothing.
 use borrow.Author.Needs.{needs}
-use mathlib.Core.Path.{sym, ap, _∙_}
-use mathlib.Core.List.{List, _++_}
-use Prim.Native.Nat.{_+_, _*_}
+use Prim.Native.Nat.{_*_}
 use native.Mathlib.Nat.{le-refl}
-use lib.IntN.{ℤ}
-use lib.ListN.{take, drop}
-use lib.Seq.{paste, take-take}
+use lib.ListN.{drop}
+use lib.Seq.{take-take}
 use Rattle.stretch.specs.Crossfade.{copyUnmodifiedSamples}
 use borrow.Author.Needs.{needs}
 use Rattle.stretch.proofs.samples.copy_unmodified_samples.Statement.{statement}
@@ -32,8 +29,7 @@ returns c =
     let count = c .before .before .before .samples2 .ensures in
     let n = a .n .0 * a .channels in
     let s = drop (a .position .0 * a .channels) (a .input .now) in
-    c .before .copy .ensures ∙ (λ j. paste (a .stage .now) (a .to .0) (drop (from j) (a .input .now)) (count j))
-    ∙ sym (ap (λ (l : List ℤ). take (a .to .0) (a .stage .now) ++ l ++ drop (a .to .0 + n) (a .stage .now)) (take-take n n s (le-refl n)))
+    rw (take-take n n s (le-refl n)) (rw (from, count) at (c .before .copy .ensures))
 
 pub copy-unmodified-samples-spec : {M : Type 1} → statement M
 copy-unmodified-samples-spec =

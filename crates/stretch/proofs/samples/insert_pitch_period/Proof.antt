@@ -1,6 +1,6 @@
 -- `stretch::samples::insert_pitch_period` meets its contract: the period, and the crossfade behind it. Assumes nothing.
 use borrow.Author.Needs.{needs}
-use mathlib.Core.Path.{sym, ap, _∙_}
+use mathlib.Core.Path.{_≡_, sym, ap, _∙_}
 use mathlib.Core.List.{_++_}
 use Prim.Native.Nat.{_+_, _*_}
 use native.Mathlib.Nat.{mul-le-mul-left, add-mul}
@@ -56,9 +56,10 @@ returns c =
     let count = sym (add-mul (a .period .0) (a .k .0) (a .channels)) in
     let n = copyUnmodifiedSamples-length (a .channels) x (a .position .0) (a .period .0) (omega (arith, b .pre .2)) in
     let m = overlapAdd-length (a .k .0) (a .channels) (drop ((a .position .0 + a .period .0) * a .channels) x) (drop (a .position .0 * a .channels) x) in
-    c .before .overlap-add .ensures
-    ∙ (λ j. paste (copied j) (a .to .0 + past j) (overlapAdd (a .k .0) (a .channels) (drop (there j) x) (drop (here j) x)) (a .k .0 * a .channels))
-    ∙ paste-append (a .stage .now) period fade (a .to .0) (a .period .0 * a .channels) (a .k .0 * a .channels) n m (omega (arith, b .pre .3))
+    let p = a .period .0 * a .channels in
+    let wrote : c .before .overlap-add .last .1 .1 .1 .1 .1 .0 ≡ paste (paste (a .stage .now) (a .to .0) period p) (a .to .0 + p) fade (a .k .0 * a .channels) =
+    rw (copied, past, there, here) at (c .before .overlap-add .ensures) in
+    wrote ∙ paste-append (a .stage .now) period fade (a .to .0) p (a .k .0 * a .channels) n m (omega (arith, b .pre .3))
     ∙ ap (paste (a .stage .now) (a .to .0) (period ++ fade)) count
 
 pub insert-pitch-period-spec : {M : Type 1} → statement M

@@ -1,12 +1,9 @@
 -- `stretch::samples::skip_pitch_period` meets its contract. Assumes nothing.
 use borrow.Author.Needs.{needs}
-use mathlib.Core.Path.{_∙_}
-use Prim.Native.Nat.{_+_, _*_}
+use Prim.Native.Nat.{_+_}
 use native.Mathlib.Nat.{mul-le-mul-left}
 use native.Mathlib.Omega.{arith}
-use lib.ListN.{drop}
-use lib.Seq.{paste}
-use Rattle.stretch.specs.Crossfade.{overlapAdd, skipPitchPeriod}
+use Rattle.stretch.specs.Crossfade.{skipPitchPeriod}
 use borrow.Author.Needs.{needs}
 use Rattle.stretch.proofs.samples.skip_pitch_period.Statement.{statement}
 use Rattle.stretch.proofs.samples.skip_pitch_period.Tie as tie
@@ -31,12 +28,9 @@ same-length c = search needs
 returns : tie.Need-returns
 unfolding skipPitchPeriod
 returns c =
-    let a = c .before .before .before .before .before .before .before .args in
     let here = c .before .before .before .before .samples .ensures in
     let there = c .before .before .before .samples2 .ensures in
-    let x = a .input .now in
-    c .before .overlap-add .ensures
-    ∙ (λ j. paste (a .stage .now) (a .to .0) (overlapAdd (a .k .0) (a .channels) (drop (here j) x) (drop (there j) x)) (a .k .0 * a .channels))
+    rw (here, there) at (c .before .overlap-add .ensures)
 
 pub skip-pitch-period-spec : {M : Type 1} → statement M
 skip-pitch-period-spec =

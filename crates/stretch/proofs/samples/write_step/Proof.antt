@@ -1,11 +1,8 @@
 -- `stretch::samples::write_step` meets its contract, case by case. Assumes nothing.
 use borrow.Author.Needs.{needs}
-use mathlib.Core.Path.{_≡_, sym, ap, _∙_, subst}
-use mathlib.Core.List.{List}
+use mathlib.Core.Path.{_≡_, subst}
 use Prim.Native.Nat.{_+_, _*_, _≤_}
-use lib.IntN.{ℤ}
 use lib.ListN.{length}
-use lib.Seq.{paste}
 use Rattle.stretch.specs.declared.Step.{Step}
 use Rattle.period.specs.Search.{longestPeriod}
 use Rattle.stretch.specs.Steps.{framesOut, framesRead, crossfaded, samplesOut}
@@ -13,7 +10,7 @@ use borrow.Author.Needs.{needs}
 use Rattle.stretch.proofs.samples.write_step.Statement.{statement}
 use Rattle.stretch.proofs.samples.write_step.Tie as tie
 
--- what the step that was matched asks, and what it leaves
+-- what the step that was matched asks
 abbrev Asked : tie.Start → Step → Type 0
 Asked c s =
     let a = c .args in
@@ -22,11 +19,6 @@ Asked c s =
 
 asked : (c : tie.Start) {s : Step} → c .args .step ≡ s → Asked c s
 asked c e = subst (Asked c) e (c .pre)
-
-abbrev written : tie.Start → Step → List ℤ
-written c s =
-    let a = c .args in
-    paste (a .stage .now) (a .to .0) (samplesOut (a .channels) (a .input .now) (a .position .0) s) (framesOut s * a .channels)
 
 enum-known-step : tie.Need-enum-known-step
 enum-known-step c = search needs
@@ -51,27 +43,21 @@ same-length c = search needs
 
 returns : tie.Need-returns
 unfolding samplesOut
-returns c =
-    let m = c .before .before .before .before in
-    c .before .copy-unmodified-samples .ensures ∙ sym (ap (written (m .before .before)) (m .step .given .1))
+returns c = rw (c .before .before .before .before .step .given .1) (c .before .copy-unmodified-samples .ensures)
 
 same-length-2 : tie.Need-same-length-2
 same-length-2 c = search needs
 
 returns-2 : tie.Need-returns-2
 unfolding samplesOut
-returns-2 c =
-    let m = c .before .before .before .before in
-    c .before .skip-pitch-period .ensures ∙ sym (ap (written (m .before .before)) (m .step2 .given .1))
+returns-2 c = rw (c .before .before .before .before .step2 .given .1) (c .before .skip-pitch-period .ensures)
 
 same-length-3 : tie.Need-same-length-3
 same-length-3 c = search needs
 
 returns-3 : tie.Need-returns-3
 unfolding samplesOut
-returns-3 c =
-    let m = c .before .before .before .before in
-    c .before .insert-pitch-period .ensures ∙ sym (ap (written (m .before .before)) (m .step3 .given .1))
+returns-3 c = rw (c .before .before .before .before .step3 .given .1) (c .before .insert-pitch-period .ensures)
 
 pub write-step-spec : {M : Type 1} → statement M
 write-step-spec =

@@ -10,7 +10,7 @@ use lib.ListN.{length}
 use Rattle.frames.proofs.Room.{count-le}
 use Rattle.period.specs.Rates.{maxRequired}
 use Rattle.stretch.specs.declared.Stretched.the-variants.{Made}
-use Rattle.stretch.specs.declared.Turn.the-variants.{Went}
+use Rattle.stretch.specs.declared.Turn.the-variants.{NoRoom, Went}
 use Rattle.stretch.specs.Steps.{nextStep, turnFor, stageFor}
 use Rattle.stretch.specs.Speed.{begun}
 use Rattle.stretch.proofs.Progress.{required-some}
@@ -112,11 +112,14 @@ returns c =
     let k = c .before .before .before .before in
     let t = begun-at k in
     let a = start t .args in
+    let l = here t .loop in
+    let x = a .input .now in
     let begin = begun (a .time-error) (a .«record») in
-    let none = sym (k .take-step .ensures .0) ∙ c .enum-told .given .1 in
-    let over = going-full (lent (start t)) (here t .loop .inv .0) (due t) none in
-    let kept = going-full-kept (lent (start t)) (here t .loop .inv .0) (due t) none (wrote k) in
-    (full-made (a .call) (a .input .now) begin (a .room .0) over, full-staged (a .call) (a .input .now) begin (a .room .0) over kept)
+    let none : turnFor (a .call) x (l .place) (a .room .0 - l .made) (nextStep (a .call) x (l .place)) ≡ NoRoom =
+    sym (k .take-step .ensures .0) ∙ c .enum-told .given .1 in
+    let over = going-full (lent (start t)) (l .inv .0) (due t) none in
+    let kept = going-full-kept (lent (start t)) (l .inv .0) (due t) none (wrote k) in
+    (full-made (a .call) x begin (a .room .0) over, full-staged (a .call) x begin (a .room .0) over kept)
 
 enum-known-turn : tie.Need-enum-known-turn Inv-loop μ-loop
 enum-known-turn c = search needs

@@ -1,6 +1,6 @@
 -- `stretch::steps::error_after` meets its contract, case by case. Assumes nothing.
 use borrow.Author.Needs.{needs}
-use mathlib.Core.Path.{_≡_, sym, ap, _∙_, subst}
+use mathlib.Core.Path.{_≡_, subst}
 use Prim.Native.Nat.{_≤_, _^_}
 use Rattle.stretch.specs.declared.Step.{Step}
 use Rattle.stretch.specs.Steps.{framesRead, errorAfter}
@@ -31,21 +31,15 @@ error-inserted-requires c κs = (search needs, short (c .before .before .before 
 
 returns : tie.Need-returns
 unfolding errorAfter
-returns c =
-    let a = c .before .before .before .before .before .args in
-    c .error-copied .ensures ∙ sym (ap (errorAfter (a .call) (a .error)) (c .before .before .step .given .1))
+returns c = rw (c .before .before .step .given .1) (c .error-copied .ensures)
 
 returns-2 : tie.Need-returns-2
 unfolding errorAfter
-returns-2 c =
-    let a = c .before .before .before .before .before .args in
-    c .error-skipped .ensures ∙ sym (ap (errorAfter (a .call) (a .error)) (c .before .before .step2 .given .1))
+returns-2 c = rw (c .before .before .step2 .given .1) (c .error-skipped .ensures)
 
 returns-3 : tie.Need-returns-3
 unfolding errorAfter
-returns-3 c =
-    let a = c .before .before .before .before .before .args in
-    c .error-inserted .ensures ∙ sym (ap (errorAfter (a .call) (a .error)) (c .before .before .step3 .given .1))
+returns-3 c = rw (c .before .before .step3 .given .1) (c .error-inserted .ensures)
 
 pub error-after-spec : {M : Type 1} → statement M
 error-after-spec =

@@ -1,20 +1,17 @@
--- `stretch::steps::next_step` meets its contract: one case of `DueStep` for each return. Assumes nothing.
+-- `stretch::steps::next_step` meets its contract: the cases of `DueStep`. Assumes nothing.
 use borrow.Author.Needs.{needs}
 use mathlib.Core.Path.{_≡_, sym, ap, _∙_}
-use mathlib.Core.Bool.{true, false}
-use Prim.Native.Nat.{ℕ, _+_, _*_, _≤_}
+use mathlib.Core.Bool.{false}
+use Prim.Native.Nat.{_+_, _*_, _≤_}
 use native.Mathlib.Nat.{mul-le-mul-right, add-mul}
 use native.Mathlib.Omega.{arith}
-use lib.Ieee.{lt, ofBits}
-use lib.ListN.{length, drop}
-use Rattle.floats.specs.Numbers.{one}
-use Rattle.floats.specs.Steps.{copyingDue, skipCount, insertCount}
+use lib.ListN.{length}
+use Rattle.floats.specs.Steps.{copyingDue}
 use Rattle.period.specs.declared.Chosen.{Chosen}
 use Rattle.period.specs.Rates.{maxRequired}
-use Rattle.period.specs.Pitch.{findPitchPeriod}
-use Rattle.stretch.specs.declared.Step.the-variants.{Copied, Skipped, Inserted}
-use Rattle.stretch.specs.Steps.{searchAt, nextStep, recordAfter}
-use Rattle.stretch.proofs.DueStep.{nextStep-copied, nextStep-skipped, nextStep-inserted}
+use Rattle.stretch.specs.declared.Step.the-variants.{Copied}
+use Rattle.stretch.specs.Steps.{searchAt, periodStep, nextStep, recordAfter}
+use Rattle.stretch.proofs.DueStep.{nextStep-copied, nextStep-searched, recordAfter-period}
 use Rattle.stretch.proofs.steps.next_step.Statement.{statement}
 use Rattle.stretch.proofs.steps.next_step.Tie as tie
 
@@ -56,58 +53,35 @@ search-at-requires c κs =
     let b = c .before .before .before .before .before .before in
     (b .pre .0 .opened, (b .pre .1 .0, (omega (arith, inside b, c .before .samples .ensures), search needs)))
 
-skip-count-requires : tie.Need-skip-count-requires
-skip-count-requires c κs = search needs
+period-step-requires : tie.Need-period-step-requires
+period-step-requires c κs = search needs
 
 same-length : tie.Need-same-length
 same-length c = search needs
 
--- the search that both period steps start from
+-- the search
 module _ (c : tie.After-search-at) where
   abbrev start : tie.Start
   start = c .before .before .before .before .before .before .before
 
   searched : c .search-at .result ≡ searchAt (start .args .call) (start .args .input .now) (start .args .place)
   unfolding searchAt
-  searched =
-      let a = start .args in
-      c .search-at .ensures .0
-      ∙ ap (λ (n : ℕ). findPitchPeriod (drop n (a .input .now)) (a .call .channels) (a .call .rate) (a .place .«record»)) (c .before .before .samples .ensures)
+  searched = rw (c .before .before .samples .ensures) at (c .search-at .ensures .0)
 
   not-copying : copyingDue (start .args .call .speed) (start .args .place .«time_error») ≡ false
   not-copying = sym (c .before .before .before .before .copying-due .ensures) ∙ c .before .before .before .if1 .left
 
 returns-2 : tie.Need-returns-2
-unfolding recordAfter ofBits
 returns-2 c =
-    let found = c .before .before .before .before .before in
+    let found = c .before .before .before .before in
     let a = start found .args in
     let x = a .input .now in
-    let fast : lt one (a .call .speed) ≡ true = c .before .if2 .taken in
-    let due = nextStep-skipped (a .call) x (a .place) (not-copying found) fast in
-    let step : Skipped (found .search-at .result .period) (c .skip-count .result) ≡ nextStep (a .call) x (a .place) =
-    (λ i. Skipped (found .search-at .result .period) (record { 0 = c .skip-count .ensures .0 i }))
-    ∙ (λ i. Skipped (searched found i .period) (record { 0 = skipCount (a .call .speed) (searched found i .period .0) })) ∙ sym due in
-    (step, ap (λ (z : Chosen). z .«record») (searched found) ∙ ap (recordAfter (a .call) x (a .place)) (sym due), found .search-at .ensures .2)
-
-insert-count-requires : tie.Need-insert-count-requires
-insert-count-requires c κs = search needs
-
-same-length-2 : tie.Need-same-length-2
-same-length-2 c = search needs
-
-returns-3 : tie.Need-returns-3
-unfolding recordAfter ofBits
-returns-3 c =
-    let found = c .before .before .before .before .before in
-    let a = start found .args in
-    let x = a .input .now in
-    let slow : lt one (a .call .speed) ≡ false = c .before .if2 .left in
-    let due = nextStep-inserted (a .call) x (a .place) (not-copying found) slow in
-    let step : Inserted (found .search-at .result .period) (c .insert-count .result) ≡ nextStep (a .call) x (a .place) =
-    (λ i. Inserted (found .search-at .result .period) (record { 0 = c .insert-count .ensures .0 i }))
-    ∙ (λ i. Inserted (searched found i .period) (record { 0 = insertCount (a .call .speed) (searched found i .period .0) })) ∙ sym due in
-    (step, ap (λ (z : Chosen). z .«record») (searched found) ∙ ap (recordAfter (a .call) x (a .place)) (sym due), found .search-at .ensures .2)
+    let due = nextStep-searched (a .call) x (a .place) (not-copying found) in
+    let step : c .period-step .result ≡ nextStep (a .call) x (a .place) =
+    c .period-step .ensures ∙ ap (λ (z : Chosen). periodStep (a .call .speed) (z .period)) (searched found) ∙ sym due in
+    let period = searchAt (a .call) x (a .place) .period in
+    let same = ap (recordAfter (a .call) x (a .place)) due ∙ recordAfter-period (a .call) x (a .place) (a .call .speed) period in
+    (step, ap (λ (z : Chosen). z .«record») (searched found) ∙ sym same, found .search-at .ensures .2)
 
 pub next-step-spec : {M : Type 1} → statement M
 next-step-spec =
@@ -119,9 +93,6 @@ next-step-spec =
     returns
     samples-requires
     search-at-requires
-    skip-count-requires
+    period-step-requires
     same-length
-    returns-2
-    insert-count-requires
-    same-length-2
-    returns-3)
+    returns-2)

@@ -5,11 +5,10 @@ use Prim.Native.Nat.{_*_, _≤_}
 use native.Mathlib.Nat.{mul-le-mul-right, le-trans}
 use native.Mathlib.Omega.{arith}
 use borrow.Author.Tests.{lt-ltb, le-ltb}
-use lib.Seq.{paste}
 use Rattle.period.specs.Pitch.{InOrder}
 use Rattle.stretch.specs.declared.Step.{Step}
 use Rattle.stretch.specs.declared.Turn.the-variants.{Went}
-use Rattle.stretch.specs.Steps.{nextStep, framesOut, stalls, samplesOut, recordAfter, placeAfter, after, turnFor, stageFor, Sound}
+use Rattle.stretch.specs.Steps.{nextStep, framesOut, stalls, recordAfter, after, turnFor, stageFor, Sound}
 use Rattle.stretch.proofs.Soundness.{nextStep-sound, framesOut-le}
 use Rattle.stretch.proofs.steps.take_step.Statement.{statement}
 use Rattle.stretch.proofs.steps.take_step.Tie as tie
@@ -90,12 +89,10 @@ returns-2 c =
     let is = n .next-step .ensures .0 in
     let t = le-ltb (a .room .0) (framesOut (step n)) (omega (arith, out f, c .before .before .before .before .before .if1 .left)) in
     let place : c .before .place-after .result ≡ after (a .call) x (a .place) (step n) =
-    c .before .place-after .ensures ∙ (λ i. placeAfter (a .call) (a .place) (is i) (n .next-step .ensures .1 i)) in
+    rw (is, n .next-step .ensures .1) at (c .before .place-after .ensures) in
     let stall : c .stalls .result ≡ stalls (step n) = c .stalls .ensures ∙ ap stalls is in (
-      (λ i. Went (place i) (record { 0 = out f i }) (stall i)) ∙ sym (rw t),
-      c .before .before .before .write-step .ensures
-          ∙ (λ i. paste (a .stage .now) (a .to .0) (samplesOut (a .call .channels) x (a .place .position .0) (is i)) (framesOut (is i) * a .call .channels))
-          ∙ sym (rw t),
+      rw t (λ i. Went (place i) (record { 0 = out f i }) (stall i)),
+      rw t (rw is at (c .before .before .before .write-step .ensures)),
       in-order n,
     )
 
