@@ -1,6 +1,7 @@
 
 // ---- The kernels of Kelpladder beside the functions above. This text is joined to the original's, which is otherwise unchanged.
-// Each line: the kernel, our time over the original's (medians of interleaved rounds), and both times in nanoseconds.
+// Each line: the kernel, our time over the original's (medians of interleaved rounds), and both times in nanoseconds. The original's
+// numbers pass through `black_box`, so that it is not compiled for one of them.
 
 use std::hint::black_box;
 use std::time::Instant;
@@ -90,7 +91,7 @@ fn bench_search() {
             &format!("search {low}..{high}"),
             if high > 200 { 20 } else { 400 },
             || unsafe { black_box(kernel_find_pitch_period_in_range(black_box(x.as_ptr()), x.len(), low, high)).period; },
-            || { black_box(find_pitch_period_in_range(black_box(&x), low as i32, high as i32)); },
+            || { black_box(find_pitch_period_in_range(black_box(&x), black_box(low as i32), black_box(high as i32))); },
         );
     }
 }
@@ -106,7 +107,7 @@ fn bench_averages() {
             200,
             || unsafe { kernel_down_sample_input(x.as_ptr(), x.len(), ours.as_mut_ptr(), ours.len(), count, per) },
             || {
-                down_sample_input(black_box(&x), &mut theirs, count, per);
+                down_sample_input(black_box(&x), &mut theirs, count, black_box(per));
                 black_box(&theirs);
             },
         );
@@ -145,7 +146,7 @@ fn bench_interpolation() {
                 stream.old_rate_position = other.0;
                 stream.new_rate_position = other.1;
                 for c in 0..channels {
-                    theirs[c] = stream.interpolate(black_box(&x[c..]), o, n);
+                    theirs[c] = stream.interpolate(black_box(&x[c..]), black_box(o), black_box(n));
                 }
                 black_box(&theirs);
             },
@@ -163,7 +164,7 @@ fn bench_crossfade() {
             1_000,
             || unsafe { kernel_overlap_add(k, channels, x.as_ptr(), x.len(), 0, k * channels, ours.as_mut_ptr(), ours.len()) },
             || {
-                overlap_add(k, channels, &mut theirs, black_box(&x), black_box(&x[k * channels..]));
+                overlap_add(black_box(k), black_box(channels), &mut theirs, black_box(&x), black_box(&x[k * channels..]));
                 black_box(&theirs);
             },
         );
@@ -183,7 +184,7 @@ fn bench_volume() {
         },
         || {
             theirs.copy_from_slice(black_box(&x));
-            scale_samples(&mut theirs, 1.7);
+            scale_samples(&mut theirs, black_box(1.7));
             black_box(&theirs);
         },
     );
