@@ -3,4 +3,3 @@ pub mod Means
 pub mod SearchRule
 pub mod Ranges
 pub mod Record
-pub mod Figures

@@ -6,11 +6,6 @@ use Rattle.frames.specs.Clamp.{clampZ}
 use Rattle.sinc.specs.SincTable.{sincTable}
 use Rattle.sinc.specs.Sinc.{tablePlace, remainder, tableValue, sincCoefficient, weightedSum, tapSum, heldSample, interpolate, tabulate, interpolateFrame}
 
--- N 100, i 6, r 1
-pub near-the-top : sincCoefficient 6 1 100 ≡ pos 65511
-unfolding sincCoefficient tableValue tablePlace remainder sincTable
-near-the-top = refl
-
 -- N 7, i 0, r 2: −106/7 is −15 toward zero; rounding down would give −16
 pub toward-zero : sincCoefficient 0 2 7 ≡ negsuc 14
 unfolding sincCoefficient tableValue tablePlace remainder sincTable

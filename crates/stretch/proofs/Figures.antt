@@ -10,11 +10,6 @@ use Rattle.stretch.specs.Crossfade.{crossfadeSample, crossfadeFrame, cro
 use Rattle.stretch.specs.Crossfade.{copyUnmodifiedSamples, skipPitchPeriod, insertPitchPeriod}
 use Rattle.stretch.specs.Steps.{periodStep, stalls}
 
--- k = 2, down −10, up 5, t = 1: −2
-pub fade-toward-zero : crossfadeSample (negsuc 9) (pos 5) 2 1 ≡ negsuc 1
-unfolding crossfadeSample
-fade-toward-zero = refl
-
 -- period 20: s = 21 gives 1 frame, s = 22 stalls, s = 0.25 inserts 6
 pub period-steps : (periodStep (fin false 21 (pos 0)) (record { 0 = 20 }) ≡ Skipped (record { 0 = 20 }) (record { 0 = 1 }))
     × (stalls (periodStep (fin false 22 (pos 0)) (record { 0 = 20 })) ≡ true)

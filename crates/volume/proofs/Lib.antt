@@ -1,2 +1,1 @@
 mod Scaling
-mod Figures
