@@ -34,6 +34,12 @@ unfolding copyUnmodifiedSamples
 copyUnmodifiedSamples-length channels x at n h =
     length-take-le (n * channels) (drop (at * channels) x) (omega (arith, add-mul at n channels, length-drop (at * channels) x))
 
+-- the front of what is left of one channel behind t frames
+front-is : (x : List ℤ) (a t : ℕ) → getD (drop (t * 1) (drop a x)) 0 (pos 0) ≡ getD x (a + t) (pos 0)
+front-is x a t =
+    let e : a + (t * 1 + 0) ≡ a + t = omega arith in
+    getD-drop (t * 1) (drop a x) 0 (pos 0) ∙ getD-drop a x (t * 1 + 0) (pos 0) ∙ ap (λ (n : ℕ). getD x n (pos 0)) e
+
 -- ---- what stands at the places `down` and `up` of the input x, written at the place `to` of the stage
 
 module _ (x stage : List ℤ) (down up to k : ℕ) where
@@ -65,3 +71,16 @@ module _ (x stage : List ℤ) (down up to k : ℕ) where
       ∙ sym (λ j. crossfadeFrame k t (drop-drop (t * channels) down x j) (drop-drop (t * channels) up x j) channels) in
       paste-append stage l (crossfadeFrame k t (drop (down + past) x) (drop (up + past) x) channels) to past channels n m h
       ∙ ap (λ (f : List ℤ). paste stage to (l ++ f) (past + channels)) same
+
+  -- one frame more of one channel
+  pub mono-on : (t : ℕ) (v : ℤ) → to + t < length stage → v ≡ crossfadeSample (getD x (down + t) (pos 0)) (getD x (up + t) (pos 0)) k t
+      → set (paste stage to (crossfadeTo k 1 (drop down x) (drop up x) t) t) (to + t) v
+      ≡ paste stage to (crossfadeTo k 1 (drop down x) (drop up x) (suc t)) (suc t)
+  unfolding crossfadeTo crossfadeFrame
+  mono-on t v h e =
+      let l = crossfadeTo k 1 (drop down x) (drop up x) t in
+      let one : t * 1 ≡ t = omega arith in
+      let same : v ≡ crossfadeSample (getD (drop (t * 1) (drop down x)) 0 (pos 0)) (getD (drop (t * 1) (drop up x)) 0 (pos 0)) k t =
+      e ∙ sym (λ j. crossfadeSample (front-is x down t j) (front-is x up t j) k t) in
+      paste-snoc stage l to t v (crossfadeTo-length k 1 (drop down x) (drop up x) t ∙ one) h
+      ∙ ap (λ (z : ℤ). paste stage to (l ++ (z ∷ [])) (suc t)) same

@@ -1,3 +1,4 @@
+pub mod Reciprocal
 pub mod WeightedMean
 pub mod Pasting
 pub mod Crossfading

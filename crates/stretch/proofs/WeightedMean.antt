@@ -5,11 +5,11 @@ use mathlib.Core.Path.{_≡_, _∙_, subst}
 use Prim.Native.Nat.{ℕ, suc, _+_, _-_, _*_, _/_, _≤_, _<_}
 use native.Mathlib.Nat.{le-of-lt, mul-le-mul-right, div-le-of-le-mul, div-lt-iff-lt-mul, mul-comm}
 use native.Mathlib.Omega.{arith}
-use lib.IntN.{ℤ, pos, negsuc, _+ℤ_, _-ℤ_, _*ℤ_}
+use lib.IntN.{ℤ, pos, negsuc, natAbs, _+ℤ_, _-ℤ_, _*ℤ_}
 use lib.Signed.{mag, quotZ, natAbs-le}
 use mir.Syntax.{w16, w32}
 use mir.Val.{SFits, toZ, ofZ}
-use mir.Facts.{toZ-ofZ, toZ-pos, sfits-widen}
+use mir.Facts.{toZ-ofZ, toZ-pos}
 use Rattle.laws.proofs.Integers.{sfits-of-natAbs, natAbs-mul, pos-sub, mag-neg, mag-pos-neg, mag-neg-pos, mag-neg-neg}
 use Rattle.laws.proofs.Widening.{widened-reads}
 use Rattle.period.specs.Search.{longestPeriod}
@@ -58,7 +58,7 @@ i32 z = toZ w32 (ofZ w32 z)
 -- ---- each step of the code: `-fits` says that it fits, `-reads` what it reads back as
 
 module _ {down up : ℤ} {k t : ℕ} (r : Ramp down up k t) where
-  pub k-reads : toZ w32 k ≡ pos k
+  k-reads : toZ w32 k ≡ pos k
   k-reads = toZ-pos w32 (omega (arith, r .short))
 
   t-reads : toZ w32 t ≡ pos t
@@ -98,6 +98,9 @@ module _ {down up : ℤ} {k t : ℕ} (r : Ramp down up k t) where
       subst (λ (n : ℕ). mag (sum down up k t) < 32768 * n) (omega (arith, r .inside))
       (mag-weighted down up (k - t) t (r .down-sample .sfits) (r .up-sample .sfits) (omega (arith, r .inside)))
 
+  pub sum-size : natAbs (sum down up k t) ≤ 32768 * k
+  sum-size = natAbs-le (sum down up k t) sum-mag
+
   sum-is : i32 (i32 (i16 down) *ℤ i32 (toZ w32 k -ℤ toZ w32 t)) +ℤ i32 (i32 (i16 up) *ℤ toZ w32 t) ≡ sum down up k t
   sum-is = rw (toZ-ofZ down-fits, down-is, toZ-ofZ up-fits, up-is)
 
@@ -110,6 +113,3 @@ module _ {down up : ℤ} {k t : ℕ} (r : Ramp down up k t) where
   -- the mean
   pub mean-fits : SFits w16 (mean down up k t)
   mean-fits = record { sfits = mag-quot (sum down up k t) k sum-mag (omega (arith, r .inside)) }
-
-  pub mean-widens : SFits w32 (mean down up k t)
-  mean-widens = sfits-widen {w = w16} tt mean-fits

@@ -1,3 +1,4 @@
 pub mod Crossfade
+pub mod Reciprocal
 pub mod Steps
 pub mod Speed

@@ -1,11 +1,12 @@
 // The stretch: steps that copy, skip or insert pitch periods, and `change_speed` that takes them. `specs/` says what each function gives.
+mod crossfades;
 mod samples;
 mod speed;
 mod steps;
 
+pub use crossfades::overlap_add;
 use frames::Frames;
 use period::PeriodRecord;
-pub use samples::overlap_add;
 pub use speed::change_speed;
 
 // What is fixed for a call: what follows from the opening, the local speed, the play time and the frames held.

@@ -1,92 +1,15 @@
-// What a step writes into the stage: crossfades and copies.
+// What a step writes into the stage: copies and crossfades.
 use crate::Step;
+use crate::crossfades::overlap_add;
 use frames::Frames;
 use frames::Samples;
 ghost use mathlib.Core.Path.{_≡_};
-ghost use Prim.Native.Nat.{_+_, _*_, _≤_, _<_};
-ghost use lib.ListN.{length, drop};
+ghost use Prim.Native.Nat.{_+_, _*_, _≤_};
+ghost use lib.ListN.{length};
 ghost use lib.Seq.{paste};
-ghost use Rattle.stretch.specs.Crossfade.{crossfadeSample, crossfadeFrame, overlapAdd, copyUnmodifiedSamples, skipPitchPeriod, insertPitchPeriod};
+ghost use Rattle.stretch.specs.Crossfade.{copyUnmodifiedSamples, skipPitchPeriod, insertPitchPeriod};
 ghost use Rattle.period.specs.Search.{longestPeriod};
 ghost use Rattle.stretch.specs.Steps.{framesOut, framesRead, crossfaded, samplesOut};
-
-// A sample of frame t of a crossfade of k frames.
-fn crossfade_sample(down: i16, up: i16, k: Frames, t: Frames) -> i16
-    requires { ⌜ (t .0 < k .0) × (k .0 ≤ longestPeriod) ⌝ }
-    ensures { λ r. ⌜ r ≡ crossfadeSample down up (k .0) (t .0) ⌝ }
-{
-    let n = k.0 as i32;
-    let m = t.0 as i32;
-    let sum = (down as i32) * (n - m) + (up as i32) * m;
-    (sum / n) as i16
-}
-
-// Writes frame t of a crossfade of k frames, which stands at the places `down` and `up` of the input, at the place `to` of the stage.
-fn crossfade_frame(
-    k: Frames,
-    t: Frames,
-    channels: usize,
-    input: &[i16],
-    down: Samples,
-    up: Samples,
-    stage: &mut [i16],
-    to: Samples,
-)
-    requires { ⌜ (t .0 < k .0) × (k .0 ≤ longestPeriod) ⌝ }
-    requires { ⌜ (down .0 + channels ≤ length (now input)) × (up .0 + channels ≤ length (now input)) × (to .0 + channels ≤ length (now stage)) ⌝ }
-    ensures { λ _. ⌜ now (stage .exit) ≡ paste (now (stage .entry)) (to .0)
-        (crossfadeFrame (k .0) (t .0) (drop (down .0) (now (input .entry))) (drop (up .0) (now (input .entry))) channels) channels ⌝ }
-{
-    let from = down.0;
-    let into = up.0;
-    let at = to.0;
-    let mut i: usize = 0;
-    while i < channels {
-        let a = input[from + i];
-        let b = input[into + i];
-        let sample = crossfade_sample(a, b, k, t);
-        stage[at + i] = sample;
-        i += 1;
-    }
-}
-
-// A crossfade of k frames from the place `down` of the input into the place `up`, written at the place `to` of the stage.
-pub fn overlap_add(
-    k: Frames,
-    channels: usize,
-    input: &[i16],
-    down: Samples,
-    up: Samples,
-    stage: &mut [i16],
-    to: Samples,
-)
-    requires { ⌜ k .0 ≤ longestPeriod ⌝ }
-    requires { ⌜ (down .0 + k .0 * channels ≤ length (now input)) × (up .0 + k .0 * channels ≤ length (now input))
-        × (to .0 + k .0 * channels ≤ length (now stage)) ⌝ }
-    ensures { λ _. ⌜ now (stage .exit) ≡ paste (now (stage .entry)) (to .0)
-        (overlapAdd (k .0) channels (drop (down .0) (now (input .entry))) (drop (up .0) (now (input .entry)))) (k .0 * channels) ⌝ }
-{
-    let n = k.0;
-    let from = down.0;
-    let into = up.0;
-    let at = to.0;
-    let mut past: usize = 0;
-    let mut t: usize = 0;
-    while t < n {
-        crossfade_frame(
-            k,
-            Frames(t),
-            channels,
-            input,
-            Samples(from + past),
-            Samples(into + past),
-            stage,
-            Samples(at + past),
-        );
-        past += channels;
-        t += 1;
-    }
-}
 
 // Copies n frames of the input from the position on to the place `to` of the stage.
 fn copy_unmodified_samples(

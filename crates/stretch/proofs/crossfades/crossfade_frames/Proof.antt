@@ -1,4 +1,4 @@
--- `stretch::samples::overlap_add` meets its contract. The loop's invariant: the frames passed stand in the stage. Assumes nothing.
+-- `stretch::crossfades::crossfade_frames` meets its contract. The loop's invariant: the frames passed stand in the stage. Assumes nothing.
 use borrow.Author.Needs.{needs}
 use mathlib.Core.Path.{_≡_, refl, sym, ap, _∙_}
 use mathlib.Core.List.{List, []}
@@ -11,16 +11,16 @@ use lib.ListN.{length, drop}
 use lib.Seq.{paste, paste-zero}
 use Rattle.stretch.specs.Crossfade.{crossfadeFrame, crossfadeTo, overlapAdd}
 use Rattle.stretch.proofs.Crossfading.{crossfade-on}
-use Rattle.stretch.proofs.samples.overlap_add.Statement.{statement}
-use Rattle.stretch.proofs.samples.overlap_add.Tie as tie
+use Rattle.stretch.proofs.crossfades.crossfade_frames.Statement.{statement}
+use Rattle.stretch.proofs.crossfades.crossfade_frames.Tie as tie
 
 abbrev Inv-loop : tie.InvT-loop
-Inv-loop k channels input stage₀ n from into at past₀ t₀ stage past t =
+Inv-loop k reciprocal channels input stage₀ n from into at past₀ t₀ stage past t =
     (t ≤ n) × (past ≡ t * channels) × (stage ≡ paste stage₀ at (crossfadeTo (k .0) channels (drop from input) (drop into input) t) past)
     × (length stage ≡ length stage₀)
 
 abbrev μ-loop : tie.MeasureT-loop
-μ-loop k channels input stage₀ n from into at past₀ t₀ stage past t = n - t
+μ-loop k reciprocal channels input stage₀ n from into at past₀ t₀ stage past t = n - t
 
 loop-holds : tie.Need-loop-holds Inv-loop μ-loop
 unfolding crossfadeTo
@@ -34,19 +34,19 @@ room c h =
     let m : (c .loop .t + 1) * a .channels ≤ a .k .0 * a .channels = mul-le-mul-right (a .channels) (omega arith) in
     omega (arith, c .loop .inv .1)
 
-add-t17 : tie.Need-add-t17 Inv-loop μ-loop
-add-t17 c = record { fits = omega (arith, room (c .before) (omega arith)) }
+add-t18 : tie.Need-add-t18 Inv-loop μ-loop
+add-t18 c = record { fits = omega (arith, room (c .before) (omega arith)) }
 
-add-t19 : tie.Need-add-t19 Inv-loop μ-loop
-add-t19 c = record { fits = omega (arith, room (c .before) (omega arith)) }
+add-t20 : tie.Need-add-t20 Inv-loop μ-loop
+add-t20 c = record { fits = omega (arith, room (c .before) (omega arith)) }
 
-add-t23 : tie.Need-add-t23 Inv-loop μ-loop
-add-t23 c = record { fits = omega (arith, room (c .before .before) (omega arith)) }
+add-t24 : tie.Need-add-t24 Inv-loop μ-loop
+add-t24 c = record { fits = omega (arith, room (c .before .before) (omega arith)) }
 
 crossfade-frame-requires : tie.Need-crossfade-frame-requires Inv-loop μ-loop
 crossfade-frame-requires c κs =
     let r = room (c .before .before) (omega arith) in
-    ((omega arith, omega arith), (omega arith, omega arith, omega (arith, c .before .before .loop .inv .3)))
+    ((omega arith, omega arith, c .before .before .before .pre .0 .1), (omega arith, omega arith, omega (arith, c .before .before .loop .inv .3)))
 
 add-past : tie.Need-add-past Inv-loop μ-loop
 add-past c = record { fits = omega (arith, room (c .before .before .before .before) (omega arith)) }
@@ -64,7 +64,7 @@ loop-again c =
     let x = a .input .now in
     let r = room (c .before .before .before .before) (omega arith) in
     let frame = crossfadeFrame (a .k .0) (l .t) (drop (a .down .0 + l .past) x) (drop (a .up .0 + l .past) x) (a .channels) in
-    let wrote : c .before .crossfade-frame .last .1 .1 .1 .1 .1 .1 .0 ≡ paste (l .stage) (a .to .0 + l .past) frame (a .channels) =
+    let wrote : c .before .crossfade-frame .last .1 .1 .1 .1 .1 .1 .1 .0 ≡ paste (l .stage) (a .to .0 + l .past) frame (a .channels) =
     c .before .crossfade-frame .ensures in
     let on = crossfade-on x (a .stage .now) (a .down .0) (a .up .0) (a .to .0) (a .k .0) (a .channels) (l .t) (l .past) (l .inv .1) (omega arith) in (
       omega arith,
@@ -86,16 +86,16 @@ returns c =
     let x = a .input .now in
     l .inv .2 ∙ (λ j. paste (a .stage .now) (a .to .0) (crossfadeTo (a .k .0) (a .channels) (drop (a .down .0) x) (drop (a .up .0) x) (e j)) (past j))
 
-pub overlap-add-spec : {M : Type 1} → statement M
-overlap-add-spec =
+pub crossfade-frames-spec : {M : Type 1} → statement M
+crossfade-frames-spec =
     tie.close
     (tie.spec
     Inv-loop
     μ-loop
     loop-holds
-    add-t17
-    add-t19
-    add-t23
+    add-t18
+    add-t20
+    add-t24
     crossfade-frame-requires
     add-past
     add-t

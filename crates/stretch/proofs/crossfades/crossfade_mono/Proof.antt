@@ -1,4 +1,4 @@
--- `stretch::samples::crossfade_frame` meets its contract. The loop's invariant: the samples passed stand in the stage. Assumes nothing.
+-- `stretch::crossfades::crossfade_mono` meets its contract. The loop's invariant: the samples passed stand in the stage. Assumes nothing.
 use borrow.Author.Needs.{needs}
 use mathlib.Core.Path.{_≡_, refl, ap, _∙_}
 use mathlib.Core.List.{List, []}
@@ -11,20 +11,20 @@ use lib.Seq.{paste, paste-zero}
 use mir.Syntax.{w16}
 use mir.Val.{SFits}
 use mir.Facts.{toZ-ofZ}
-use Rattle.stretch.specs.Crossfade.{crossfadeSample, crossfadeFrame}
-use Rattle.stretch.proofs.Crossfading.{frame-on}
-use Rattle.stretch.proofs.samples.crossfade_frame.Statement.{statement}
-use Rattle.stretch.proofs.samples.crossfade_frame.Tie as tie
+use Rattle.stretch.specs.Crossfade.{crossfadeSample, crossfadeTo, overlapAdd}
+use Rattle.stretch.proofs.Crossfading.{mono-on}
+use Rattle.stretch.proofs.crossfades.crossfade_mono.Statement.{statement}
+use Rattle.stretch.proofs.crossfades.crossfade_mono.Tie as tie
 
 abbrev Inv-loop : tie.InvT-loop
-Inv-loop k t channels input stage₀ from into at i₀ stage i =
-    (i ≤ channels) × (stage ≡ paste stage₀ at (crossfadeFrame (k .0) (t .0) (drop from input) (drop into input) i) i) × (length stage ≡ length stage₀)
+Inv-loop k reciprocal input stage₀ n from into at t₀ stage t =
+    (t ≤ n) × (stage ≡ paste stage₀ at (crossfadeTo (k .0) 1 (drop from input) (drop into input) t) t) × (length stage ≡ length stage₀)
 
 abbrev μ-loop : tie.MeasureT-loop
-μ-loop k t channels input stage₀ from into at i₀ stage i = channels - i
+μ-loop k reciprocal input stage₀ n from into at t₀ stage t = n - t
 
 loop-holds : tie.Need-loop-holds Inv-loop μ-loop
-unfolding crossfadeFrame
+unfolding crossfadeTo
 loop-holds c = (omega arith, paste-zero (c .args .stage .now) (c .args .to .0) [], refl)
 
 add-a : tie.Need-add-a Inv-loop μ-loop
@@ -57,8 +57,8 @@ mul-sample c = search needs
 slice-set-from-sample : tie.Need-slice-set-from-sample Inv-loop μ-loop
 slice-set-from-sample c = search needs
 
-add-i : tie.Need-add-i Inv-loop μ-loop
-add-i c = search needs
+add-t : tie.Need-add-t Inv-loop μ-loop
+add-t c = search needs
 
 loop-less : tie.Need-loop-less Inv-loop μ-loop
 loop-less c = search needs
@@ -68,13 +68,13 @@ loop-again c =
     let a = c .before .before .before .before .before .args in
     let l = c .before .before .before .before .loop in
     let x = a .input .now in
-    let down : SFits w16 (getD x (a .down .0 + l .i) (pos 0)) = record { sfits = c .before .before .a .given } in
-    let up : SFits w16 (getD x (a .up .0 + l .i) (pos 0)) = record { sfits = c .before .b .given } in
+    let down : SFits w16 (getD x (a .down .0 + l .t) (pos 0)) = record { sfits = c .before .before .a .given } in
+    let up : SFits w16 (getD x (a .up .0 + l .t) (pos 0)) = record { sfits = c .before .b .given } in
     let sample : SFits w16 (c .crossfade-sample .result) = record { sfits = c .crossfade-sample .ok } in
-    let is = c .crossfade-sample .ensures ∙ (λ j. crossfadeSample (toZ-ofZ down j) (toZ-ofZ up j) (a .k .0) (a .t .0)) in
-    let on = frame-on x (a .stage .now) (a .down .0) (a .up .0) (a .to .0) (a .k .0) (a .t .0) (l .i) (c .crossfade-sample .result) (omega arith) is in (
+    let is = c .crossfade-sample .ensures ∙ (λ j. crossfadeSample (toZ-ofZ down j) (toZ-ofZ up j) (a .k .0) (l .t)) in
+    let on = mono-on x (a .stage .now) (a .down .0) (a .up .0) (a .to .0) (a .k .0) (l .t) (c .crossfade-sample .result) (omega arith) is in (
       omega arith,
-      rw (toZ-ofZ sample, add-one) (ap (λ (r : List ℤ). set r (a .to .0 + l .i) (c .crossfade-sample .result)) (l .inv .1) ∙ on),
+      rw (toZ-ofZ sample, add-one) (ap (λ (r : List ℤ). set r (a .to .0 + l .t) (c .crossfade-sample .result)) (l .inv .1) ∙ on),
       simp length-set (l .inv .2),
     )
 
@@ -82,12 +82,16 @@ same-length : tie.Need-same-length Inv-loop μ-loop
 same-length c = search needs
 
 returns : tie.Need-returns Inv-loop μ-loop
+unfolding overlapAdd
 returns c =
-    let e : c .before .loop .i ≡ c .before .before .args .channels = omega arith in
-    rw (← e) (c .before .loop .inv .1)
+    let l = c .before .loop in
+    let a = c .before .before .args in
+    let e : l .t ≡ a .k .0 = omega arith in
+    let x = a .input .now in
+    l .inv .1 ∙ (λ j. paste (a .stage .now) (a .to .0) (crossfadeTo (a .k .0) 1 (drop (a .down .0) x) (drop (a .up .0) x) (e j)) (e j))
 
-pub crossfade-frame-spec : {M : Type 1} → statement M
-crossfade-frame-spec =
+pub crossfade-mono-spec : {M : Type 1} → statement M
+crossfade-mono-spec =
     tie.close
     (tie.spec
     Inv-loop
@@ -103,7 +107,7 @@ crossfade-frame-spec =
     add-sample
     mul-sample
     slice-set-from-sample
-    add-i
+    add-t
     loop-less
     loop-again
     same-length
