@@ -22,7 +22,7 @@ extern "C" {
     fn kernel_error_skipped(error: f32, s: f32, period: f32, play: f32, held: usize, p: usize, k: usize) -> f32;
     fn kernel_error_inserted(error: f32, s: f32, period: f32, play: f32, held: usize, p: usize, k: usize) -> f32;
     fn kernel_new_rate(rate: u32, pitch: f32) -> usize;
-    fn kernel_fixed_point(volume: f32) -> i32;
+    fn kernel_gain(volume: f32) -> usize;
 }
 
 /// A xorshift generator.
@@ -158,8 +158,7 @@ fn settings_and_times(r: &mut Random) {
         let kept = ((n as f32 / (a / b) + held as f32) / b + 0.5) as usize;
         equal("expected_frames", kernel_expected_frames(n, held, a, b), kept, &(n, held, a, b));
         equal("new_rate", kernel_new_rate(n as u32, a), (n as f32 / a) as usize, &(n, a));
-        let volume = clamp(a, 0.01, 100.0);
-        equal("fixed_point", kernel_fixed_point(volume), (volume * 256.0) as i32, &volume);
+        equal("gain", kernel_gain(a), (a * 256.0) as usize, &a);
     }
 }
 

@@ -1,10 +1,8 @@
 // Conversions as Rust's `as` has them, on every input.
 use frames::Frames;
 ghost use mathlib.Core.Path.{_≡_};
-ghost use mathlib.Core.Bool.{false};
 ghost use Prim.Native.Nat.{_≤_, _^_};
 ghost use lib.Ieee.{toSigned, toUnsigned};
-ghost use lib.Ieee.Exact.{HasValue};
 ghost use Rattle.floats.specs.Numbers.{count, narrow};
 
 // x as an f32: the nearest one, a tie to the even one; an infinity past the largest; a NaN for a NaN.

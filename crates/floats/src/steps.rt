@@ -2,7 +2,7 @@
 use frames::Frames;
 ghost use mathlib.Core.Path.{_≡_};
 ghost use mathlib.Core.Bool.{_&&_, _||_};
-ghost use Prim.Native.Nat.{_+_, _<_, _≤_, _^_, max};
+ghost use Prim.Native.Nat.{_+_, _<_, _≤_, _^_};
 ghost use Rattle.floats.specs.Steps.{copyingDue, toCopy, copyCount, skipCount, insertCount, errorCopied, errorMoved, errorSkipped, errorInserted};
 
 // Whether all three hold.

@@ -2,11 +2,9 @@
 use frames::Frames;
 ghost use mathlib.Core.Path.{_≡_};
 ghost use Prim.Native.Nat.{_+_, _<_, _≤_, _^_};
-ghost use lib.Dec.{T};
-ghost use lib.IntN.{pos};
-ghost use lib.Ieee.{le, toSigned, toUnsigned};
+ghost use lib.Ieee.{toSigned, toUnsigned};
 ghost use Rattle.floats.specs.Numbers.{narrow};
-ghost use Rattle.floats.specs.Settings.{clamped, samplePeriod, minVolume, maxVolume};
+ghost use Rattle.floats.specs.Settings.{clamped, samplePeriod};
 ghost use Rattle.floats.specs.Write.{sampleIn, sampleOut, playTimeGrown, playTimeLeft, localSpeed, speedChanges};
 ghost use Rattle.floats.specs.Steps.{copyingDue, copyCount, skipCount, insertCount, errorCopied, errorSkipped, errorInserted};
 ghost use Rattle.floats.specs.Scales.{newRate, gain};
@@ -190,9 +188,8 @@ pub extern "C" fn kernel_new_rate(rate: u32, pitch: f32) -> usize
 }
 
 #[no_mangle]
-pub extern "C" fn kernel_fixed_point(volume: f32) -> i32
-    requires { ⌜ T (le minVolume volume) × T (le volume maxVolume) ⌝ }
-    ensures { λ r. ⌜ r ≡ pos (gain volume) ⌝ }
+pub extern "C" fn kernel_gain(volume: f32) -> usize
+    ensures { λ r. ⌜ r ≡ gain volume ⌝ }
 {
-    floats::scales::fixed_point(volume)
+    floats::scales::gain(volume)
 }

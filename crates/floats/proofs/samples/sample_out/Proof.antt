@@ -1,4 +1,4 @@
-use mathlib.Core.Path.{ap, _∙_}
+use mathlib.Core.Path.{ap}
 use lib.IntN.{ℤ}
 use lib.Ieee.{binary32, div, ofInt, ofBits}
 use mir.Syntax.{w16}

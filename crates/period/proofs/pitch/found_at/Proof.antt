@@ -1,7 +1,7 @@
 -- `period::pitch::found_at` meets its contract: the second search is handed a period near the range (`proofs/Ranges.antt`). Assumes nothing.
 use borrow.Author.Needs.{needs}
 use mathlib.Core.Path.{_≡_, sym, ap, _∙_}
-use Prim.Native.Nat.{_-_, _*_}
+use Prim.Native.Nat.{_*_}
 use native.Mathlib.Omega.{arith}
 use borrow.Author.Tests.{eq-eqb, ne-eqb}
 use Rattle.period.specs.declared.Found.{Found}
