@@ -6,13 +6,9 @@ use native.Mathlib.Nat.{suc-mul, zero-mul, zero-add, suc-add}
 use native.Mathlib.Omega.{arith}
 use lib.ListN.{length, take, drop}
 use lib.Seq.{take-add, take-take, take-at, drop-at, drop-drop, take-nil}
-use Rattle.frames.specs.Framing.{framesOf}
+use Rattle.frames.specs.Framing.{framesOf, flat}
 
 module _ {A : Type 0} where
-  unfoldable pub flat : List (List A) → List A
-  flat [] = []
-  flat (x ∷ xs) = x ++ flat xs
-
   pub length-framesOf : (ch k : ℕ) (a : List A) → length (framesOf ch k a) ≡ k
   unfolding framesOf
   length-framesOf ch zero a = refl

@@ -1,0 +1,5 @@
+pub mod State
+pub mod Process
+pub mod Kept
+pub mod Filling
+pub mod Finishing
