@@ -1,4 +1,4 @@
--- What copying or stretching leaves alone in a state. Assumes nothing.
+-- What copying or stretching leaves alone in a state, and a call's work in its settings. Assumes nothing.
 use mathlib.Core.Path.{_≡_, refl}
 use mathlib.Core.Bool.{Bool, true, false, cond}
 use lib.Dec.{eqb, ltb}
@@ -10,7 +10,7 @@ use Rattle.stretch.specs.Speed.{stalled}
 use Rattle.process.specs.declared.Setup.{Setup}
 use Rattle.process.specs.declared.Outcome.{Outcome}
 use Rattle.process.specs.State.{State}
-use Rattle.process.specs.Process.{Taken, removed, nothing, copied, stepsAt, stretched, takenAt, speedAt, taken}
+use Rattle.process.specs.Process.{Taken, removed, nothing, copied, stepsAt, stretched, takenAt, speedAt, taken, finished, process}
 
 -- settings, tail and positions of s
 pub record Keeps (s t : State) : Type 0 where
@@ -47,3 +47,7 @@ pub taken-keeps : (u : Setup) (s : State) → Keeps s (taken u s .state)
 unfolding taken
 taken-keeps u s =
     keeps-cases (λ (t : Taken). t .state) (eqb (length (s .input)) 0) (nothing-keeps Outcome.Empty s) (at-keeps u (speedAt u s) s)
+
+pub process-settings : (u : Setup) (s : State) → process u s .state .settings ≡ s .settings
+unfolding process finished
+process-settings u s = taken-keeps u s .settings

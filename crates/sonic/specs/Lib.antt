@@ -1,0 +1,6 @@
+pub mod Settings
+pub mod Stream
+pub mod Refusals
+pub mod Calls
+pub mod Reading
+pub mod Working

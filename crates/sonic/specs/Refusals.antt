@@ -1,0 +1,96 @@
+-- Document 01, "Areas and refusals": the table's tests, in its order. Definitions only. Assumes nothing.
+use mathlib.Core.Bool.{Bool, not, cond, _&&_, _||_}
+use mathlib.Core.List.{List}
+use Prim.Native.Nat.{ℕ, _+_, _*_}
+use lib.Dec.{leb, ltb, eqb}
+use lib.IntN.{ℤ}
+use lib.Ieee.{Float, le, eq}
+use lib.ListN.{length}
+use Rattle.floats.specs.Settings.{samplePeriod, minPitch, maxPitch, minVolume, maxVolume}
+use Rattle.period.specs.Rates.{minPeriod, maxPeriod, maxRequired}
+use Rattle.period.specs.Search.{widestGap}
+use Rattle.rate.specs.declared.Rates.{Rates}
+use Rattle.rate.specs.Halving.{ratesOf}
+use Rattle.rate.specs.Tail.{ceilDiv}
+use Rattle.sonic.specs.declared.SonicStream.{SonicStream}
+use Rattle.sonic.specs.Stream.{Areas}
+
+-- 1: rate outside 1,000..=500,000
+unfoldable pub rateBad : ℕ → Bool
+rateBad rate = ltb rate 1000 || ltb 500000 rate
+
+-- 2: channels outside 1..=32
+unfoldable pub channelsBad : ℕ → Bool
+channelsBad channels = ltb channels 1 || ltb 32 channels
+
+-- ---- 3: stream value not in order
+
+abbrev pub within : Float → Float → Float → Bool
+within low high x = le low x && le x high
+
+-- rate and channels in range, T that of the rate
+unfoldable pub openedInOrder : SonicStream → Bool
+openedInOrder s = not (rateBad (s .rate)) && (not (channelsBad (s .channels)) && eq (s .«sample_period») (samplePeriod (s .rate)))
+
+unfoldable pub settingsInOrder : SonicStream → Bool
+settingsInOrder s =
+    within minPitch maxPitch (s .speed) && (within minPitch maxPitch (s .pitch) && within minVolume maxVolume (s .volume))
+
+-- previous period 0 or in range, previous least mean in 0..=65,535
+unfoldable pub recordInOrder : SonicStream → Bool
+recordInOrder s =
+    (eqb (s .«prev_period») 0 || (leb (minPeriod (s .rate)) (s .«prev_period») && leb (s .«prev_period») (maxPeriod (s .rate))))
+    && leb (s .«prev_min_diff») widestGap
+
+-- 0 ≤ p < O and n the least whole number with n·O ≥ p·N
+unfoldable pub positionsInOrder : Rates → SonicStream → Bool
+positionsInOrder r s =
+    ltb (s .«old_rate_position») (r .old) && eqb (s .«new_rate_position») (ceilDiv (s .«old_rate_position» * r .new) (r .old))
+
+-- play time, time error and counts are free
+unfoldable pub inOrder : SonicStream → Bool
+inOrder s = openedInOrder s && (settingsInOrder s && (recordInOrder s && positionsInOrder (ratesOf (s .rate) (s .pitch)) s))
+
+-- ---- 4 to 7, by the lengths of the areas
+
+-- the longest area, in samples
+abbrev pub maxArea : ℕ
+maxArea = 16777216
+
+abbrev pub tooLong : List ℤ → Bool
+tooLong area = ltb maxArea (length area)
+
+-- an area shorter than k frames
+abbrev pub tooShort : ℕ → ℕ → List ℤ → Bool
+tooShort channels k area = ltb (length area) (k * channels)
+
+-- an area too long, or scratch shorter than `max_required`
+unfoldable pub sizesBad : SonicStream → Areas → Bool
+sizesBad s a =
+    tooLong (a .input) || (tooLong (a .stage) || (tooLong (a .output) || (tooLong (a .scratch) || ltb (length (a .scratch)) (maxRequired (s .rate)))))
+
+-- an area shorter than what the stream says it holds
+unfoldable pub partsBad : SonicStream → List ℤ → List ℤ → List ℤ → Bool
+partsBad s input stage output =
+    tooShort (s .channels) (s .held .0) input || (tooShort (s .channels) (s .tail .0) stage || tooShort (s .channels) (s .waiting .0) output)
+
+-- 4: one of the two
+unfoldable pub areasBad : SonicStream → Areas → Bool
+areasBad s a = sizesBad s a || partsBad s (a .input) (a .stage) (a .output)
+
+-- 4 of a read, which is lent the output alone
+unfoldable pub outputBad : SonicStream → List ℤ → Bool
+outputBad s output = tooLong output || tooShort (s .channels) (s .waiting .0) output
+
+-- the number of a write or a flush that adds, stages and makes so many frames; 0: accepted
+unfoldable pub refusal : SonicStream → Areas → ℕ → ℕ → ℕ → ℕ
+refusal s a added staged made =
+    cond (not (inOrder s)) 3
+    (cond (areasBad s a) 4
+    (cond (tooShort (s .channels) (s .held .0 + added) (a .input)) 5
+    (cond (tooShort (s .channels) (s .tail .0 + staged) (a .stage)) 6
+    (cond (tooShort (s .channels) (s .waiting .0 + made) (a .output)) 7 0))))
+
+-- that of a read
+unfoldable pub readRefusal : SonicStream → List ℤ → ℕ
+readRefusal s output = cond (not (inOrder s)) 3 (cond (outputBad s output) 4 0)

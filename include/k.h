@@ -1,0 +1,123 @@
+/* Kelpladder: the Sonic speech stretcher over lent areas, for C.
+ *
+ * A sample in an area is one int16_t; a frame is one sample per channel, interleaved. Counts of frames and of samples are named for
+ * their unit. The stream is a value: each call takes one and hands one back. Its samples are in four areas that the caller lends:
+ *   input    written frames not yet used
+ *   stage    the tail of the rate conversion, and the stretched frames of a call
+ *   output   frames waiting to be read
+ *   scratch  averages; free after any call
+ * The caller passes the stream and the areas of the call before, and changes neither. Areas may be longer or shorter from call to call.
+ * No call allocates. A refused call changes nothing that is kept. */
+#ifndef KELPLADDER_H
+#define KELPLADDER_H
+
+#include <stddef.h>
+#include <stdint.h>
+
+#ifdef __cplusplus
+extern "C" {
+#endif
+
+/* Numbers of refusal; 0 if a call was accepted. They are tested in this order. */
+enum kelpladder_refusal {
+    KELPLADDER_ACCEPTED = 0,
+    KELPLADDER_BAD_RATE = 1,     /* opening: rate outside 1,000..=500,000 */
+    KELPLADDER_BAD_CHANNELS = 2, /* opening: channels outside 1..=32 */
+    KELPLADDER_BAD_STREAM = 3,   /* the stream value is not in order */
+    KELPLADDER_BAD_AREAS = 4,    /* an area above 16,777,216 samples, a scratch below 2*(rate/65), or an area below what the stream holds */
+    KELPLADDER_INPUT_FULL = 5,   /* frames held plus frames added exceed the input area */
+    KELPLADDER_STAGE_FULL = 6,   /* tail plus stretched or copied frames exceed the stage */
+    KELPLADDER_OUTPUT_FULL = 7   /* frames waiting plus frames made exceed the output area */
+};
+
+/* How an accepted write or flush went. */
+enum kelpladder_outcome {
+    KELPLADDER_EMPTY = 0,     /* nothing is held */
+    KELPLADDER_COPIED = 1,    /* all frames held went on unstretched */
+    KELPLADDER_WAITING = 2,   /* a stretch is due, and too few frames are held */
+    KELPLADDER_STRETCHED = 3, /* stretched */
+    KELPLADDER_STALLED = 4    /* a step gave no frame: nothing left the input */
+};
+
+/* The stream's value. */
+typedef struct kelpladder_stream {
+    uint32_t rate;            /* Hz */
+    uint32_t channels;
+    float speed;
+    float pitch;
+    float volume;
+    float sample_period;      /* seconds */
+    float input_play_time;    /* seconds that the frames held are to last */
+    float time_error;         /* seconds */
+    size_t old_rate_position;
+    size_t new_rate_position;
+    size_t prev_period;       /* frames; 0 before the first search */
+    size_t prev_min_diff;
+    size_t held;              /* frames in the input area */
+    size_t tail;              /* frames in the stage */
+    size_t waiting;           /* frames in the output area */
+} kelpladder_stream;
+
+/* An opening: refused, `given` is the rate or the channels given, and every field of the stream is 0. */
+typedef struct kelpladder_opened {
+    uint32_t refusal;
+    uint32_t given;           /* 0 if accepted */
+    kelpladder_stream stream;
+} kelpladder_opened;
+
+/* A setting. */
+typedef struct kelpladder_changed {
+    uint32_t refusal;
+    kelpladder_stream stream;
+} kelpladder_changed;
+
+/* The frames waiting; 0 if refused. */
+typedef struct kelpladder_available {
+    uint32_t refusal;
+    size_t frames;
+    kelpladder_stream stream;
+} kelpladder_available;
+
+/* A write or a flush; the outcome is 0 if refused. */
+typedef struct kelpladder_wrote {
+    uint32_t refusal;
+    uint32_t outcome;
+    kelpladder_stream stream;
+} kelpladder_wrote;
+
+/* A read: the frames given; 0 if refused. */
+typedef struct kelpladder_gave {
+    uint32_t refusal;
+    size_t frames;
+    kelpladder_stream stream;
+} kelpladder_gave;
+
+/* Opens a stream; refusals 1 and 2. */
+kelpladder_opened kelpladder_open(uint32_t rate, uint32_t channels);
+
+/* Set the speed or the pitch (0.05..=20) or the volume (0.01..=100), each held to its range, a NaN to its lower end; refusal 3. */
+kelpladder_changed kelpladder_set_speed(kelpladder_stream stream, float speed);
+kelpladder_changed kelpladder_set_pitch(kelpladder_stream stream, float pitch);
+kelpladder_changed kelpladder_set_volume(kelpladder_stream stream, float volume);
+
+/* The frames waiting to be read; refusal 3. */
+kelpladder_available kelpladder_available_frames(kelpladder_stream stream);
+
+/* Writes the whole frames of the samples; a partial last frame is dropped. Refusals 3 to 7. Each pointer is followed by its length. */
+kelpladder_wrote kelpladder_write_f32(kelpladder_stream stream, const float *samples, size_t samples_length,
+                                      int16_t *input, size_t input_length, int16_t *stage, size_t stage_length,
+                                      int16_t *output, size_t output_length, int16_t *scratch, size_t scratch_length);
+
+/* Gives the least of the frames waiting, `most_frames` and the whole frames of the slice; its other places stay. Refusals 3 and 4. */
+kelpladder_gave kelpladder_read_f32(kelpladder_stream stream, size_t most_frames, float *slice, size_t slice_length,
+                                    int16_t *output, size_t output_length);
+
+/* Makes frames of what is held and of silence, keeps those expected, and clears what is held. Refusals 3 to 7. */
+kelpladder_wrote kelpladder_flush(kelpladder_stream stream, int16_t *input, size_t input_length, int16_t *stage, size_t stage_length,
+                                  int16_t *output, size_t output_length, int16_t *scratch, size_t scratch_length);
+
+#ifdef __cplusplus
+}
+#endif
+
+#endif
