@@ -7,7 +7,6 @@ use lib.ListN.{length}
 use Rattle.frames.specs.Framing.{framesOf}
 use Rattle.floats.specs.Write.{playTimeGrown, playTimeLeft, localSpeed}
 use Rattle.period.specs.declared.PeriodRecord.{PeriodRecord}
-use Rattle.rate.specs.declared.Position.{Position}
 use Rattle.process.specs.declared.Setup.{Setup}
 use Rattle.process.specs.declared.Kept.{Kept}
 use Rattle.process.specs.State.{State}

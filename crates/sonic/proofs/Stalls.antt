@@ -1,7 +1,7 @@
 -- Demand 1: an accepted write or flush answers stalled exactly when one of its stretch steps gives no frame. Assumes nothing.
 use mathlib.Core.Path.{_≡_, refl, sym, ap, _∙_, subst}
 use mathlib.Core.List.{List, _++_, map}
-use Prim.Native.Nat.{ℕ, zero, suc, _+_, _*_, _^_, _≤_}
+use Prim.Native.Nat.{ℕ, zero, suc, _+_, _*_, _≤_}
 use native.Mathlib.Omega.{arith}
 use lib.IntN.{pos}
 use lib.Ieee.{Float}
@@ -21,7 +21,7 @@ use Rattle.sonic.specs.declared.SonicStream.{SonicStream}
 use Rattle.sonic.specs.declared.Wrote.{Wrote}
 use Rattle.sonic.specs.Stream.{Areas, setupOf, keptIn, stateIn}
 use Rattle.sonic.specs.Refusals.{refusal}
-use Rattle.sonic.specs.Calls.{Call, refusedCall, acceptedCall, callBy, writeCall, flushCall}
+use Rattle.sonic.specs.Calls.{refusedCall, acceptedCall, callBy, writeCall, flushCall}
 use Rattle.sonic.specs.Working.{Accepted}
 use Rattle.sonic.proofs.InOrder.{opened-of, ready-of, areas-of}
 use Rattle.sonic.proofs.Room.{room-of}

@@ -1,7 +1,6 @@
 // Refusal 3: whether a stream value is in order. Play time, time error and counts are free.
 use crate::SonicStream;
 ghost use mathlib.Core.Path.{_≡_};
-ghost use mathlib.Core.Bool.{not};
 ghost use Prim.Native.Nat.{_≤_};
 ghost use Rattle.rate.specs.Halving.{ratesOf};
 ghost use Rattle.sonic.specs.Refusals.{inOrder, openedInOrder, settingsInOrder, recordInOrder, positionsInOrder};

@@ -18,7 +18,8 @@ returns : tie.Need-returns
 returns c =
     let s = c .before .before .before in
     let a = s .args in
-    rw (c .nothing .ensures) (empty-filled (a .setup) (a .kept) (a .input .now) (a .stage .now) (s .pre .1 .0 .tail) (s .pre .0 .found) (c .before .if1 .taken))
+    rw (c .nothing .ensures)
+    (empty-filled (a .setup) (a .kept) (a .input .now) (a .stage .now) (s .pre .1 .0 .tail) (s .pre .0 .found) (c .before .if1 .taken))
 
 local-speed-requires : tie.Need-local-speed-requires
 local-speed-requires c κs =
