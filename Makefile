@@ -1,12 +1,14 @@
-# make test: the gate. make test-long: its comparisons at full size. make bench: the kernels beside the original.
+# make test: the gate. make test-long: its comparisons at full size. make bench: kernels and whole jobs beside the original.
+# make rust: the Rust binding's tests.
 SHELL := /bin/bash
 RUSTC := rustc --edition 2021 -O
-LINK := -L target/staticlib -l static=kernels_c
+LINK_KERNELS := -L target/staticlib -l static=kernels_c
+LINK_STREAM := -L target/staticlib -l static=sonic_c
 
-# The Rust original, unchanged: src/lib.rs of libsonic-rs.
+# The Rust original, unchanged: src/lib.rs of libsonic-rs. What needs it says so in one line where it is not at hand.
 ORIGINAL ?= ../shared/docs/src/src/lib.rs
 
-.PHONY: test test-long compare bench kernels
+.PHONY: test test-long compare differential bites bench rust kernels stream
 .SILENT:
 
 # Layout; then every proof, must-fail edit and program from nothing; then the comparisons. The last line is that of `rt ci`.
@@ -16,29 +18,63 @@ test:
 	rt ci 2>&1 | tee "$$log" | sed '$$d' && \
 	$(MAKE) --no-print-directory compare && tail -n 1 "$$log"
 
-compare: target/tests/floats target/tests/narrowing
+compare: target/tests/floats target/tests/narrowing target/tests/header differential
 	target/tests/narrowing 20
 	target/tests/floats 5
+	target/tests/header
 
 test-long: target/tests/floats target/tests/narrowing
 	target/tests/narrowing 1000
 	target/tests/floats 200
+	$(MAKE) --no-print-directory differential RUNS=long
 
-bench: target/bench/kernels
+# The stream for C beside the original, call by call: fixed runs, or random ones with the seed of the day; and two reels.
+RUNS := fixed
+differential: stream
+	if test -f $(ORIGINAL); then \
+	  $(MAKE) --no-print-directory target/tests/differential && target/tests/differential reels && target/tests/differential $(RUNS); \
+	else echo "differential: no original at $(ORIGINAL), not compared"; fi
+
+# That the fixed runs find every wrong edit of the model.
+bites: target/tests/differential
+	target/tests/differential bites
+
+bench: target/bench/kernels target/bench/jobs
 	target/bench/kernels
+	target/bench/jobs
+
+# The tests compare with the original too where it is there.
+rust: stream
+	cd bindings/rust && KELPLADDER_ORIGINAL=$(abspath $(ORIGINAL)) cargo test --offline --quiet
 
 kernels:
 	mkdir -p target/tests target/bench
 	rt staticlib kernels_c > target/kernels.log 2>&1 || { cat target/kernels.log; exit 1; }
 
+stream:
+	mkdir -p target/tests target/bench
+	rt staticlib sonic_c > target/stream.log 2>&1 || { cat target/stream.log; exit 1; }
+
 target/tests/floats: tests/floats.rs kernels
-	$(RUSTC) $< -o $@ $(LINK)
+	$(RUSTC) $< -o $@ $(LINK_KERNELS)
 
 target/tests/narrowing: tests/narrowing.c kernels
 	$(CC) -O2 -Wall -Wextra -Werror $< target/staticlib/libkernels_c.a -o $@ -lm
 
-# The original's text with the benchmark joined to it, so that its private functions can be called.
+target/tests/header: tests/header.c include/kelpladder.h stream
+	$(CC) -std=c99 -O2 -Wall -Wextra -Wpedantic -Werror -I include $< target/staticlib/libsonic_c.a -o $@
+
+# The original's text with the test or the benchmark joined to it, so that its private fields and functions can be used.
+target/tests/differential: tests/differential.rs $(wildcard tests/differential/*.rs tests/differential/model/*.rs) stream
+	cat $(ORIGINAL) $< > $@.rs
+	$(RUSTC) -C overflow-checks=on -A warnings --cfg library $@.rs -o $@ $(LINK_STREAM)
+
 target/bench/kernels: bench/kernels.rs kernels
 	test -f $(ORIGINAL) || { echo "bench: no original at $(ORIGINAL)"; exit 1; }
 	cat $(ORIGINAL) $< > $@.rs
-	$(RUSTC) -A warnings $@.rs -o $@ $(LINK)
+	$(RUSTC) -A warnings $@.rs -o $@ $(LINK_KERNELS)
+
+target/bench/jobs: bench/jobs.rs stream
+	test -f $(ORIGINAL) || { echo "bench: no original at $(ORIGINAL)"; exit 1; }
+	cat $(ORIGINAL) $< > $@.rs
+	$(RUSTC) -A warnings $@.rs -o $@ $(LINK_STREAM)

@@ -1,0 +1,137 @@
+//! The calls of include/kelpladder.h: its structures, and a trait for whatever answers them.
+
+/// Numbers of an accepted write or flush.
+pub const EMPTY: u32 = 0;
+/// All frames held went on unstretched.
+pub const COPIED: u32 = 1;
+/// A stretch is due, and too few frames are held.
+pub const WAITING: u32 = 2;
+/// Stretched.
+pub const STRETCHED: u32 = 3;
+/// A step gave no frame.
+pub const STALLED: u32 = 4;
+
+/// The stream's value, field by field as in the header.
+#[repr(C)]
+#[derive(Clone, Copy, Debug, Default)]
+pub struct Stream {
+    pub rate: u32,
+    pub channels: u32,
+    pub speed: f32,
+    pub pitch: f32,
+    pub volume: f32,
+    pub sample_period: f32,
+    pub input_play_time: f32,
+    pub time_error: f32,
+    pub old_rate_position: usize,
+    pub new_rate_position: usize,
+    pub prev_period: usize,
+    pub prev_min_diff: usize,
+    pub held: usize,
+    pub tail: usize,
+    pub waiting: usize,
+}
+
+/// The names of the float fields, in the order of `floats`.
+const FLOAT_NAMES: [&str; 6] = ["speed", "pitch", "volume", "sample_period", "input_play_time", "time_error"];
+
+/// The names of the whole fields, in the order of `wholes`.
+const WHOLE_NAMES: [&str; 9] =
+    ["rate", "channels", "old_rate_position", "new_rate_position", "prev_period", "prev_min_diff", "held", "tail", "waiting"];
+
+impl Stream {
+    /// The float fields.
+    fn floats(&self) -> [f32; 6] {
+        [self.speed, self.pitch, self.volume, self.sample_period, self.input_play_time, self.time_error]
+    }
+
+    /// The whole fields.
+    fn wholes(&self) -> [usize; 9] {
+        let (rate, channels) = (self.rate as usize, self.channels as usize);
+        let (p, n) = (self.old_rate_position, self.new_rate_position);
+        [rate, channels, p, n, self.prev_period, self.prev_min_diff, self.held, self.tail, self.waiting]
+    }
+
+    /// The first field in which two streams differ, with both values. Floats are compared by bits, a NaN as a NaN.
+    pub fn difference(&self, other: &Stream) -> Option<String> {
+        for (name, (a, b)) in FLOAT_NAMES.iter().zip(self.floats().into_iter().zip(other.floats())) {
+            if !same_float(a, b) {
+                return Some(format!("{name} {a:?} ({:08x}) in place of {b:?} ({:08x})", a.to_bits(), b.to_bits()));
+            }
+        }
+        let wholes = WHOLE_NAMES.iter().zip(self.wholes().into_iter().zip(other.wholes()));
+        wholes.filter(|(_, (a, b))| a != b).map(|(name, (a, b))| format!("{name} {a} in place of {b}")).next()
+    }
+}
+
+/// Whether two floats have the same bits, or are both NaN.
+pub fn same_float(a: f32, b: f32) -> bool {
+    a.to_bits() == b.to_bits() || (a.is_nan() && b.is_nan())
+}
+
+/// An opening.
+#[repr(C)]
+#[derive(Clone, Copy, Debug)]
+pub struct Opened {
+    pub refusal: u32,
+    pub given: u32,
+    pub stream: Stream,
+}
+
+/// A setting.
+#[repr(C)]
+#[derive(Clone, Copy, Debug)]
+pub struct Changed {
+    pub refusal: u32,
+    pub stream: Stream,
+}
+
+/// The frames waiting, or the frames that a read gave.
+#[repr(C)]
+#[derive(Clone, Copy, Debug)]
+pub struct Counted {
+    pub refusal: u32,
+    pub frames: usize,
+    pub stream: Stream,
+}
+
+/// A write or a flush.
+#[repr(C)]
+#[derive(Clone, Copy, Debug)]
+pub struct Wrote {
+    pub refusal: u32,
+    pub outcome: u32,
+    pub stream: Stream,
+}
+
+/// One of the three settings.
+#[derive(Clone, Copy, Debug)]
+pub enum Setting {
+    Speed(f32),
+    Pitch(f32),
+    Volume(f32),
+}
+
+/// The four areas lent to a write or a flush.
+pub struct Areas<'a> {
+    pub input: &'a mut [i16],
+    pub stage: &'a mut [i16],
+    pub output: &'a mut [i16],
+    pub scratch: &'a mut [i16],
+}
+
+/// What answers the calls.
+pub trait Subject {
+    /// Opens a stream.
+    fn open(&mut self, rate: u32, channels: u32) -> Opened;
+    /// Sets the speed, the pitch or the volume.
+    fn set(&mut self, stream: Stream, setting: Setting) -> Changed;
+    /// Counts the frames waiting.
+    fn available(&mut self, stream: Stream) -> Counted;
+    /// Writes samples.
+    fn write(&mut self, stream: Stream, samples: &[f32], areas: Areas<'_>) -> Wrote;
+    /// Reads frames into the slice.
+    fn read(&mut self, stream: Stream, most: usize, slice: &mut [f32], output: &mut [i16]) -> Counted;
+    /// Makes frames of what is held.
+    fn flush(&mut self, stream: Stream, areas: Areas<'_>) -> Wrote;
+}

@@ -1,0 +1,301 @@
+/* The C interface as a C program sees it: include/kelpladder.h is compiled as C99, and the calls are held to document 01's
+   examples. Exits at the first failure. */
+#include "kelpladder.h"
+
+#include <math.h>
+#include <stdio.h>
+#include <stdlib.h>
+#include <string.h>
+
+#define RATE 8000u
+#define REQUIRED 246u        /* 2*(8,000/65) */
+#define AREA 20000u
+#define LONGEST 16777216u
+#define CHECK(test) check((test) ? 1 : 0, #test, __LINE__)
+
+static int16_t input[AREA], stage[AREA], output[AREA], scratch[REQUIRED];
+static float voice[AREA];
+static unsigned checks;
+
+static void check(int holds, const char *test, int line)
+{
+    checks++;
+    if (!holds) {
+        fprintf(stderr, "header: line %d: not so: %s\n", line, test);
+        exit(1);
+    }
+}
+
+static int same_settings(kelpladder_stream a, kelpladder_stream b)
+{
+    return a.rate == b.rate && a.channels == b.channels && a.speed == b.speed && a.pitch == b.pitch && a.volume == b.volume
+        && a.sample_period == b.sample_period;
+}
+
+static int same_work(kelpladder_stream a, kelpladder_stream b)
+{
+    return a.input_play_time == b.input_play_time && a.time_error == b.time_error && a.old_rate_position == b.old_rate_position
+        && a.new_rate_position == b.new_rate_position && a.prev_period == b.prev_period && a.prev_min_diff == b.prev_min_diff;
+}
+
+static int same(kelpladder_stream a, kelpladder_stream b)
+{
+    return same_settings(a, b) && same_work(a, b) && a.held == b.held && a.tail == b.tail && a.waiting == b.waiting;
+}
+
+/* A stream with every field 0. */
+static kelpladder_stream zero(void)
+{
+    kelpladder_stream stream = {0, 0, 0, 0, 0, 0, 0, 0, 0, 0, 0, 0, 0, 0, 0};
+    return stream;
+}
+
+static kelpladder_stream fresh(uint32_t channels)
+{
+    kelpladder_opened opened = kelpladder_open(RATE, channels);
+    CHECK(opened.refusal == KELPLADDER_ACCEPTED);
+    return opened.stream;
+}
+
+static kelpladder_stream with(float speed, float pitch)
+{
+    kelpladder_changed faster = kelpladder_set_speed(fresh(1), speed);
+    kelpladder_changed changed = kelpladder_set_pitch(faster.stream, pitch);
+    CHECK(faster.refusal == KELPLADDER_ACCEPTED && changed.refusal == KELPLADDER_ACCEPTED);
+    return changed.stream;
+}
+
+/* Writes with areas of these lengths. */
+static kelpladder_wrote write_in(kelpladder_stream stream, const float *samples, size_t length, size_t input_length, size_t stage_length,
+                                 size_t output_length, size_t scratch_length)
+{
+    return kelpladder_write_f32(stream, samples, length, input, input_length, stage, stage_length, output, output_length, scratch,
+                                scratch_length);
+}
+
+static kelpladder_wrote write_all(kelpladder_stream stream, const float *samples, size_t length)
+{
+    return write_in(stream, samples, length, AREA, AREA, AREA, REQUIRED);
+}
+
+static kelpladder_wrote flush_in(kelpladder_stream stream, size_t input_length, size_t stage_length, size_t output_length)
+{
+    return kelpladder_flush(stream, input, input_length, stage, stage_length, output, output_length, scratch, REQUIRED);
+}
+
+/* A saw of this period. */
+static void speak(size_t from, size_t to, size_t period)
+{
+    size_t i;
+    for (i = from; i < to; i++)
+        voice[i] = (float)(i % period) / (float)period - 0.5f;
+}
+
+static void refuses_opening(uint32_t rate, uint32_t channels, uint32_t refusal, uint32_t given)
+{
+    kelpladder_opened opened = kelpladder_open(rate, channels);
+    CHECK(opened.refusal == refusal);
+    CHECK(opened.given == given);
+    CHECK(same(opened.stream, zero()));
+}
+
+static void opens(void)
+{
+    kelpladder_opened opened = kelpladder_open(RATE, 2);
+    kelpladder_stream expected = zero();
+    expected.rate = RATE;
+    expected.channels = 2;
+    expected.speed = expected.pitch = expected.volume = 1.0f;
+    expected.sample_period = (float)(1.0 / 8000.0);
+    CHECK(opened.refusal == KELPLADDER_ACCEPTED && opened.given == 0);
+    CHECK(same(opened.stream, expected));
+    CHECK(kelpladder_open(1000, 1).refusal == KELPLADDER_ACCEPTED);
+    CHECK(kelpladder_open(500000, 32).refusal == KELPLADDER_ACCEPTED);
+    refuses_opening(999, 1, KELPLADDER_BAD_RATE, 999);
+    refuses_opening(500001, 1, KELPLADDER_BAD_RATE, 500001);
+    refuses_opening(0, 0, KELPLADDER_BAD_RATE, 0);
+    refuses_opening(RATE, 0, KELPLADDER_BAD_CHANNELS, 0);
+    refuses_opening(RATE, 33, KELPLADDER_BAD_CHANNELS, 33);
+}
+
+static void sets(void)
+{
+    kelpladder_stream stream = fresh(1), moved = with(1.0f, 0.5f), expected = stream;
+    kelpladder_changed changed = kelpladder_set_speed(stream, 2.5f);
+    expected.speed = 2.5f;
+    CHECK(changed.refusal == KELPLADDER_ACCEPTED && same(changed.stream, expected));
+    CHECK(kelpladder_set_speed(stream, 30.0f).stream.speed == 20.0f);
+    CHECK(kelpladder_set_speed(stream, (float)NAN).stream.speed == 0.05f);
+    CHECK(kelpladder_set_pitch(stream, -1.0f).stream.pitch == 0.05f);
+    CHECK(kelpladder_set_pitch(stream, 21.0f).stream.pitch == 20.0f);
+    CHECK(kelpladder_set_volume(stream, 101.0f).stream.volume == 100.0f);
+    CHECK(kelpladder_set_volume(stream, (float)NAN).stream.volume == 0.01f);
+    moved.old_rate_position = 1;
+    moved.new_rate_position = 2;
+    CHECK(same_work(kelpladder_set_volume(moved, 0.5f).stream, moved));
+    changed = kelpladder_set_pitch(moved, 0.5f);
+    CHECK(changed.stream.old_rate_position == 0 && changed.stream.new_rate_position == 0);
+}
+
+static void refuses_bad_streams(void)
+{
+    kelpladder_stream bad = fresh(1);
+    kelpladder_available available;
+    kelpladder_gave gave;
+    kelpladder_wrote wrote;
+    float slice[1] = {7.0f};
+    bad.speed = 30.0f;
+    CHECK(kelpladder_set_speed(bad, 1.0f).refusal == KELPLADDER_BAD_STREAM);
+    CHECK(kelpladder_set_pitch(zero(), 1.0f).refusal == KELPLADDER_BAD_STREAM);
+    CHECK(same(kelpladder_set_volume(bad, 1.0f).stream, bad));
+    available = kelpladder_available_frames(zero());
+    CHECK(available.refusal == KELPLADDER_BAD_STREAM && available.frames == 0 && same(available.stream, zero()));
+    gave = kelpladder_read_f32(bad, 1, slice, 1, output, AREA);
+    CHECK(gave.refusal == KELPLADDER_BAD_STREAM && gave.frames == 0 && slice[0] == 7.0f && same(gave.stream, bad));
+    wrote = flush_in(bad, AREA, AREA, AREA);
+    CHECK(wrote.refusal == KELPLADDER_BAD_STREAM && same(wrote.stream, bad));
+}
+
+static void refuses_write(kelpladder_stream stream, size_t frames, size_t input_length, size_t stage_length, size_t output_length,
+                          size_t scratch_length, uint32_t refusal)
+{
+    kelpladder_wrote wrote = write_in(stream, voice, frames, input_length, stage_length, output_length, scratch_length);
+    CHECK(wrote.refusal == refusal);
+    CHECK(wrote.outcome == 0);
+    CHECK(same(wrote.stream, stream));
+}
+
+/* Each refusal of a write once, by document 01's examples; beside each the least area that is accepted. */
+static void refuses_writes(void)
+{
+    kelpladder_stream stream = fresh(1), bad = stream, holding = stream;
+    bad.speed = 30.0f;
+    holding.held = 101;
+    refuses_write(bad, 1, AREA, AREA, AREA, REQUIRED, KELPLADDER_BAD_STREAM);
+    refuses_write(stream, 1, AREA, AREA, AREA, REQUIRED - 1, KELPLADDER_BAD_AREAS);
+    refuses_write(holding, 1, 100, AREA, AREA, REQUIRED, KELPLADDER_BAD_AREAS);
+    refuses_write(stream, 101, 100, AREA, AREA, REQUIRED, KELPLADDER_INPUT_FULL);
+    refuses_write(stream, 51, AREA, 50, AREA, REQUIRED, KELPLADDER_STAGE_FULL);
+    refuses_write(stream, 51, AREA, 60, 50, REQUIRED, KELPLADDER_OUTPUT_FULL);
+    CHECK(write_in(stream, voice, 101, 101, AREA, AREA, REQUIRED).refusal == KELPLADDER_ACCEPTED);
+    CHECK(write_in(stream, voice, 51, AREA, 51, AREA, REQUIRED).refusal == KELPLADDER_ACCEPTED);
+    CHECK(write_in(stream, voice, 51, AREA, 60, 51, REQUIRED).refusal == KELPLADDER_ACCEPTED);
+}
+
+static void refuses_long_areas(void)
+{
+    int16_t *area = calloc(LONGEST + 1, sizeof *area);
+    kelpladder_stream stream = fresh(1);
+    float slice[1] = {7.0f};
+    check(area != NULL, "room for the longest area", __LINE__);
+    CHECK(kelpladder_read_f32(stream, 1, slice, 1, area, LONGEST + 1).refusal == KELPLADDER_BAD_AREAS);
+    CHECK(kelpladder_read_f32(stream, 1, slice, 1, area, LONGEST).refusal == KELPLADDER_ACCEPTED);
+    CHECK(kelpladder_write_f32(stream, voice, 1, area, LONGEST + 1, stage, AREA, output, AREA, scratch, REQUIRED).refusal
+          == KELPLADDER_BAD_AREAS);
+    free(area);
+}
+
+static void copies(void)
+{
+    const float samples[5] = {1.0f, -0.5f, (float)NAN, -2.0f, 0.25f};
+    kelpladder_wrote wrote = write_all(fresh(2), samples, 5);
+    kelpladder_available available = kelpladder_available_frames(wrote.stream);
+    CHECK(wrote.refusal == KELPLADDER_ACCEPTED && wrote.outcome == KELPLADDER_COPIED);
+    CHECK(wrote.stream.held == 0 && wrote.stream.waiting == 2 && wrote.stream.input_play_time == 0.0f);
+    CHECK(output[0] == 32767 && output[1] == -16383 && output[2] == 0 && output[3] == -32767);
+    CHECK(available.refusal == KELPLADDER_ACCEPTED && available.frames == 2 && same(available.stream, wrote.stream));
+    wrote = write_all(fresh(2), samples, 1);
+    CHECK(wrote.refusal == KELPLADDER_ACCEPTED && wrote.outcome == KELPLADDER_EMPTY && same(wrote.stream, fresh(2)));
+}
+
+static void gives(void)
+{
+    const float samples[8] = {1.0f, -1.0f, 0.5f, -0.5f, 0.25f, -0.25f, 0.0f, 1.0f};
+    float slice[5] = {7.0f, 7.0f, 7.0f, 7.0f, 7.0f};
+    kelpladder_wrote wrote = write_all(fresh(2), samples, 8);
+    kelpladder_gave gave = kelpladder_read_f32(wrote.stream, 1, slice, 5, output, AREA);
+    CHECK(gave.refusal == KELPLADDER_ACCEPTED && gave.frames == 1 && gave.stream.waiting == 3);
+    CHECK(slice[0] == 1.0f && slice[1] == -1.0f && slice[2] == 7.0f);
+    CHECK(kelpladder_read_f32(gave.stream, 9, slice, 5, output, 5).refusal == KELPLADDER_BAD_AREAS);
+    gave = kelpladder_read_f32(gave.stream, 9, slice, 5, output, AREA);
+    CHECK(gave.frames == 2 && gave.stream.waiting == 1);
+    CHECK(slice[0] == 16383.0f / 32767.0f && slice[1] == -16383.0f / 32767.0f && slice[2] == 8191.0f / 32767.0f && slice[4] == 7.0f);
+    gave = kelpladder_read_f32(gave.stream, 9, slice, 5, output, AREA);
+    CHECK(gave.frames == 1 && gave.stream.waiting == 0 && slice[0] == 0.0f && slice[1] == 1.0f);
+    gave = kelpladder_read_f32(gave.stream, 9, slice, 5, output, AREA);
+    CHECK(gave.refusal == KELPLADDER_ACCEPTED && gave.frames == 0 && slice[0] == 0.0f);
+}
+
+/* Speed 2: each step uses two periods and gives one. */
+static void stretches(void)
+{
+    kelpladder_wrote wrote;
+    speak(0, 4000, 62);
+    wrote = write_all(with(2.0f, 1.0f), voice, REQUIRED - 1);
+    CHECK(wrote.outcome == KELPLADDER_WAITING && wrote.stream.held == REQUIRED - 1 && wrote.stream.waiting == 0);
+    CHECK(fabsf(wrote.stream.input_play_time - (REQUIRED - 1) / 16000.0f) < 1e-6f && wrote.stream.time_error == 0.0f);
+    wrote = write_all(wrote.stream, voice + REQUIRED - 1, 1);
+    CHECK(wrote.outcome == KELPLADDER_STRETCHED && wrote.stream.prev_period == 62);
+    CHECK(wrote.stream.held == REQUIRED - 124 && wrote.stream.waiting == 62 && wrote.stream.tail == 0);
+}
+
+/* Pitch 0.5 from a fresh stream at speed 0.5: nothing is stretched, and 112 frames give 200. */
+static void pitches(void)
+{
+    kelpladder_wrote wrote = write_all(with(0.5f, 0.5f), voice, 112);
+    CHECK(wrote.outcome == KELPLADDER_COPIED && wrote.stream.waiting == 200 && wrote.stream.tail == 12);
+}
+
+/* Speed 20, pitch 0.5: a period of 62 gives one frame, one of 34 none. */
+static void stalls(void)
+{
+    kelpladder_wrote wrote;
+    size_t held;
+    speak(0, 4000, 62);
+    wrote = write_all(with(20.0f, 0.5f), voice, 4000);
+    CHECK(wrote.outcome == KELPLADDER_STRETCHED && wrote.stream.held < REQUIRED);
+    held = wrote.stream.held;
+    speak(0, 4000, 34);
+    wrote = write_all(wrote.stream, voice, 4000);
+    CHECK(wrote.refusal == KELPLADDER_ACCEPTED && wrote.outcome == KELPLADDER_STALLED && wrote.stream.held == held + 4000);
+    wrote = write_all(wrote.stream, voice, 1000);
+    CHECK(wrote.outcome == KELPLADDER_STALLED && wrote.stream.held == held + 5000);
+    wrote = flush_in(wrote.stream, AREA, AREA, AREA);
+    CHECK(wrote.outcome == KELPLADDER_STALLED && wrote.stream.held == 0 && wrote.stream.tail == 0);
+}
+
+/* A flush at speed 2 gives half of what is held, and has its own refusals. */
+static void flushes(void)
+{
+    kelpladder_wrote held, wrote;
+    speak(0, 4000, 62);
+    held = write_all(with(2.0f, 1.0f), voice, 200);
+    CHECK(held.outcome == KELPLADDER_WAITING);
+    wrote = flush_in(held.stream, 200 + 2 * REQUIRED - 1, AREA, AREA);
+    CHECK(wrote.refusal == KELPLADDER_INPUT_FULL && same(wrote.stream, held.stream));
+    wrote = flush_in(held.stream, AREA, 10, AREA);
+    CHECK(wrote.refusal == KELPLADDER_STAGE_FULL && same(wrote.stream, held.stream));
+    wrote = flush_in(held.stream, AREA, AREA, 10);
+    CHECK(wrote.refusal == KELPLADDER_OUTPUT_FULL && same(wrote.stream, held.stream));
+    wrote = flush_in(held.stream, 200 + 2 * REQUIRED, AREA, AREA);
+    CHECK(wrote.refusal == KELPLADDER_ACCEPTED && wrote.outcome == KELPLADDER_STRETCHED && wrote.stream.waiting == 100);
+    CHECK(wrote.stream.held == 0 && wrote.stream.tail == 0 && wrote.stream.input_play_time == 0.0f && wrote.stream.time_error == 0.0f);
+}
+
+int main(void)
+{
+    speak(0, AREA, 62);
+    opens();
+    sets();
+    refuses_bad_streams();
+    refuses_writes();
+    refuses_long_areas();
+    copies();
+    gives();
+    stretches();
+    pitches();
+    stalls();
+    flushes();
+    printf("header: %u checks of the C interface hold\n", checks);
+    return 0;
+}
