@@ -18,7 +18,7 @@ test:
 	rt ci 2>&1 | tee "$$log" | sed '$$d' && \
 	$(MAKE) --no-print-directory compare && tail -n 1 "$$log"
 
-compare: target/tests/floats target/tests/narrowing target/tests/header differential
+compare: target/tests/floats target/tests/narrowing target/tests/header differential rust
 	target/tests/narrowing 20
 	target/tests/floats 5
 	target/tests/header

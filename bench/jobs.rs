@@ -4,7 +4,8 @@
 // interleaved rounds over the whole reel), and both medians in milliseconds. Times are processor times of the thread, so that other work
 // on the machine counts less. Both sides read in their own way: the original gives a new vector, ours fills a slice that is lent.
 // Then it counts instructions by valgrind, where that is there, and paints a stack to see how much of it the calls use.
-// `jobs JOB REEL` times one job only. `jobs SIDE JOB REEL SECONDS` runs one job on one side (ours, original), for a profiler.
+// `jobs JOB REEL` times one job only, `jobs stack` measures the stack only. `jobs SIDE JOB REEL SECONDS` runs one job on one side (ours,
+// original), for a profiler.
 
 use std::alloc::{alloc, dealloc, Layout};
 use std::ffi::c_void;
@@ -123,13 +124,13 @@ impl Ours {
 
 impl Side for Ours {
     fn open(rate: u32, channels: u32, speed: f32, pitch: f32) -> Self {
-        const AREA: usize = 65_536;
+        let required = 2 * (rate as usize / 65);
+        let length = (8 * required * channels as usize).max(65_536);
         let opened = unsafe { kelpladder_open(rate, channels) };
         let faster = unsafe { kelpladder_set_speed(opened.stream, speed) };
         let stream = unsafe { kelpladder_set_pitch(faster.stream, pitch) }.stream;
-        let area = || vec![0i16; AREA];
-        let scratch = vec![0; 2 * (rate as usize / 65)];
-        Ours { stream, input: area(), stage: area(), output: area(), scratch, frames: vec![0.0; AREA] }
+        let area = || vec![0i16; length];
+        Ours { stream, input: area(), stage: area(), output: area(), scratch: vec![0; required], frames: vec![0.0; length] }
     }
 
     fn write(&mut self, samples: &[f32]) {
@@ -340,7 +341,8 @@ fn counts_of(job: Job, reel: Reel) -> Option<[f64; 3]> {
 }
 
 fn count_instructions() {
-    println!("instructions for {COUNTED_SECONDS} seconds: ratio, ours and the original's in millions; ours for {} seconds over ours", 4 * COUNTED_SECONDS);
+    let longer = 4 * COUNTED_SECONDS;
+    println!("instructions for {COUNTED_SECONDS} seconds: ratio, ours and the original's in millions; ours for {longer} seconds over ours");
     for reel in REELS {
         for job in JOBS {
             let Some([ours, original, longer]) = counts_of(job, reel) else {
@@ -352,7 +354,7 @@ fn count_instructions() {
     }
 }
 
-/// Two seconds of every job on every reel, and of the highest rate with the most channels, all on our side.
+/// Two seconds of every job on every reel, and a flush at the highest rate with the most channels, all on our side.
 extern "C" fn every_call(_: *mut c_void) -> *mut c_void {
     let widest = Reel { name: "widest", rate: 500_000, channels: 32, seconds: 0, period: 4_000 };
     for job in JOBS {
@@ -421,6 +423,7 @@ fn main() {
             measured(*side == "ours", &find_job(job), &reel, &samples_of(reel));
         }
         [job, reel] => beside(find_job(job), find_reel(reel), &samples_of(find_reel(reel))),
+        ["stack"] => measure_stack(),
         _ => everything(),
     }
 }

@@ -1,0 +1,149 @@
+//! Changes the speed, the pitch and the volume of speech. The interface is that of libsonic-rs; the computation is Kelpladder's, which
+//! is proved to meet its specification and runs as a static library.
+//!
+//! ```
+//! use kelpladder::{Outcome, SonicStream};
+//!
+//! let mut stream = SonicStream::new(8_000, 1)?;
+//! stream.set_speed(2.0);
+//! let second: Vec<f32> = (0..8_000).map(|i| (i % 62) as f32 / 62.0 - 0.5).collect();
+//! if stream.write_f32(&second) == Outcome::Stalled {
+//!     eprintln!("this speed is too high for the voice");
+//! }
+//! stream.flush();
+//! assert_eq!(stream.read_f32(usize::MAX).len(), 4_000);
+//! # Ok::<(), kelpladder::SonicError>(())
+//! ```
+//!
+//! # In place of libsonic-rs
+//!
+//! Types, functions and their arguments are the same, and so is every sample. What differs:
+//!
+//! - [`write_f32`](SonicStream::write_f32) and [`flush`](SonicStream::flush) give an [`Outcome`], where libsonic-rs gives nothing. As a
+//!   statement, `stream.flush();`, a call compiles as before and without a warning: the outcome is not marked `must_use`, because code
+//!   that only swaps the module would then warn at every write. Where a call's value was used as `()`, as the last expression of a
+//!   function or in an arm of a match, it now needs a semicolon.
+//! - A stream has a limit. Frames held, frames between two steps and frames waiting each have at most [`MAX_SAMPLES`] samples, and a
+//!   write or flush that would pass this answers [`Outcome::Full`] and changes nothing. In libsonic-rs they grow until memory ends.
+//! - The texts of [`SonicError`] are worded differently.
+//! - The `Debug` text of a stream leaves out its samples.
+
+#![deny(missing_docs)]
+
+mod areas;
+mod calls;
+mod error;
+mod outcome;
+
+pub use areas::MAX_SAMPLES;
+pub use error::SonicError;
+pub use outcome::Outcome;
+
+use areas::Areas;
+use calls::{Stream, Wrote};
+use std::fmt;
+
+/// A stream of frames whose speed, pitch and volume are changed. A frame is one sample per channel; frames are interleaved.
+pub struct SonicStream {
+    value: Stream,
+    areas: Areas,
+}
+
+impl SonicStream {
+    /// Opens a stream of `channels` channels at `sample_rate` frames a second. Speed, pitch and volume are 1.
+    ///
+    /// # Errors
+    ///
+    /// [`SonicError::SampleRateOutOfRange`] for a rate outside 1,000 to 500,000, else [`SonicError::ChannelsOutOfRange`] for a count
+    /// of channels outside 1 to 32.
+    pub fn new(sample_rate: u32, channels: u32) -> Result<Self, SonicError> {
+        let opened = calls::open(sample_rate, channels);
+        match opened.refusal {
+            calls::ACCEPTED => Ok(Self { value: opened.stream, areas: Areas::new(opened.stream) }),
+            calls::BAD_RATE => Err(SonicError::SampleRateOutOfRange(opened.given)),
+            _ => Err(SonicError::ChannelsOutOfRange(opened.given)),
+        }
+    }
+
+    /// Sets the speed, held to 0.05 to 20. A NaN sets 0.05.
+    pub fn set_speed(&mut self, speed: f32) {
+        self.value = calls::set_speed(self.value, speed);
+    }
+
+    /// Sets the factor of the pitch, held to 0.05 to 20, and begins the rate conversion's count of positions anew, also if the pitch is
+    /// the same. A NaN sets 0.05.
+    pub fn set_pitch(&mut self, pitch: f32) {
+        self.value = calls::set_pitch(self.value, pitch);
+    }
+
+    /// Sets the factor of the volume, held to 0.01 to 100. A NaN sets 0.01.
+    pub fn set_volume(&mut self, volume: f32) {
+        self.value = calls::set_volume(self.value, volume);
+    }
+
+    /// Writes the whole frames of `samples` and makes frames of what is held. A partial last frame is dropped. Each sample is held to
+    /// −1 to 1, and a NaN counts as 0.
+    ///
+    /// The outcome says how it went; it may be ignored. [`Outcome::Stalled`] and [`Outcome::Full`] mean that recorded frames do not
+    /// get through. Room is made as needed. A write leaves room for the silence of a later [`flush`](Self::flush), and answers
+    /// [`Outcome::Full`] if it cannot.
+    pub fn write_f32(&mut self, samples: &[f32]) -> Outcome {
+        let frames = samples.len() / self.channels();
+        if !areas::leaves_room_to_flush(self.value, frames) {
+            return Outcome::Full;
+        }
+        self.work(|value, areas| calls::write_f32(value, samples, areas))
+    }
+
+    /// Makes frames of what is held, filled up with silence, and clears what is held. In the middle of a word this can be heard.
+    ///
+    /// The outcome tells of the held frames and the silence together. Where speed over pitch is so high that the shortest period gives
+    /// no frame (above 21 at 8,000 frames a second), the silence alone answers [`Outcome::Stalled`], and nothing is amiss.
+    pub fn flush(&mut self) -> Outcome {
+        self.work(calls::flush)
+    }
+
+    /// The frames that wait to be read.
+    pub fn available_frames(&self) -> usize {
+        calls::available_frames(self.value)
+    }
+
+    /// Takes the first waiting frames, at most `max_frames`, and gives their samples.
+    pub fn read_f32(&mut self, max_frames: usize) -> Vec<f32> {
+        let frames = self.available_frames().min(max_frames);
+        let mut samples = vec![0.0; frames * self.channels()];
+        self.value = calls::read_f32(self.value, max_frames, &mut samples, &mut self.areas.output);
+        samples
+    }
+
+    fn channels(&self) -> usize {
+        self.value.channels as usize
+    }
+
+    /// Makes a call; as long as it is refused for want of room, makes the area longer and calls again. A refused call has changed
+    /// nothing that is kept.
+    fn work(&mut self, call: impl Fn(Stream, &mut Areas) -> Wrote) -> Outcome {
+        loop {
+            let answer = call(self.value, &mut self.areas);
+            let grown = match answer.refusal {
+                calls::ACCEPTED => {
+                    self.value = answer.stream;
+                    return Outcome::of_number(answer.outcome);
+                }
+                calls::INPUT_FULL => areas::grow(&mut self.areas.input),
+                calls::STAGE_FULL => areas::grow(&mut self.areas.stage),
+                calls::OUTPUT_FULL => areas::grow(&mut self.areas.output),
+                refusal => unreachable!("refusal {refusal}: the stream and its areas belong together"),
+            };
+            if !grown {
+                return Outcome::Full;
+            }
+        }
+    }
+}
+
+impl fmt::Debug for SonicStream {
+    fn fmt(&self, f: &mut fmt::Formatter<'_>) -> fmt::Result {
+        f.debug_struct("SonicStream").field("value", &self.value).finish_non_exhaustive()
+    }
+}

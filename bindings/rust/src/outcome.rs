@@ -1,0 +1,33 @@
+//! How a write or a flush went.
+
+/// How a write or a flush went.
+#[derive(Debug, Clone, Copy, PartialEq, Eq, Hash)]
+pub enum Outcome {
+    /// Nothing is held, and nothing was made.
+    Empty,
+    /// All frames held went on unstretched.
+    Copied,
+    /// A stretch is due, and too few frames are held for a step. They stay held.
+    Waiting,
+    /// Frames held were stretched; those that the steps did not reach stay held.
+    Stretched,
+    /// A step gave no frame: the voice's period is too short for speed over pitch. Nothing has left what is held. Every later write begins
+    /// at the same frames, makes those before the stall again, and stalls there too, whatever is written. A flush clears what is held.
+    Stalled,
+    /// Not taken: more than [`MAX_SAMPLES`](crate::MAX_SAMPLES) samples would be held, be between two steps, or wait. The stream is as
+    /// before the call. Frames that wait can be read and the call made again; a shorter write may fit; a flush clears what is held.
+    Full,
+}
+
+impl Outcome {
+    /// The outcome with this number in the C interface.
+    pub(crate) fn of_number(number: u32) -> Self {
+        match number {
+            0 => Self::Empty,
+            1 => Self::Copied,
+            2 => Self::Waiting,
+            3 => Self::Stretched,
+            _ => Self::Stalled,
+        }
+    }
+}

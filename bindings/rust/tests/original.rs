@@ -1,0 +1,140 @@
+//! Runs beside the original, where its text is there: KELPLADDER_ORIGINAL names the file, or it stands where the repository expects it.
+#![cfg(original)]
+
+mod common;
+
+use common::{run, summary, voice, Dice, Stretcher, CASES};
+use kelpladder::SonicStream;
+
+include!(concat!(env!("OUT_DIR"), "/original.rs"));
+
+stretcher!(SonicStream);
+stretcher!(original::SonicStream);
+
+fn bits(samples: &[f32]) -> Vec<u32> {
+    samples.iter().map(|x| x.to_bits()).collect()
+}
+
+/// Both streams, given the same calls.
+struct Pair {
+    ours: SonicStream,
+    theirs: original::SonicStream,
+    channels: usize,
+}
+
+impl Pair {
+    fn open(rate: u32, channels: u32) -> Self {
+        Pair { ours: Stretcher::open(rate, channels), theirs: Stretcher::open(rate, channels), channels: channels as usize }
+    }
+
+    fn set(&mut self, speed: f32, pitch: f32, volume: f32) {
+        self.ours.set(speed, pitch, volume);
+        self.theirs.set(speed, pitch, volume);
+    }
+
+    fn write(&mut self, samples: &[f32]) {
+        self.ours.write(samples);
+        self.theirs.write(samples);
+        assert_eq!(self.ours.available(), self.theirs.available());
+    }
+
+    fn flush(&mut self) {
+        Stretcher::flush(&mut self.ours);
+        Stretcher::flush(&mut self.theirs);
+        assert_eq!(self.ours.available(), self.theirs.available());
+    }
+
+    fn read(&mut self, most: usize) {
+        assert_eq!(bits(&self.ours.read(most)), bits(&self.theirs.read(most)));
+    }
+}
+
+/// A setting: mostly inside its range, at times outside or a NaN.
+fn setting(dice: &mut Dice) -> f32 {
+    const SETTINGS: [f32; 16] =
+        [1.0, 1.0, 1.0, 0.5, 2.0, 1.5, 0.7, 0.05, 20.0, 3.3, 0.31, 1.00001, 0.99998, 1000.0, -1.0, f32::NAN];
+    SETTINGS[dice.below(SETTINGS.len())]
+}
+
+/// A voice with at times a sample that no recording has.
+fn samples(dice: &mut Dice, channels: usize) -> Vec<f32> {
+    const ODD: [f32; 6] = [f32::NAN, f32::INFINITY, f32::NEG_INFINITY, 1.0, -1.5, -0.0];
+    let (frames, period, noise) = (dice.below(2_500), 20 + dice.below(100), dice.below(3_000) as u32);
+    let mut all = voice(dice.below(1_000), frames, channels, period, noise);
+    all.extend(vec![0.25; dice.below(channels)]);
+    if dice.below(3) == 0 && !all.is_empty() {
+        let place = dice.below(all.len());
+        all[place] = ODD[dice.below(ODD.len())];
+    }
+    all
+}
+
+fn call(pair: &mut Pair, dice: &mut Dice) {
+    match dice.below(12) {
+        0 => pair.set(setting(dice), setting(dice), setting(dice)),
+        1 => pair.flush(),
+        2 => pair.read(0),
+        3..=5 => pair.read(dice.below(3_000)),
+        _ => {
+            let samples = samples(dice, pair.channels);
+            pair.write(&samples);
+        }
+    }
+}
+
+#[test]
+fn pseudorandom_calls_give_the_same() {
+    const RATES: [u32; 8] = [1_000, 3_999, 4_000, 8_000, 8_000, 11_025, 22_050, 44_100];
+    for seed in 0..150 {
+        let mut dice = Dice(seed);
+        dice.throw();
+        let mut pair = Pair::open(RATES[dice.below(RATES.len())], 1 + dice.below(4) as u32);
+        for _ in 0..30 {
+            call(&mut pair, &mut dice);
+        }
+        pair.read(usize::MAX);
+    }
+}
+
+#[test]
+fn runs_give_the_same() {
+    for case in &CASES {
+        assert_eq!(bits(&run::<SonicStream>(case)), bits(&run::<original::SonicStream>(case)), "{}", case.name);
+    }
+}
+
+#[test]
+fn one_long_write_gives_the_same() {
+    let mut pair = Pair::open(8_000, 2);
+    pair.set(0.3, 0.7, 1.0);
+    pair.write(&voice(0, 200_000, 2, 62, 300));
+    pair.flush();
+    pair.read(usize::MAX);
+}
+
+#[test]
+fn most_channels_give_the_same() {
+    let mut pair = Pair::open(8_000, 32);
+    pair.set(1.7, 1.2, 0.4);
+    pair.write(&voice(0, 3_000, 32, 62, 300));
+    pair.flush();
+    pair.read(usize::MAX);
+}
+
+#[test]
+fn openings_are_refused_alike() {
+    for (rate, channels) in [(999, 1), (1_000, 1), (500_000, 32), (500_001, 32), (8_000, 0), (8_000, 33), (0, 0)] {
+        let ours = SonicStream::new(rate, channels).map(|_| ()).map_err(|error| format!("{error:?}"));
+        let theirs = original::SonicStream::new(rate, channels).map(|_| ()).map_err(|error| format!("{error:?}"));
+        assert_eq!(ours, theirs);
+    }
+}
+
+/// Prints the lines of tests/stored.txt: `cargo test --offline --test original -- --ignored --nocapture print_stored`.
+#[test]
+#[ignore]
+fn print_stored() {
+    for case in &CASES {
+        println!("{}", summary(case.name, &run::<original::SonicStream>(case)));
+    }
+}
