@@ -1,5 +1,5 @@
 # make test: the gate. make test-long: its comparisons at full size. make bench: kernels and whole jobs beside the original.
-# make rust: the Rust binding's tests.
+# make rust: the Rust binding's tests. make vectors: the stored answers, made again.
 SHELL := /bin/bash
 RUSTC := rustc --edition 2021 -O
 LINK_KERNELS := -L target/staticlib -l static=kernels_c
@@ -8,7 +8,7 @@ LINK_STREAM := -L target/staticlib -l static=sonic_c
 # The Rust original, unchanged: src/lib.rs of libsonic-rs. What needs it says so in one line where it is not at hand.
 ORIGINAL ?= ../shared/docs/src/src/lib.rs
 
-.PHONY: test test-long compare differential bites bench rust kernels stream
+.PHONY: test test-long compare differential bites bench rust vectors kernels stream
 .SILENT:
 
 # Layout; then every proof, must-fail edit and program from nothing; then the comparisons. The last line is that of `rt ci`.
@@ -78,3 +78,14 @@ target/bench/jobs: bench/jobs.rs stream
 	test -f $(ORIGINAL) || { echo "bench: no original at $(ORIGINAL)"; exit 1; }
 	cat $(ORIGINAL) $< > $@.rs
 	$(RUSTC) -A warnings $@.rs -o $@ $(LINK_STREAM)
+
+# The stored answers of crates/vectors, made again from the original's text with tools/vectors joined to it: they must be the stored ones.
+vectors:
+	test -f $(ORIGINAL) || { echo "vectors: no original at $(ORIGINAL)"; exit 1; }
+	mkdir -p target/vectors
+	cat $(ORIGINAL) tools/vectors/*.rs > target/vectors/make.rs
+	$(RUSTC) -C overflow-checks=on -A warnings target/vectors/make.rs -o target/vectors/make
+	target/vectors/make target/vectors > target/vectors/touched
+	cmp target/vectors/stdin crates/vectors/stdin
+	cmp target/vectors/stdout crates/vectors/stdout
+	tail -n 1 target/vectors/touched

@@ -1,0 +1,148 @@
+
+// ---- The calls: each is refused by document 01's table, or made on the original.
+
+/// What the places of a read's slice hold before it.
+const UNREAD: f32 = 0.5;
+
+/// The state that the lines before have left: the stream's fields, the original's stream unless its opening was refused, and the
+/// lengths of input, stage, output and scratch.
+struct Session {
+    fields: Fields,
+    original: Option<SonicStream>,
+    lent: [usize; 4],
+    census: Census,
+}
+
+impl Session {
+    fn new() -> Self {
+        Self { fields: [0; 15], original: None, lent: [0; 4], census: Census::new() }
+    }
+
+    fn open(&mut self, rate: u32, channels: u32) -> String {
+        let (answer, fields, original) = match SonicStream::new(rate, channels) {
+            Ok(s) => (String::new(), fields_of(&s), Some(s)),
+            Err(SonicError::SampleRateOutOfRange(given)) => (format!(" refused 1 {given}"), [0; 15], None),
+            Err(SonicError::ChannelsOutOfRange(given)) => (format!(" refused 2 {given}"), [0; 15], None),
+        };
+        (self.fields, self.original) = (fields, original);
+        answer
+    }
+
+    /// Sets a field, and the original's if it has one for it.
+    fn edit(&mut self, field: usize, value: u64) {
+        self.fields[field] = value;
+        let Some(s) = &mut self.original else { return };
+        match field {
+            SPEED => s.speed = float(value),
+            PITCH => s.pitch = float(value),
+            VOLUME => s.volume = float(value),
+            PLAY_TIME => s.input_play_time = float(value),
+            TIME_ERROR => s.time_error = float(value),
+            OLD_POSITION => s.old_rate_position = value as i32,
+            NEW_POSITION => s.new_rate_position = value as i32,
+            PREV_PERIOD => s.prev_period = value as i32,
+            PREV_MIN_DIFF => s.prev_min_diff = value as i32,
+            _ => (),
+        }
+    }
+
+    /// Whether an area of so many samples has room for so many frames.
+    fn room(&self, frames: u64, samples: usize) -> bool {
+        frames <= samples as u64 / self.fields[CHANNELS]
+    }
+
+    /// Refusals 3 and 4. A read is lent the output alone.
+    fn refusal(&self, read: bool) -> Option<u32> {
+        if !in_order(&self.fields) {
+            return Some(3);
+        }
+        let [input, stage, output, scratch] = self.lent;
+        let short = !self.room(self.fields[WAITING], output);
+        let more = !self.room(self.fields[HELD], input) || !self.room(self.fields[TAIL], stage) || (scratch as u64) < 2 * (self.fields[RATE] / 65);
+        if short || (!read && more) { Some(4) } else { None }
+    }
+
+    /// The original's stream, which an accepted call needs to be the stream that the fields speak of.
+    fn stream(&mut self) -> &mut SonicStream {
+        let s = self.original.as_mut().expect("no stream");
+        assert_eq!(fields_of(s), self.fields, "an accepted call on fields that the original does not have");
+        s
+    }
+
+    /// A write or a flush: `add` puts its frames behind those held, `call` is the original's call.
+    fn work(&mut self, frames: usize, add: impl Fn(&mut SonicStream), call: impl Fn(&mut SonicStream)) -> String {
+        if let Some(number) = self.refusal(false) {
+            return format!(" refused {number}");
+        }
+        let [input, stage, output, _] = self.lent;
+        if !self.room(self.fields[HELD] + frames as u64, input) {
+            return " refused 5".to_string();
+        }
+        let before = copy_of(self.stream());
+        let mut added = copy_of(&before);
+        add(&mut added);
+        let (outcome, made) = stretched(&added);
+        if !self.room((before.pitch_frames() + made) as u64, stage) {
+            return " refused 6".to_string();
+        }
+        let mut done = copy_of(&added);
+        done.process_stream_input();
+        if !self.room(done.output_frames() as u64, output) {
+            return " refused 7".to_string();
+        }
+        let s = self.stream();
+        call(s);
+        assert!(done.output.starts_with(&s.output) && done.prev_min_diff == s.prev_min_diff, "the original's call adds other frames");
+        self.fields = fields_of(s);
+        self.census.steps(&added);
+        self.census.rate(&before, &done, made);
+        format!(" {outcome}")
+    }
+
+    fn write(&mut self, samples: &[f32]) -> String {
+        let channels = self.fields[CHANNELS].max(1) as usize;
+        let frames = samples.len() / channels;
+        let add = |s: &mut SonicStream| {
+            s.input.extend(samples[..frames * channels].iter().map(|&x| (x.clamp(-1.0, 1.0) * 32767.0) as i16));
+            s.input_play_time += frames as f32 * s.sample_period / (s.speed / s.pitch);
+        };
+        self.work(frames, add, |s| s.write_f32(samples))
+    }
+
+    fn flush(&mut self) -> String {
+        let frames = 4 * (self.fields[RATE] / 65) as usize;
+        let add = |s: &mut SonicStream| {
+            s.input.resize(s.input.len() + frames * s.channels, 0);
+            s.input_play_time += frames as f32 * s.sample_period / (s.speed / s.pitch);
+        };
+        self.work(frames, add, SonicStream::flush)
+    }
+
+    fn read(&mut self, most: u64, values: usize) -> String {
+        let mut slice = vec![UNREAD; values];
+        if let Some(number) = self.refusal(true) {
+            return format!(" refused {number} {:08x}", sum(slice.iter().copied()));
+        }
+        let s = self.original.as_mut().expect("no stream");
+        let given = s.read_f32((values / s.channels).min(most as usize));
+        slice[..given.len()].copy_from_slice(&given);
+        let frames = given.len() / s.channels;
+        self.fields[WAITING] -= frames as u64;
+        format!(" {frames} {:08x}", sum(slice.iter().copied()))
+    }
+
+    /// Refusal 3, or a setting of the original's.
+    fn set(&mut self, act: impl Fn(&mut SonicStream)) -> String {
+        if !in_order(&self.fields) {
+            return " refused 3".to_string();
+        }
+        let s = self.stream();
+        act(s);
+        self.fields = fields_of(s);
+        String::new()
+    }
+
+    fn available(&self) -> String {
+        if in_order(&self.fields) { format!(" {}", self.fields[WAITING]) } else { " refused 3".to_string() }
+    }
+}

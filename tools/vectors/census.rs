@@ -1,0 +1,140 @@
+
+// ---- What the runs touch: counted by name, each name that has to be there listed.
+
+use std::collections::BTreeMap;
+
+/// How often the runs touch each thing by name.
+struct Census(BTreeMap<String, usize>);
+
+/// What the runs have to touch.
+const TOUCHED: [&str; 43] = [
+    "write empty", "write copied", "write waiting", "write stretched", "write stalled", "flush copied", "flush stretched", "flush stalled",
+    "open refused 1", "open refused 2", "speed refused 3", "pitch refused 3", "volume refused 3", "available refused 3",
+    "read refused 3", "read refused 4",
+    "write refused 3", "write refused 4", "write refused 5", "write refused 6", "write refused 7",
+    "flush refused 3", "flush refused 4", "flush refused 5", "flush refused 6", "flush refused 7",
+    "step copying, s > 1", "step copying, s < 1", "step copying all that is left", "step skip, s < 2", "step skip, s >= 2", "step insert, s > 0.5",
+    "step insert, s <= 0.5", "step insert of 1 frame", "step stall after frames", "previous period used",
+    "search of samples", "search of averages, skip 1", "search twice, 1 channel", "search twice, more channels",
+    "tail kept at pitch 1", "rates halved", "rate positions back to 0",
+];
+
+impl Census {
+    fn new() -> Self {
+        Self(BTreeMap::new())
+    }
+
+    fn count(&mut self, name: &str) {
+        *self.0.entry(name.to_string()).or_default() += 1;
+    }
+
+    fn call(&mut self, line: &str, answer: &str, fields: &Fields) {
+        let kind = match line.as_bytes()[0] {
+            b'o' => "open",
+            b's' => "speed",
+            b'p' => "pitch",
+            b'v' => "volume",
+            b'a' => "available",
+            b'w' => "write",
+            b'f' => "flush",
+            _ => "read",
+        };
+        let words: Vec<&str> = answer.split(' ').skip(1).collect();
+        match words.first() {
+            Some(&"refused") => self.count(&format!("{kind} refused {}", words[1])),
+            Some(word) if matches!(kind, "write" | "flush") => self.count(&format!("{kind} {word}")),
+            _ => self.count(&format!("{kind} accepted")),
+        }
+        if kind == "open" && fields[RATE] != 0 {
+            self.count(&format!("rate {}", fields[RATE]));
+            self.count(&format!("channels {}", fields[CHANNELS]));
+        }
+    }
+
+    /// The steps of a stretch, if it is due, in the order of `change_speed`.
+    fn steps(&mut self, added: &SonicStream) {
+        let (held, mut position) = (added.input_frames(), 0);
+        let Some(speed) = due(added) else { return };
+        let (mut s, mut whole) = (copy_of(added), copy_of(added));
+        while position + s.max_required <= held {
+            let error = s.time_error;
+            if (speed > 1.0 && speed < 2.0 && error < 0.0) || (speed < 1.0 && speed > 0.5 && error > 0.0) {
+                self.count(if speed > 1.0 { "step copying, s > 1" } else { "step copying, s < 1" });
+                position += s.copy_unmodified_samples(speed, position);
+                if position == held {
+                    self.count("step copying all that is left");
+                }
+                continue;
+            }
+            let (used, k) = self.step(&mut s, speed, position);
+            if k == 0 {
+                self.count(if position > 0 { "step stall after frames" } else { "step stall" });
+                break;
+            }
+            position += used;
+        }
+        whole.change_speed(speed);
+        assert!(whole.output == s.output && bits(whole.time_error) == bits(s.time_error), "the steps are counted wrong");
+    }
+
+    /// A skip or an insert at a position: the frames used, and k.
+    fn step(&mut self, s: &mut SonicStream, speed: f32, position: usize) -> (usize, usize) {
+        let period = s.find_pitch_period(position, true) as usize;
+        if period != s.prev_period as usize {
+            self.count("previous period used");
+        }
+        self.count(match (s.channels, s.sample_rate / AMDF_FREQ) {
+            (1, 0 | 1) => "search of samples",
+            (_, 0 | 1) => "search of averages, skip 1",
+            (1, _) => "search twice, 1 channel",
+            _ => "search twice, more channels",
+        });
+        if speed > 1.0 {
+            self.count(if speed < 2.0 { "step skip, s < 2" } else { "step skip, s >= 2" });
+            let k = s.skip_pitch_period(speed, position, period);
+            if speed < 2.0 {
+                s.time_error += k as f32 * s.sample_period - (period + k) as f32 * s.input_play_time / s.input_frames() as f32;
+            }
+            return (period + k, k);
+        }
+        self.count(if speed > 0.5 { "step insert, s > 0.5" } else { "step insert, s <= 0.5" });
+        let k = s.insert_pitch_period(speed, position, period);
+        if k == 1 {
+            self.count("step insert of 1 frame");
+        }
+        if speed > 0.5 {
+            s.time_error += (period + k) as f32 * s.sample_period - k as f32 * s.input_play_time / s.input_frames() as f32;
+        }
+        (k, k)
+    }
+
+    /// What the rate conversion of a call does to the tail and the positions.
+    fn rate(&mut self, before: &SonicStream, after: &SonicStream, made: usize) {
+        if made == 0 {
+            return;
+        }
+        if after.pitch == 1.0 {
+            if after.pitch_frames() > 0 {
+                self.count("tail kept at pitch 1");
+            }
+            return;
+        }
+        let new = (after.sample_rate as f32 / after.pitch) as i32;
+        if new > 1 << 14 || after.sample_rate > 1 << 14 {
+            self.count("rates halved");
+        }
+        if after.old_rate_position < before.old_rate_position {
+            self.count("rate positions back to 0");
+        }
+    }
+
+    /// Fails unless everything is touched; tells what is.
+    fn check(&self) {
+        for name in TOUCHED {
+            assert!(self.0.contains_key(name), "no run touches: {name}");
+        }
+        for (name, times) in &self.0 {
+            println!("{times:5}  {name}");
+        }
+    }
+}

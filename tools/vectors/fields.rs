@@ -1,0 +1,95 @@
+
+// ---- Answers to the calls of crates/vectors/stdin, by the functions above: this text is joined to the original's, which is otherwise
+// unchanged. The original has neither refusals nor outcomes: a refusal is decided by document 01's table with the original's own
+// counts, an outcome by the original's state before and after.
+
+/// The most samples of an area, of a write and of a read, as in crates/vectors/src/main.rt.
+const ROOM: usize = 32_768;
+
+/// A stream's fields in the order of the library's struct, floats as their bits.
+type Fields = [u64; 15];
+
+const RATE: usize = 0;
+const CHANNELS: usize = 1;
+const SPEED: usize = 2;
+const PITCH: usize = 3;
+const VOLUME: usize = 4;
+const PERIOD_OF_SAMPLE: usize = 5;
+const PLAY_TIME: usize = 6;
+const TIME_ERROR: usize = 7;
+const OLD_POSITION: usize = 8;
+const NEW_POSITION: usize = 9;
+const PREV_PERIOD: usize = 10;
+const PREV_MIN_DIFF: usize = 11;
+const HELD: usize = 12;
+const TAIL: usize = 13;
+const WAITING: usize = 14;
+
+/// The bits of a float, those of one NaN for every NaN.
+fn bits(x: f32) -> u64 {
+    u64::from(if x.is_nan() { 0x7fc0_0000 } else { x.to_bits() })
+}
+
+fn float(bits: u64) -> f32 {
+    f32::from_bits(bits as u32)
+}
+
+fn copy_of(s: &SonicStream) -> SonicStream {
+    SonicStream {
+        input: s.input.clone(),
+        output: s.output.clone(),
+        pitch_buffer: s.pitch_buffer.clone(),
+        down_sample: s.down_sample.clone(),
+        ..*s
+    }
+}
+
+fn fields_of(s: &SonicStream) -> Fields {
+    [
+        s.sample_rate as u64, s.channels as u64, bits(s.speed), bits(s.pitch), bits(s.volume), bits(s.sample_period), bits(s.input_play_time),
+        bits(s.time_error), s.old_rate_position as u64, s.new_rate_position as u64, s.prev_period as u64, s.prev_min_diff as u64,
+        s.input_frames() as u64, s.pitch_frames() as u64, s.output_frames() as u64,
+    ]
+}
+
+/// What document 01 calls in order.
+fn in_order(f: &Fields) -> bool {
+    let within = |x: f32, low: f32, high: f32| x >= low && x <= high;
+    if !(1_000..=500_000).contains(&f[RATE]) || !(1..=32).contains(&f[CHANNELS]) || f[PERIOD_OF_SAMPLE] != bits((1.0 / f[RATE] as f64) as f32) {
+        return false;
+    }
+    if !within(float(f[SPEED]), 0.05, 20.0) || !within(float(f[PITCH]), 0.05, 20.0) || !within(float(f[VOLUME]), 0.01, 100.0) {
+        return false;
+    }
+    if (f[PREV_PERIOD] != 0 && !(f[RATE] / 400..=f[RATE] / 65).contains(&f[PREV_PERIOD])) || f[PREV_MIN_DIFF] > 65_535 {
+        return false;
+    }
+    let (mut new, mut old) = ((f[RATE] as f32 / float(f[PITCH])) as u64, f[RATE]);
+    while new > 16_384 || old > 16_384 {
+        (new, old) = (new / 2, old / 2);
+    }
+    f[OLD_POSITION] < old && f[NEW_POSITION] == (f[OLD_POSITION] * new).div_ceil(old)
+}
+
+/// The local speed of a stream whose frames are added, if its stretch is due.
+fn due(added: &SonicStream) -> Option<f32> {
+    let speed = added.input_frames() as f32 * added.sample_period / added.input_play_time;
+    (f64::from(speed) > 1.00001 || f64::from(speed) < 0.99999).then_some(speed)
+}
+
+/// What a call does to a stream whose frames are added: its outcome, and the frames of its stretch or copy.
+fn stretched(added: &SonicStream) -> (&'static str, usize) {
+    let held = added.input_frames();
+    if held == 0 {
+        return ("empty", 0);
+    }
+    let Some(speed) = due(added) else { return ("copied", held) };
+    let mut after = copy_of(added);
+    after.change_speed(speed);
+    let outcome = match after.input_frames() {
+        _ if held < added.max_required => "waiting",
+        left if left == held => "stalled",
+        _ => "stretched",
+    };
+    (outcome, after.output_frames() - added.output_frames())
+}
