@@ -1,3 +1,4 @@
 pub mod Integers
+pub mod Reciprocal
 pub mod Tables
 pub mod Widening

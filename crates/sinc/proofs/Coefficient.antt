@@ -1,26 +1,67 @@
 -- The coefficient of a tap: its table place and remainder, its size, and each step by which `find_sinc_coefficient` computes it.
--- In order: place and remainder; a blend of two entries; the steps of the code; the size of a coefficient. Assumes nothing.
+-- In order: the reciprocal of N; place and remainder; a blend of two entries; the steps of the code; the size of a coefficient. Assumes nothing.
 use mathlib.Core.Path.{_≡_, _∙_}
-use Prim.Native.Nat.{ℕ, _+_, _-_, _*_, _/_, _%_, _≤_, _<_}
-use native.Mathlib.Nat.{le-of-lt, add-mul, mul-comm, mul-le-mul-right, div-le-of-le-mul, div-lt-iff-lt-mul, div-add-mod', mod-lt}
+use Prim.Native.Nat.{ℕ, _+_, _-_, _*_, _/_, _%_, _^_, _≤_, _<_}
+use native.Mathlib.Nat.{
+  le-of-lt,
+  le-trans,
+  add-mul,
+  mul-comm,
+  mul-le-mul,
+  mul-le-mul-right,
+  div-le-self,
+  div-le-of-le-mul,
+  div-mul-le-self,
+  div-lt-iff-lt-mul,
+  div-add-mod',
+  mod-lt,
+}
 use native.Mathlib.Omega.{arith}
 use lib.IntN.{ℤ, pos, natAbs, _+ℤ_, _-ℤ_, _*ℤ_}
 use lib.ListN.{getD}
 use lib.Signed.{quotZ}
-use mir.Syntax.{w16, w32}
+use mir.Syntax.{w16, w32, w64}
 use mir.Val.{SFits, toZ}
 use mir.Facts.{toZ-ofZ, toZ-pos}
 use Rattle.laws.proofs.Integers.{sfits-of-natAbs, natAbs-add-le, natAbs-mul, natAbs-quot, pos-sub}
+use Rattle.laws.proofs.Reciprocal.{reciprocal-divides, product-le, quot-by-reciprocal}
 use Rattle.laws.proofs.Widening.{i16, i32, widened-reads}
 use Rattle.sinc.specs.SincTable.{sincTable}
 use Rattle.sinc.specs.Sinc.{tablePlace, remainder, tableValue, sincCoefficient}
 use Rattle.sinc.proofs.TableRule.{entry-abs}
+
+-- ---- the reciprocal of N
+
+pub reciprocal-lt : (N : ℕ) → 2 ^ 44 / N + 1 < 2 ^ 45
+reciprocal-lt N = omega (arith, div-le-self (2 ^ 44) N)
+
+-- it divides whatever is at most 65,534·N
+reciprocal-serves : (n N : ℕ) → N ≤ 16384 → n ≤ 65534 * N → (n + N) * N ≤ 2 ^ 44
+reciprocal-serves n N narrow size =
+    let sum : n + N ≤ 1073725440 = omega arith in
+    le-trans (mul-le-mul sum narrow) (omega arith)
 
 -- ---- place and remainder
 
 -- the place within a lobe
 pub place-lt : (r N : ℕ) → r < N → 50 * r / N < 50
 place-lt r N h = div-lt-iff-lt-mul {k = N} {x = 50 * r} {y = 50} (omega arith) .1 (omega arith)
+
+-- the code's place and remainder
+module _ (r N : ℕ) (h : r < N) (narrow : N ≤ 16384) where
+  pub place-product-lt : 50 * r * (2 ^ 44 / N + 1) < 2 ^ 64
+  place-product-lt =
+      let small : 50 * r ≤ 50 * N = omega arith in
+      omega (arith, product-le (50 * r) N 50 small)
+
+  pub place-is : 50 * r * (2 ^ 44 / N + 1) / 2 ^ 44 ≡ 50 * r / N
+  place-is = reciprocal-divides (50 * r) N (omega arith) (reciprocal-serves (50 * r) N narrow (omega arith))
+
+  pub place-reaches : 50 * r * (2 ^ 44 / N + 1) / 2 ^ 44 * N ≤ 50 * r
+  place-reaches = rw place-is (div-mul-le-self (50 * r) N)
+
+  pub behind-is : 50 * r - 50 * r * (2 ^ 44 / N + 1) / 2 ^ 44 * N ≡ 50 * r % N
+  behind-is = rw place-is (omega (arith, div-add-mod' (50 * r) N))
 
 pub tablePlace-lt : (i r N : ℕ) → i < 12 → r < N → tablePlace i r N < 600
 unfolding tablePlace
@@ -40,6 +81,9 @@ sincCoefficient-is i r N = rw (remainder-is i r N)
 
 abbrev pub blend : ℤ → ℤ → ℕ → ℕ → ℤ
 blend x y N e = x *ℤ pos (N - e) +ℤ y *ℤ pos e
+
+abbrev pub double : ℤ → ℤ → ℕ → ℕ → ℤ
+double x y N e = pos 2 *ℤ blend x y N e
 
 pub record Blend (x y : ℤ) (N e : ℕ) : Type 0 where
   pub left-small : natAbs x ≤ 32767
@@ -62,16 +106,16 @@ module _ {x y : ℤ} {N e : ℕ} (b : Blend x y N e) where
   blend-abs : natAbs (blend x y N e) ≤ 32767 * N
   blend-abs = omega (arith, natAbs-add-le (x *ℤ pos (N - e)) (y *ℤ pos e), left-abs, right-abs, b .inside)
 
-  double-abs : natAbs (pos 2 *ℤ blend x y N e) ≤ 65534 * N
+  double-abs : natAbs (double x y N e) ≤ 65534 * N
   double-abs = rw natAbs-mul (omega (arith, blend-abs))
 
-  mean-abs : natAbs (quotZ (pos 2 *ℤ blend x y N e) (pos N)) ≤ 65534
+  mean-abs : natAbs (quotZ (double x y N e) (pos N)) ≤ 65534
   mean-abs = rw natAbs-quot (div-le-of-le-mul N (omega (arith, double-abs, mul-comm N 65534)))
 
 -- ---- the steps of the code: `-fits` says that a step fits, `-reads` what it reads back as
 
 module _ {x y : ℤ} {N e : ℕ} (b : Blend x y N e) (narrow : N ≤ 16384) where
-  pub width-reads : toZ w32 N ≡ pos N
+  width-reads : toZ w32 N ≡ pos N
   width-reads = toZ-pos w32 (omega arith)
 
   remainder-reads : toZ w32 e ≡ pos e
@@ -111,12 +155,23 @@ module _ {x y : ℤ} {N e : ℕ} (b : Blend x y N e) (narrow : N ≤ 16384) wher
   pub sum-reads : i32 (i32 (i32 (i16 x) *ℤ i32 (toZ w32 N -ℤ toZ w32 e)) +ℤ i32 (i32 (i16 y) *ℤ toZ w32 e)) ≡ blend x y N e
   sum-reads = toZ-ofZ sum-fits ∙ sum-is
 
-  -- 2 * sum, and its quotient
-  pub double-fits : SFits w32 (pos 2 *ℤ blend x y N e)
-  double-fits = sfits-of-natAbs (pos 2 *ℤ blend x y N e) (omega (arith, double-abs b))
+  -- 2 * sum
+  pub double-fits : SFits w32 (double x y N e)
+  double-fits = sfits-of-natAbs (double x y N e) (omega (arith, double-abs b))
 
-  pub mean-fits : SFits w32 (quotZ (pos 2 *ℤ blend x y N e) (pos N))
-  mean-fits = sfits-of-natAbs (quotZ (pos 2 *ℤ blend x y N e) (pos N)) (omega (arith, mean-abs b))
+  -- times the reciprocal
+  product-abs : natAbs (double x y N e *ℤ pos (2 ^ 44 / N + 1)) ≤ 65534 * (2 ^ 44 + N)
+  product-abs = rw natAbs-mul (product-le (natAbs (double x y N e)) N 65534 (double-abs b))
+
+  pub product-fits : SFits w64 (double x y N e *ℤ pos (2 ^ 44 / N + 1))
+  product-fits = sfits-of-natAbs (double x y N e *ℤ pos (2 ^ 44 / N + 1)) (omega (arith, product-abs))
+
+  -- the quotient
+  pub mean-is : quotZ (double x y N e *ℤ pos (2 ^ 44 / N + 1)) (pos (2 ^ 44)) ≡ quotZ (double x y N e) (pos N)
+  mean-is = quot-by-reciprocal (double x y N e) N (omega (arith, b .inside)) (reciprocal-serves (natAbs (double x y N e)) N narrow (double-abs b))
+
+  pub mean-fits : SFits w32 (quotZ (double x y N e) (pos N))
+  mean-fits = sfits-of-natAbs (quotZ (double x y N e) (pos N)) (omega (arith, mean-abs b))
 
 -- ---- the size of a coefficient
 

@@ -3,7 +3,7 @@ pub mod table;
 
 use frames::Samples;
 ghost use mathlib.Core.Path.{_≡_};
-ghost use Prim.Native.Nat.{ℕ, _+_, _*_, _≤_, _<_};
+ghost use Prim.Native.Nat.{ℕ, _+_, _*_, _/_, _^_, _≤_, _<_};
 ghost use lib.IntN.{pos, natAbs};
 ghost use lib.ListN.{length, drop, getD};
 ghost use lib.Seq.{paste};
@@ -24,9 +24,15 @@ pub fn sinc_table() -> [i16; 601]
     table::SINC_TABLE
 }
 
-// The value of the filter at `remainder` of `width` parts behind the table place `left`, times 2.
-fn find_sinc_coefficient(table: &[i16], left: usize, remainder: usize, width: usize) -> i32
-    requires { ⌜ (now table ≡ sincTable) × (left < 600) × (remainder < width) × (width ≤ 16384) ⌝ }
+// The value of the filter at `remainder` of `width` parts behind the table place `left`, times 2: divided by the reciprocal of `width`.
+fn find_sinc_coefficient(
+    table: &[i16],
+    left: usize,
+    remainder: usize,
+    width: usize,
+    reciprocal: u64,
+) -> i32
+    requires { ⌜ (now table ≡ sincTable) × (left < 600) × (remainder < width) × (width ≤ 16384) × (reciprocal ≡ 2 ^ 44 / width + 1) ⌝ }
     ensures { λ r. ⌜ r ≡ tableValue left remainder width ⌝ }
 {
     let right = left + 1;
@@ -35,20 +41,31 @@ fn find_sinc_coefficient(table: &[i16], left: usize, remainder: usize, width: us
     let n = width as i32;
     let e = remainder as i32;
     let sum = left_value * (n - e) + right_value * e;
-    2 * sum / n
+    let double = (2 * sum) as i64;
+    let parts = reciprocal as i64;
+    (double * parts / 0x1000_0000_0000) as i32
 }
 
-// The coefficients of the 12 taps. One division gives the place and the remainder of all of them.
+// The coefficients of the 12 taps. All of them, their place and their remainder come from one division, which gives the reciprocal of `width`.
 fn coefficients(table: &[i16], ratio: usize, width: usize) -> [i32; SINC_FILTER_POINTS]
     requires { ⌜ (now table ≡ sincTable) × (ratio < width) × (width ≤ 16384) ⌝ }
     ensures { λ r. ⌜ r ≡ sincCoefficients ratio width ⌝ }
 {
-    let place = LOBE_POINTS * ratio / width;
-    let remainder = LOBE_POINTS * ratio % width;
+    let n = width as u64;
+    let reciprocal = 0x1000_0000_0000 / n + 1;
+    let points = LOBE_POINTS * ratio;
+    let place = (points as u64 * reciprocal / 0x1000_0000_0000) as usize;
+    let remainder = points - place * width;
     let mut weights = [0i32; SINC_FILTER_POINTS];
     let mut i: usize = 0;
     while i < SINC_FILTER_POINTS {
-        let weight = find_sinc_coefficient(table, LOBE_POINTS * i + place, remainder, width);
+        let weight = find_sinc_coefficient(
+            table,
+            LOBE_POINTS * i + place,
+            remainder,
+            width,
+            reciprocal,
+        );
         weights[i] = weight;
         i += 1;
     }

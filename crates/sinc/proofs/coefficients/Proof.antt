@@ -1,6 +1,6 @@
 -- `sinc::coefficients` meets its contract. The loop's invariant: the first i weights are the coefficients of the first i taps.
 -- Assumes nothing.
-use mathlib.Core.Path.{_≡_, sym, ap, _∙_}
+use mathlib.Core.Path.{_≡_, refl, sym, ap, _∙_}
 use mathlib.Core.List.{List}
 use Prim.Native.Nat.{ℕ, _-_, _*_, _≤_}
 use native.Mathlib.Nat.{mod-lt}
@@ -13,29 +13,35 @@ use mir.Syntax.{w32}
 use mir.Val.{toZ, ofZ}
 use mir.Facts.{toZ-ofZ}
 use Rattle.sinc.specs.Sinc.{tabulate, sincCoefficient, sincCoefficients}
-use Rattle.sinc.proofs.Coefficient.{place-lt, sincCoefficient-is}
+use Rattle.sinc.proofs.Coefficient.{reciprocal-lt, place-lt, place-product-lt, place-is, place-reaches, behind-is, sincCoefficient-is}
 use Rattle.sinc.proofs.Tabulated.{front-turn}
 use Rattle.sinc.proofs.coefficients.Statement.{statement}
 use Rattle.sinc.proofs.coefficients.Tie as tie
 
 abbrev Inv-loop : tie.InvT-loop
-Inv-loop table ratio width place remainder weights₀ i₀ weights i =
+Inv-loop table ratio width n reciprocal points place remainder weights₀ i₀ weights i =
     (i ≤ 12) × (length weights ≡ 12) × (weights ≡ paste weights₀ 0 (sincCoefficients ratio width) i)
 
 abbrev μ-loop : tie.MeasureT-loop
-μ-loop table ratio width place remainder weights₀ i₀ weights i = 12 - i
+μ-loop table ratio width n reciprocal points place remainder weights₀ i₀ weights i = 12 - i
+
+div-reciprocal : tie.Need-div-reciprocal Inv-loop μ-loop
+div-reciprocal c = search needs
+
+add-reciprocal : tie.Need-add-reciprocal Inv-loop μ-loop
+add-reciprocal c = record { fits = omega (arith, reciprocal-lt (c .args .width)) }
+
+mul-points : tie.Need-mul-points Inv-loop μ-loop
+mul-points c = search needs
 
 mul-place : tie.Need-mul-place Inv-loop μ-loop
-mul-place c = search needs
-
-div-place : tie.Need-div-place Inv-loop μ-loop
-div-place c = search needs
+mul-place c = record { fits = place-product-lt (c .args .ratio) (c .args .width) (c .pre .1) (c .pre .2) }
 
 mul-remainder : tie.Need-mul-remainder Inv-loop μ-loop
-mul-remainder c = search needs
+mul-remainder c = record { fits = omega (arith, place-reaches (c .args .ratio) (c .args .width) (c .pre .1) (c .pre .2)) }
 
-rem-remainder : tie.Need-rem-remainder Inv-loop μ-loop
-rem-remainder c = search needs
+sub-remainder : tie.Need-sub-remainder Inv-loop μ-loop
+sub-remainder c = place-reaches (c .args .ratio) (c .args .width) (c .pre .1) (c .pre .2)
 
 loop-holds : tie.Need-loop-holds Inv-loop μ-loop
 loop-holds c = search needs
@@ -45,14 +51,16 @@ mul-find-sinc-coefficient c = search needs
 
 add-find-sinc-coefficient : tie.Need-add-find-sinc-coefficient Inv-loop μ-loop
 add-find-sinc-coefficient c =
-    let a = c .before .before .args in
-    omega (arith, place-lt (a .ratio) (a .width) (c .before .before .pre .1))
+    let s = c .before .before in
+    let a = s .args in
+    rw (place-is (a .ratio) (a .width) (s .pre .1) (s .pre .2)) (record { fits = omega (arith, place-lt (a .ratio) (a .width) (s .pre .1)) })
 
 find-sinc-coefficient-requires : tie.Need-find-sinc-coefficient-requires Inv-loop μ-loop
 find-sinc-coefficient-requires c κs =
     let s = c .before .before in
     let a = s .args in
-    (s .pre .0, omega (arith, place-lt (a .ratio) (a .width) (s .pre .1)), mod-lt (50 * a .ratio) (omega arith), s .pre .2)
+    rw (behind-is (a .ratio) (a .width) (s .pre .1) (s .pre .2), place-is (a .ratio) (a .width) (s .pre .1) (s .pre .2))
+    (s .pre .0, omega (arith, place-lt (a .ratio) (a .width) (s .pre .1)), mod-lt (50 * a .ratio) (omega arith), s .pre .2, refl)
 
 mul-weights : tie.Need-mul-weights Inv-loop μ-loop
 mul-weights c = search needs
@@ -71,11 +79,14 @@ unfolding sincCoefficients
 loop-again c =
     let l = c .before .before .loop in
     let a = c .before .before .before .args in
+    let h = c .before .before .before .pre in
     let call = c .find-sinc-coefficient in
     let f : ℕ → ℤ = λ j. sincCoefficient j (a .ratio) (a .width) in
     let zeros : List ℤ = replicate 12 (pos 0) in
     let e : toZ w32 (ofZ w32 (call .result)) ≡ f (l .i) =
-    toZ-ofZ {w = w32} (record { sfits = call .ok }) ∙ call .ensures ∙ sym (sincCoefficient-is (l .i) (a .ratio) (a .width)) in (
+    toZ-ofZ {w = w32} (record { sfits = call .ok })
+    ∙ rw (behind-is (a .ratio) (a .width) (h .1) (h .2), place-is (a .ratio) (a .width) (h .1) (h .2)) at (call .ensures)
+    ∙ sym (sincCoefficient-is (l .i) (a .ratio) (a .width)) in (
       omega arith,
       length-set (l .weights) (l .i) _ ∙ l .inv .1,
       rw e (ap (λ (r : List ℤ). set r (l .i) (f (l .i))) (l .inv .2) ∙ front-turn zeros 12 f (l .i) (pos 0) (omega arith) (omega arith)),
@@ -95,10 +106,12 @@ coefficients-spec =
     (tie.spec
     Inv-loop
     μ-loop
+    div-reciprocal
+    add-reciprocal
+    mul-points
     mul-place
-    div-place
     mul-remainder
-    rem-remainder
+    sub-remainder
     loop-holds
     mul-find-sinc-coefficient
     add-find-sinc-coefficient

@@ -1,16 +1,18 @@
 -- `sinc::find_sinc_coefficient` meets its contract: each step fits by a fact of `Coefficient`. Assumes nothing.
 use borrow.Author.Needs.{needs}
-use mathlib.Core.Path.{_≡_}
-use Prim.Native.Nat.{_+_}
+use mathlib.Core.Path.{_≡_, ap, _∙_}
+use Prim.Native.Nat.{_+_, _/_, _^_, _<_}
 use native.Mathlib.Omega.{arith}
 use lib.IntN.{pos}
 use lib.ListN.{length, getD}
-use mir.Facts.{toZ-ofZ}
-use Rattle.laws.proofs.Widening.{widened-fits}
+use mir.Syntax.{w64}
+use mir.Val.{toZ}
+use mir.Facts.{toZ-ofZ, toZ-pos, sfits-widen}
+use Rattle.laws.proofs.Widening.{widened-fits, widened-reads}
 use Rattle.sinc.specs.Sinc.{tableValue}
 use Rattle.sinc.proofs.TableRule.{sincTable-length}
-use Rattle.sinc.proofs.Coefficient.{Blend, entries, left-sample, right-sample}
-use Rattle.sinc.proofs.Coefficient.{width-reads, rest-fits, left-fits, right-fits, sum-fits, sum-reads, double-fits, mean-fits}
+use Rattle.sinc.proofs.Coefficient.{reciprocal-lt, Blend, entries, left-sample, right-sample}
+use Rattle.sinc.proofs.Coefficient.{rest-fits, left-fits, right-fits, sum-fits, sum-reads, double-fits, product-fits, mean-is, mean-fits}
 use Rattle.sinc.proofs.find_sinc_coefficient.Statement.{statement}
 use Rattle.sinc.proofs.find_sinc_coefficient.Tie as tie
 
@@ -20,6 +22,12 @@ blended c = rw (c .pre .0) (entries (c .args .left) (c .args .remainder) (c .arg
 
 long : (c : tie.Start) → length (c .args .table .now) ≡ 601
 long c = rw (c .pre .0) sincTable-length
+
+parts-lt : (c : tie.Start) → c .args .reciprocal < 2 ^ 45
+parts-lt c = rw (c .pre .4) (reciprocal-lt (c .args .width))
+
+parts-reads : (c : tie.Start) → toZ w64 (c .args .reciprocal) ≡ pos (2 ^ 44 / c .args .width + 1)
+parts-reads c = toZ-pos w64 (omega (arith, parts-lt c)) ∙ ap pos (c .pre .4)
 
 add-right : tie.Need-add-right
 add-right c = search needs
@@ -60,17 +68,50 @@ mul-sum-2 c = right-fits (blended (c .before .before)) (c .before .before .pre .
 add-sum : tie.Need-add-sum
 add-sum c = sum-fits (blended (c .before .before)) (c .before .before .pre .3)
 
+mul-double : tie.Need-mul-double
+mul-double c =
+    let s = c .before .before in
+    rw (sum-reads (blended s) (s .pre .3)) (double-fits (blended s) (s .pre .3))
+
+cast-double : tie.Need-cast-double
+cast-double c =
+    let s = c .before .before in
+    rw (sum-reads (blended s) (s .pre .3)) (widened-fits tt (double-fits (blended s) (s .pre .3)))
+
+cast-parts : tie.Need-cast-parts
+cast-parts c = record { sfits = omega (arith, parts-lt (c .before .before)) }
+
 mul-result : tie.Need-mul-result
 mul-result c =
     let s = c .before .before in
-    rw (sum-reads (blended s) (s .pre .3)) (double-fits (blended s) (s .pre .3))
+    let b = blended s in
+    let n = s .pre .3 in
+    rw (sum-reads b n, widened-reads w64 tt (double-fits b n), parts-reads s) (product-fits b n)
 
 div-result : tie.Need-div-result
 div-result c =
     let s = c .before .before in
     let b = blended s in
+    let n = s .pre .3 in (
+      omega arith,
+      rw (sum-reads b n, widened-reads w64 tt (double-fits b n), parts-reads s, toZ-ofZ (product-fits b n), mean-is b n)
+          (sfits-widen tt (mean-fits b n)),
+    )
+
+cast-result : tie.Need-cast-result
+cast-result c =
+    let s = c .before .before in
+    let b = blended s in
     let n = s .pre .3 in
-    (omega arith, rw (sum-reads b n, toZ-ofZ (double-fits b n), width-reads b n) (mean-fits b n))
+    rw (
+      sum-reads b n,
+      widened-reads w64 tt (double-fits b n),
+      parts-reads s,
+      toZ-ofZ (product-fits b n),
+      mean-is b n,
+      toZ-ofZ (sfits-widen {w′ = w64} tt (mean-fits b n)),
+    )
+    (mean-fits b n)
 
 returns : tie.Need-returns
 unfolding tableValue
@@ -78,7 +119,16 @@ returns c =
     let s = c .before .before in
     let b = blended s in
     let n = s .pre .3 in
-    rw (sum-reads b n, toZ-ofZ (double-fits b n), width-reads b n, toZ-ofZ (mean-fits b n), s .pre .0)
+    rw (
+      sum-reads b n,
+      widened-reads w64 tt (double-fits b n),
+      parts-reads s,
+      toZ-ofZ (product-fits b n),
+      mean-is b n,
+      toZ-ofZ (sfits-widen {w′ = w64} tt (mean-fits b n)),
+      toZ-ofZ (mean-fits b n),
+      s .pre .0,
+    )
 
 pub find-sinc-coefficient-spec : {M : Type 1} → statement M
 find-sinc-coefficient-spec =
@@ -97,6 +147,10 @@ find-sinc-coefficient-spec =
     mul-sum
     mul-sum-2
     add-sum
+    mul-double
+    cast-double
+    cast-parts
     mul-result
     div-result
+    cast-result
     returns)
