@@ -55,9 +55,9 @@ fn seeded(r: &mut Runs, count: usize) {
 
 fn main() {
     let mut r = Runs { text: String::new(), runs: 0 };
-    for section in [openings, settings, out_of_order, short_areas, writes, speeds, previous_period_limits, limits, stalls, pitches, volumes] {
-        section(&mut r);
-    }
+    let refused = [openings, settings, out_of_order, short_areas];
+    let stretched = [writes, speeds, previous_period_limits, roundings, limits, stalls, pitches, volumes];
+    refused.iter().chain(&stretched).for_each(|section| section(&mut r));
     seeded(&mut r, 30);
     let (told, census) = replay(&r.text);
     assert!(r.text.len() <= 65_536, "more than the program reads");

@@ -76,6 +76,32 @@ fn deciding_errors(speed: f32, sample_period: f32) -> [f32; 2] {
     [product.expect("an error"), rounded.expect("an error")]
 }
 
+/// The first speed, pitch and count of frames held for which one rounding decides how many frames a flush keeps.
+fn deciding_flush() -> (f32, f32, usize) {
+    let tenths = || (1..30).map(|i| i as f32 * 0.1);
+    let cases = tenths().flat_map(|speed| tenths().flat_map(move |pitch| (1..245).map(move |held| (speed, pitch, held))));
+    let decides = |&(speed, pitch, held): &(f32, f32, usize)| {
+        let kept = |used: f32| (used / pitch + 0.5) as usize;
+        speed > pitch && kept(held as f32 / (speed / pitch)) != kept(held as f32 * pitch / speed)
+    };
+    cases.into_iter().find(decides).expect("a case")
+}
+
+/// Runs that turn on one rounding: of a copying step, of a skip of period 8, of an insert of period 9, of a flush.
+fn roundings(r: &mut Runs) {
+    let local = |frames: f32, speed: f32| frames * 0.001 / (frames * 0.001 / speed);
+    for error in deciding_errors(local(90.0, 1.3), 0.001) {
+        r.run(&format!("time error {error:?}"), AREAS, 1_000, 1).speed(1.3).edit_float(TIME_ERROR, error).write(VOICE, 1, 9, 90);
+    }
+    for (period, speed) in [(8, 0x406a_aaab), (9, 0x3ecc_cccd)] {
+        let speed = f32::from_bits(speed);
+        let frames = (30..90).find(|&n| local(n as f32, speed) == speed).expect("a count");
+        r.run(&format!("period {period} at {speed}"), AREAS, 1_000, 1).speed(speed).write(TRIANGLE, 1, period, frames);
+    }
+    let (speed, pitch, held) = deciding_flush();
+    r.run(&format!("a flush of {held} frames"), AREAS, 8_000, 1).pitch(pitch).speed(speed).write(VOICE, 1, 62, held).flush();
+}
+
 /// Local speeds at the limits of the stretch, by a play time set for a write of no frames.
 fn limits(r: &mut Runs) {
     for speed in [0x3f80_0053, 0x3f80_0054, 0x3f7f_ff58, 0x3f7f_ff59] {
@@ -93,10 +119,6 @@ fn limits(r: &mut Runs) {
     r.run("local speeds 2 and 0.5 with a time error", AREAS, 11_025, 1).speed(2.0).edit_float(TIME_ERROR, -0.002).write(VOICE, 1, 99, 700);
     r.flush();
     r.speed(0.5).edit_float(TIME_ERROR, 0.002).write(VOICE, 1, 99, 700).flush();
-    let (period, written) = (0.001, 90.0 * 0.001 / 1.3f32);
-    for error in deciding_errors(90.0 * period / written, period) {
-        r.run(&format!("time error {error:?}"), AREAS, 1_000, 1).speed(1.3).edit_float(TIME_ERROR, error).write(VOICE, 1, 9, 90);
-    }
     for error in [f32::NAN, f32::INFINITY, f32::NEG_INFINITY, -0.0, 0.004, -0.004] {
         r.run(&format!("time error {error:?}"), AREAS, 1_000, 1).speed(1.3).edit_float(TIME_ERROR, error).write(VOICE, 1, 9, 90).speed(0.8);
         r.write(VOICE, 1, 9, 90).flush();
