@@ -9,7 +9,7 @@ ghost use lib.Ieee.Nearest as Nearest;
 ghost use Rattle.floats.specs.Numbers.{narrow};
 
 // d / m to the nearest whole number, a tie to the even one.
-pub fn closest(d: u64, m: u64) -> u64
+pub(crate) fn closest(d: u64, m: u64) -> u64
     requires { ⌜ d < 2 ^ 53 ⌝ ∗ ⌜ 0 < m ⌝ ∗ ⌜ m ≤ 2 ^ 53 ⌝ }
     ensures { λ r. ⌜ r ≡ Nearest.closest d m ⌝ }
 {
@@ -24,7 +24,7 @@ pub fn closest(d: u64, m: u64) -> u64
 
 // The bits, without the sign, of the f32 nearest to the f64 with the exponent field e and the digits t, which is
 // no NaN.
-pub fn magnitude(e: u64, t: u64) -> u32
+pub(crate) fn magnitude(e: u64, t: u64) -> u32
     requires { ⌜ e < 2048 ⌝ ∗ ⌜ t < 2 ^ 52 ⌝ ∗ ⌜ (e < 2047) ⊎ (t ≡ 0) ⌝ }
     ensures { λ r. ⌜ ((s : Bool) → toBits binary32 (narrow (ofFields binary64 s e t)) ≡ cond s (2 ^ 31) 0 + r) ⌝ }
     ensures { λ r. ⌜ r < 2 ^ 31 ⌝ }
@@ -42,7 +42,7 @@ pub fn magnitude(e: u64, t: u64) -> u32
 }
 
 // The bits of the f32 nearest to the f64 with the bits b.
-pub fn nearest_bits(b: u64) -> u32
+pub(crate) fn nearest_bits(b: u64) -> u32
     requires { ⌜ T (not (nanBits binary64 b)) ⌝ }
     ensures { λ r. ⌜ r ≡ toBits binary32 (narrow (ofBits binary64 b)) ⌝ }
 {

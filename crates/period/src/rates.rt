@@ -34,7 +34,7 @@ pub fn max_required(rate: usize) -> Frames
 }
 
 // The frames that one average takes.
-pub fn skip(rate: usize) -> usize
+pub(crate) fn skip(rate: usize) -> usize
     ensures { λ r. ⌜ r ≡ skip rate ⌝ }
 {
     if AMDF_FREQ < rate {

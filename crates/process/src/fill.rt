@@ -152,7 +152,7 @@ fn nothing(kept: Kept, outcome: Outcome) -> Fill
 }
 
 // The frames of a call, before rate and volume.
-pub fn fill_stage(
+pub(crate) fn fill_stage(
     setup: Setup,
     kept: Kept,
     input: &[i16],

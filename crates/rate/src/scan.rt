@@ -52,7 +52,7 @@ fn make_frame(
 }
 
 // Consumes tail frames while more than 12 lie ahead; the frames that they make go behind those that wait in the output.
-pub fn scan_tail(
+pub(crate) fn scan_tail(
     table: &[i16],
     stage: &[i16],
     tail: Frames,

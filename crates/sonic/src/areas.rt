@@ -8,7 +8,7 @@ ghost use Rattle.sonic.specs.Stream.{areas};
 ghost use Rattle.sonic.specs.Refusals.{tooShort, sizesBad, partsBad, areasBad, outputBad};
 
 // Whether an area has fewer samples than these frames.
-pub fn too_short(area: &[i16], count: Frames, channels: u32) -> bool
+pub(crate) fn too_short(area: &[i16], count: Frames, channels: u32) -> bool
     requires { ⌜ 1 ≤ channels ⌝ }
     ensures { λ r. ⌜ r ≡ tooShort channels (count .0) (now (area .entry)) ⌝ }
 {
@@ -59,7 +59,7 @@ fn parts_bad(stream: SonicStream, input: &[i16], stage: &[i16], output: &[i16]) 
 }
 
 // Refusal 4 of a write or a flush.
-pub fn areas_bad(
+pub(crate) fn areas_bad(
     stream: SonicStream,
     input: &[i16],
     stage: &[i16],
@@ -76,7 +76,7 @@ pub fn areas_bad(
 }
 
 // Refusal 5: whether n frames more exceed the input.
-pub fn input_full(stream: SonicStream, n: Frames, input: &[i16]) -> bool
+pub(crate) fn input_full(stream: SonicStream, n: Frames, input: &[i16]) -> bool
     requires { ⌜ (1 ≤ stream .channels) × (stream .held .0 * stream .channels ≤ length (now input)) ⌝ }
     ensures { λ r. ⌜ r ≡ tooShort (stream .channels) (stream .held .0 + n .0) (now (input .entry)) ⌝ }
 {
@@ -87,7 +87,7 @@ pub fn input_full(stream: SonicStream, n: Frames, input: &[i16]) -> bool
 }
 
 // Refusal 4 of a read.
-pub fn output_bad(stream: SonicStream, output: &[i16]) -> bool
+pub(crate) fn output_bad(stream: SonicStream, output: &[i16]) -> bool
     requires { ⌜ 1 ≤ stream .channels ⌝ }
     ensures { λ r. ⌜ r ≡ outputBad stream (now (output .entry)) ⌝ }
 {

@@ -64,7 +64,7 @@ fn positions_in_order(stream: SonicStream) -> bool
 }
 
 // Whether the stream is in order.
-pub fn in_order(stream: SonicStream) -> bool
+pub(crate) fn in_order(stream: SonicStream) -> bool
     ensures { λ r. ⌜ r ≡ inOrder stream ⌝ }
 {
     if !opened_in_order(stream) {

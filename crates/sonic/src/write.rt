@@ -16,7 +16,7 @@ ghost use Rattle.sonic.specs.Calls.{writeCall, CallEnsures, OrderAfter};
 ghost use Rattle.sonic.specs.Working.{Accepted, AddedEnsures};
 
 // The work of a call that has put n frames behind those held.
-pub fn process_added(
+pub(crate) fn process_added(
     stream: SonicStream,
     n: Frames,
     input: &mut [i16],

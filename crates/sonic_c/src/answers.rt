@@ -16,7 +16,7 @@ ghost use mathlib.Core.Path.{_≡_};
 ghost use Rattle.sonic_c.specs.Answers.{streamIn, streamOut, opening, change, available, writing, reading, outcomeNumber};
 
 // The stream that a struct of C stands for.
-pub fn stream_in(s: Stream) -> SonicStream
+pub(crate) fn stream_in(s: Stream) -> SonicStream
     ensures { λ r. ⌜ r ≡ streamIn s ⌝ }
 {
     SonicStream {
@@ -78,7 +78,7 @@ fn outcome_number(outcome: Outcome) -> u32
 }
 
 // An opening's answer.
-pub fn opening(answer: Opened) -> Opening
+pub(crate) fn opening(answer: Opened) -> Opening
     ensures { λ r. ⌜ r ≡ opening answer ⌝ }
 {
     match answer {
@@ -96,7 +96,7 @@ pub fn opening(answer: Opened) -> Opening
 }
 
 // A setting's answer.
-pub fn change(answer: Changed) -> Change
+pub(crate) fn change(answer: Changed) -> Change
     ensures { λ r. ⌜ r ≡ change answer ⌝ }
 {
     match answer {
@@ -112,7 +112,7 @@ pub fn change(answer: Changed) -> Change
 }
 
 // The answer of `available_frames` to a stream.
-pub fn available(entering: Stream, answer: Available) -> Count
+pub(crate) fn available(entering: Stream, answer: Available) -> Count
     ensures { λ r. ⌜ r ≡ available entering answer ⌝ }
 {
     match answer {
@@ -130,7 +130,7 @@ pub fn available(entering: Stream, answer: Available) -> Count
 }
 
 // The answer of a write or a flush.
-pub fn writing(answer: Wrote) -> Writing
+pub(crate) fn writing(answer: Wrote) -> Writing
     ensures { λ r. ⌜ r ≡ writing answer ⌝ }
 {
     match answer {
@@ -148,7 +148,7 @@ pub fn writing(answer: Wrote) -> Writing
 }
 
 // A read's answer.
-pub fn reading(answer: Gave) -> Count
+pub(crate) fn reading(answer: Gave) -> Count
     ensures { λ r. ⌜ r ≡ reading answer ⌝ }
 {
     match answer {

@@ -78,7 +78,7 @@ fn insert_pitch_period(
 }
 
 // Writes the frames that a step at the position makes at the place `to` of the stage.
-pub fn write_step(
+pub(crate) fn write_step(
     step: Step,
     input: &[i16],
     channels: usize,

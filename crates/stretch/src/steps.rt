@@ -149,7 +149,7 @@ fn place_after(call: Call, place: Place, step: Step, record: PeriodRecord) -> Pl
 }
 
 // One turn: the step that is due, its frames written at the place `to` of the stage if there is room for them among `room` frames.
-pub fn take_step(
+pub(crate) fn take_step(
     input: &[i16],
     call: Call,
     place: Place,

@@ -7,18 +7,18 @@ use sonic::Outcome;
 use sonic::SonicStream;
 
 // Prints bytes as they are.
-pub fn print(text: &[u8]) {
+pub(crate) fn print(text: &[u8]) {
     io::write_all(STDOUT_FILENO, text);
 }
 
 // Prints a space and a count, or a number of document 01, in decimal.
-pub fn print_count(n: u64) {
+pub(crate) fn print_count(n: u64) {
     print(b" ");
     io::print_decimal(STDOUT_FILENO, n);
 }
 
 // Prints a space and a word in hexadecimal.
-pub fn print_word(n: u32) {
+pub(crate) fn print_word(n: u32) {
     print(b" ");
     io::print_hex(STDOUT_FILENO, n as u64, 8);
 }
@@ -34,13 +34,13 @@ fn print_frames(n: Frames) {
 }
 
 // Prints a refusal with its number.
-pub fn print_refused(number: u32) {
+pub(crate) fn print_refused(number: u32) {
     print(b" refused");
     print_count(number as u64);
 }
 
 // Prints the outcome of a write or a flush.
-pub fn print_outcome(outcome: Outcome) {
+pub(crate) fn print_outcome(outcome: Outcome) {
     match outcome {
         Outcome::Empty => print(b" empty"),
         Outcome::Copied => print(b" copied"),
@@ -79,7 +79,7 @@ fn print_part(count: Frames, channels: u32, area: &[i16]) {
 }
 
 // Prints the rest of an answer's line.
-pub fn print_stream(stream: SonicStream, input: &[i16], stage: &[i16], output: &[i16]) {
+pub(crate) fn print_stream(stream: SonicStream, input: &[i16], stage: &[i16], output: &[i16]) {
     print_settings(stream);
     print_state(stream);
     print(b" |");

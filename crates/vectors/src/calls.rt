@@ -21,7 +21,7 @@ use sonic::Wrote;
 const UNREAD: f32 = 0.5;
 
 // The stream before the first opening: that of a refused one.
-pub fn unopened() -> SonicStream {
+pub(crate) fn unopened() -> SonicStream {
     match SonicStream::new(0, 0) {
         Opened::Refused(_, _, stream) => stream,
         Opened::Done(stream) => stream,
@@ -29,7 +29,7 @@ pub fn unopened() -> SonicStream {
 }
 
 // Opens a stream. A refusal carries the number given.
-pub fn open(rate: u32, channels: u32) -> SonicStream {
+pub(crate) fn open(rate: u32, channels: u32) -> SonicStream {
     match SonicStream::new(rate, channels) {
         Opened::Refused(number, given, stream) => {
             print_refused(number);
@@ -41,7 +41,7 @@ pub fn open(rate: u32, channels: u32) -> SonicStream {
 }
 
 // Changes a setting.
-pub fn set(stream: SonicStream, setting: Setting) -> SonicStream {
+pub(crate) fn set(stream: SonicStream, setting: Setting) -> SonicStream {
     match stream.set(setting) {
         Changed::Refused(number, after) => {
             print_refused(number);
@@ -52,7 +52,7 @@ pub fn set(stream: SonicStream, setting: Setting) -> SonicStream {
 }
 
 // Asks for the frames available.
-pub fn available(stream: SonicStream) -> SonicStream {
+pub(crate) fn available(stream: SonicStream) -> SonicStream {
     match stream.available_frames() {
         Available::Refused(number, after) => {
             print_refused(number);
@@ -104,7 +104,7 @@ fn write(
 }
 
 // Writes a signal, which is made in the slice.
-pub fn write_signal(
+pub(crate) fn write_signal(
     stream: SonicStream,
     signal: Signal,
     lent: Lent,
@@ -119,7 +119,7 @@ pub fn write_signal(
 }
 
 // Flushes.
-pub fn flush(
+pub(crate) fn flush(
     stream: SonicStream,
     lent: Lent,
     input: &mut [i16],
@@ -164,7 +164,7 @@ fn gave(answer: Gave) -> SonicStream {
 }
 
 // Reads at most `most` frames into a slice, and prints the sum over the whole slice.
-pub fn read(
+pub(crate) fn read(
     stream: SonicStream,
     most: usize,
     lent: Lent,

@@ -12,14 +12,14 @@ pub struct Lent {
 }
 
 // A length, or that of the whole area where it has less.
-pub fn of_area(n: usize, area: &[i16]) -> usize
+pub(crate) fn of_area(n: usize, area: &[i16]) -> usize
     ensures { λ r. ⌜ (r ≤ length (now (area .entry))) × (r ≡ length (take r (now (area .entry)))) ⌝ }
 {
     if n < area.len() { n } else { area.len() }
 }
 
 // A length, or that of the whole slice where it has less.
-pub fn of_slice(n: usize, slice: &[f32]) -> usize
+pub(crate) fn of_slice(n: usize, slice: &[f32]) -> usize
     ensures { λ r. ⌜ (r ≤ length (now (slice .entry))) × (r ≡ length (take r (now (slice .entry)))) ⌝ }
 {
     if n < slice.len() { n } else { slice.len() }

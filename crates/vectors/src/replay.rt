@@ -129,7 +129,7 @@ fn follow(
 }
 
 // Prints and follows every line of a text.
-pub fn replay_all(
+pub(crate) fn replay_all(
     text: &[u8],
     samples: &mut [f32],
     input: &mut [i16],

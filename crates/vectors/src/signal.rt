@@ -119,7 +119,7 @@ fn sample(signal: Signal, state: u32, place: u64) -> f32 {
 }
 
 // Fills a slice with a signal.
-pub fn fill(signal: Signal, samples: &mut [f32]) {
+pub(crate) fn fill(signal: Signal, samples: &mut [f32]) {
     let mut state = signal.seed;
     let mut place = signal.seed as u64;
     let mut i: usize = 0;

@@ -21,14 +21,14 @@ const FACTOR: u64 = 16_777_619;
 const WORDS: u64 = 0x1_0000_0000;
 
 // The bits of x.
-pub fn bits(x: f32) -> u32
+pub(crate) fn bits(x: f32) -> u32
     ensures { λ r. ⌜ r ≡ toBits binary32 x ⌝ }
 {
     if x != x { NAN } else { f32::to_bits(x) }
 }
 
 // The f32 with these bits.
-pub fn float(pattern: u32) -> f32
+pub(crate) fn float(pattern: u32) -> f32
     ensures { λ r. ⌜ r ≡ ofBits binary32 pattern ⌝ }
 {
     if pattern % SIGN > INFINITY {
@@ -39,7 +39,7 @@ pub fn float(pattern: u32) -> f32
 }
 
 // The last 32 bits of a number.
-pub fn word(value: u64) -> u32
+pub(crate) fn word(value: u64) -> u32
     ensures { λ r. ⌜ r ≡ value % 2 ^ 32 ⌝ }
 {
     (value % WORDS) as u32
@@ -53,7 +53,7 @@ fn joined(sum: u32, next: u32) -> u32
 }
 
 // The sum over a slice.
-pub fn slice_sum(slice: &[f32]) -> u32 {
+pub(crate) fn slice_sum(slice: &[f32]) -> u32 {
     let mut sum = START;
     let mut i: usize = 0;
     while i < slice.len() {
@@ -77,7 +77,7 @@ fn samples_sum(area: &[i16], count: usize) -> u32
 }
 
 // The sum over the first frames of an area, or 0 where it has fewer.
-pub fn area_sum(area: &[i16], count: Frames, channels: u32) -> u32 {
+pub(crate) fn area_sum(area: &[i16], count: Frames, channels: u32) -> u32 {
     let n = count.0;
     let per = channels as usize;
     if per == 0 {

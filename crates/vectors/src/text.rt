@@ -105,7 +105,7 @@ fn line_end(text: &[u8], at: usize) -> usize
 }
 
 // The line from a place on.
-pub fn parse(text: &[u8], at: usize) -> Line
+pub(crate) fn parse(text: &[u8], at: usize) -> Line
     requires { ⌜ at < length (now text) ⌝ }
     ensures { λ r. ⌜ (at < r .next) × (r .next ≤ length (now (text .entry))) ⌝ }
 {
