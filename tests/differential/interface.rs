@@ -1,4 +1,10 @@
-//! The calls of include/kelpladder.h: its structures, and a trait for whatever answers them.
+//! The calls of include/kelpladder.h: its structures as the Rust crate declares them, and a trait for whatever answers them.
+
+#[path = "../../bindings/rust/src/calls.rs"]
+#[cfg_attr(not(library), allow(dead_code))]
+pub mod calls;
+
+pub use calls::{Areas, Changed, Counted, Opened, Stream, Wrote};
 
 /// Numbers of an accepted write or flush.
 pub const EMPTY: u32 = 0;
@@ -10,27 +16,6 @@ pub const WAITING: u32 = 2;
 pub const STRETCHED: u32 = 3;
 /// A step gave no frame.
 pub const STALLED: u32 = 4;
-
-/// The stream's value, field by field as in the header.
-#[repr(C)]
-#[derive(Clone, Copy, Debug, Default)]
-pub struct Stream {
-    pub rate: u32,
-    pub channels: u32,
-    pub speed: f32,
-    pub pitch: f32,
-    pub volume: f32,
-    pub sample_period: f32,
-    pub input_play_time: f32,
-    pub time_error: f32,
-    pub old_rate_position: usize,
-    pub new_rate_position: usize,
-    pub prev_period: usize,
-    pub prev_min_diff: usize,
-    pub held: usize,
-    pub tail: usize,
-    pub waiting: usize,
-}
 
 /// The names of the float fields, in the order of `floats`.
 const FLOAT_NAMES: [&str; 6] = ["speed", "pitch", "volume", "sample_period", "input_play_time", "time_error"];
@@ -69,55 +54,12 @@ pub fn same_float(a: f32, b: f32) -> bool {
     a.to_bits() == b.to_bits() || (a.is_nan() && b.is_nan())
 }
 
-/// An opening.
-#[repr(C)]
-#[derive(Clone, Copy, Debug)]
-pub struct Opened {
-    pub refusal: u32,
-    pub given: u32,
-    pub stream: Stream,
-}
-
-/// A setting.
-#[repr(C)]
-#[derive(Clone, Copy, Debug)]
-pub struct Changed {
-    pub refusal: u32,
-    pub stream: Stream,
-}
-
-/// The frames waiting, or the frames that a read gave.
-#[repr(C)]
-#[derive(Clone, Copy, Debug)]
-pub struct Counted {
-    pub refusal: u32,
-    pub frames: usize,
-    pub stream: Stream,
-}
-
-/// A write or a flush.
-#[repr(C)]
-#[derive(Clone, Copy, Debug)]
-pub struct Wrote {
-    pub refusal: u32,
-    pub outcome: u32,
-    pub stream: Stream,
-}
-
 /// One of the three settings.
 #[derive(Clone, Copy, Debug)]
 pub enum Setting {
     Speed(f32),
     Pitch(f32),
     Volume(f32),
-}
-
-/// The four areas lent to a write or a flush.
-pub struct Areas<'a> {
-    pub input: &'a mut [i16],
-    pub stage: &'a mut [i16],
-    pub output: &'a mut [i16],
-    pub scratch: &'a mut [i16],
 }
 
 /// What answers the calls.

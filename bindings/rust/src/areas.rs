@@ -1,6 +1,6 @@
-//! The areas of samples that each call is lent.
+//! The areas of samples that a stream owns, to lend them to each call.
 
-use crate::calls::Stream;
+use crate::calls::{Areas, Stream};
 
 /// The most samples that a stream holds, has between two steps, or keeps waiting, each for itself: 16,777,216.
 pub const MAX_SAMPLES: usize = 1 << 24;
@@ -9,17 +9,21 @@ pub const MAX_SAMPLES: usize = 1 << 24;
 const FIRST_SAMPLES: usize = 1 << 12;
 
 /// Written frames not yet used, the tail and the frames of a call, the frames that wait, and the averages of the search.
-pub struct Areas {
+pub struct OwnedAreas {
     pub input: Vec<i16>,
     pub stage: Vec<i16>,
     pub output: Vec<i16>,
     pub scratch: Vec<i16>,
 }
 
-impl Areas {
+impl OwnedAreas {
     pub fn new(stream: Stream) -> Self {
         let area = || vec![0; FIRST_SAMPLES];
         Self { input: area(), stage: area(), output: area(), scratch: vec![0; max_required(stream)] }
+    }
+
+    pub fn lend(&mut self) -> Areas<'_> {
+        Areas { input: &mut self.input, stage: &mut self.stage, output: &mut self.output, scratch: &mut self.scratch }
     }
 }
 

@@ -1,10 +1,9 @@
-//! The calls of include/kelpladder.h. The functions below them take slices, so that a pointer always comes with its own length.
+//! The calls of include/kelpladder.h. The functions below them take slices, so that a pointer always comes with its own length. The
+//! repository's tests and benchmarks use this file too, so nothing in it depends on the rest of the crate.
 
-use crate::areas::Areas;
-
-/// The stream's value, as C has it. Its samples are in the areas.
+/// The stream's value, field by field as in the header. Its samples are in the areas.
 #[repr(C)]
-#[derive(Debug, Clone, Copy)]
+#[derive(Debug, Default, Clone, Copy)]
 pub struct Stream {
     pub rate: u32,
     pub channels: u32,
@@ -25,6 +24,7 @@ pub struct Stream {
 
 /// An opening.
 #[repr(C)]
+#[derive(Debug, Clone, Copy)]
 pub struct Opened {
     pub refusal: u32,
     pub given: u32,
@@ -33,39 +33,44 @@ pub struct Opened {
 
 /// A setting.
 #[repr(C)]
-struct Changed {
-    refusal: u32,
-    stream: Stream,
+#[derive(Debug, Clone, Copy)]
+pub struct Changed {
+    pub refusal: u32,
+    pub stream: Stream,
 }
 
 /// The frames waiting, or those that a read gave.
 #[repr(C)]
-struct Count {
-    refusal: u32,
-    frames: usize,
-    stream: Stream,
+#[derive(Debug, Clone, Copy)]
+pub struct Counted {
+    pub refusal: u32,
+    pub frames: usize,
+    pub stream: Stream,
 }
 
 /// A write or a flush.
 #[repr(C)]
+#[derive(Debug, Clone, Copy)]
 pub struct Wrote {
     pub refusal: u32,
     pub outcome: u32,
     pub stream: Stream,
 }
 
-pub const ACCEPTED: u32 = 0;
-pub const BAD_RATE: u32 = 1;
-pub const INPUT_FULL: u32 = 5;
-pub const STAGE_FULL: u32 = 6;
-pub const OUTPUT_FULL: u32 = 7;
+/// The four areas lent to a write or a flush.
+pub struct Areas<'a> {
+    pub input: &'a mut [i16],
+    pub stage: &'a mut [i16],
+    pub output: &'a mut [i16],
+    pub scratch: &'a mut [i16],
+}
 
 extern "C" {
     fn kelpladder_open(rate: u32, channels: u32) -> Opened;
     fn kelpladder_set_speed(stream: Stream, speed: f32) -> Changed;
     fn kelpladder_set_pitch(stream: Stream, pitch: f32) -> Changed;
     fn kelpladder_set_volume(stream: Stream, volume: f32) -> Changed;
-    fn kelpladder_available_frames(stream: Stream) -> Count;
+    fn kelpladder_available_frames(stream: Stream) -> Counted;
     fn kelpladder_write_f32(
         stream: Stream,
         samples: *const f32,
@@ -86,7 +91,7 @@ extern "C" {
         slice_length: usize,
         output: *mut i16,
         output_length: usize,
-    ) -> Count;
+    ) -> Counted;
     fn kelpladder_flush(
         stream: Stream,
         input: *mut i16,
@@ -107,27 +112,24 @@ pub fn open(rate: u32, channels: u32) -> Opened {
     unsafe { kelpladder_open(rate, channels) }
 }
 
-/// The stream with this speed; a refused one comes back as it was.
-pub fn set_speed(stream: Stream, speed: f32) -> Stream {
-    unsafe { kelpladder_set_speed(stream, speed) }.stream
+pub fn set_speed(stream: Stream, speed: f32) -> Changed {
+    unsafe { kelpladder_set_speed(stream, speed) }
 }
 
-/// The stream with this pitch; a refused one comes back as it was.
-pub fn set_pitch(stream: Stream, pitch: f32) -> Stream {
-    unsafe { kelpladder_set_pitch(stream, pitch) }.stream
+pub fn set_pitch(stream: Stream, pitch: f32) -> Changed {
+    unsafe { kelpladder_set_pitch(stream, pitch) }
 }
 
-/// The stream with this volume; a refused one comes back as it was.
-pub fn set_volume(stream: Stream, volume: f32) -> Stream {
-    unsafe { kelpladder_set_volume(stream, volume) }.stream
+pub fn set_volume(stream: Stream, volume: f32) -> Changed {
+    unsafe { kelpladder_set_volume(stream, volume) }
 }
 
-/// The frames waiting; 0 if the stream is refused.
-pub fn available_frames(stream: Stream) -> usize {
-    unsafe { kelpladder_available_frames(stream) }.frames
+/// Counts the frames waiting.
+pub fn available_frames(stream: Stream) -> Counted {
+    unsafe { kelpladder_available_frames(stream) }
 }
 
-pub fn write_f32(stream: Stream, samples: &[f32], areas: &mut Areas) -> Wrote {
+pub fn write_f32(stream: Stream, samples: &[f32], areas: Areas<'_>) -> Wrote {
     let Areas { input, stage, output, scratch } = areas;
     unsafe {
         kelpladder_write_f32(
@@ -146,12 +148,12 @@ pub fn write_f32(stream: Stream, samples: &[f32], areas: &mut Areas) -> Wrote {
     }
 }
 
-/// The stream without the frames that went to the front of the slice; a refused one comes back as it was.
-pub fn read_f32(stream: Stream, most_frames: usize, slice: &mut [f32], output: &mut [i16]) -> Stream {
-    unsafe { kelpladder_read_f32(stream, most_frames, slice.as_mut_ptr(), slice.len(), output.as_mut_ptr(), output.len()) }.stream
+/// Reads frames to the front of the slice.
+pub fn read_f32(stream: Stream, most_frames: usize, slice: &mut [f32], output: &mut [i16]) -> Counted {
+    unsafe { kelpladder_read_f32(stream, most_frames, slice.as_mut_ptr(), slice.len(), output.as_mut_ptr(), output.len()) }
 }
 
-pub fn flush(stream: Stream, areas: &mut Areas) -> Wrote {
+pub fn flush(stream: Stream, areas: Areas<'_>) -> Wrote {
     let Areas { input, stage, output, scratch } = areas;
     unsafe {
         kelpladder_flush(

@@ -39,14 +39,21 @@ pub use areas::MAX_SAMPLES;
 pub use error::SonicError;
 pub use outcome::Outcome;
 
-use areas::Areas;
-use calls::{Stream, Wrote};
+use areas::OwnedAreas;
+use calls::{Areas, Stream, Wrote};
 use std::fmt;
+
+// Numbers of refusal.
+const ACCEPTED: u32 = 0;
+const BAD_RATE: u32 = 1;
+const INPUT_FULL: u32 = 5;
+const STAGE_FULL: u32 = 6;
+const OUTPUT_FULL: u32 = 7;
 
 /// A stream of frames whose speed, pitch and volume are changed. A frame is one sample per channel; frames are interleaved.
 pub struct SonicStream {
     value: Stream,
-    areas: Areas,
+    areas: OwnedAreas,
 }
 
 impl SonicStream {
@@ -59,26 +66,26 @@ impl SonicStream {
     pub fn new(sample_rate: u32, channels: u32) -> Result<Self, SonicError> {
         let opened = calls::open(sample_rate, channels);
         match opened.refusal {
-            calls::ACCEPTED => Ok(Self { value: opened.stream, areas: Areas::new(opened.stream) }),
-            calls::BAD_RATE => Err(SonicError::SampleRateOutOfRange(opened.given)),
+            ACCEPTED => Ok(Self { value: opened.stream, areas: OwnedAreas::new(opened.stream) }),
+            BAD_RATE => Err(SonicError::SampleRateOutOfRange(opened.given)),
             _ => Err(SonicError::ChannelsOutOfRange(opened.given)),
         }
     }
 
     /// Sets the speed, held to 0.05 to 20. A NaN sets 0.05.
     pub fn set_speed(&mut self, speed: f32) {
-        self.value = calls::set_speed(self.value, speed);
+        self.value = calls::set_speed(self.value, speed).stream;
     }
 
     /// Sets the factor of the pitch, held to 0.05 to 20, and begins the rate conversion's count of positions anew, also if the pitch is
     /// the same. A NaN sets 0.05.
     pub fn set_pitch(&mut self, pitch: f32) {
-        self.value = calls::set_pitch(self.value, pitch);
+        self.value = calls::set_pitch(self.value, pitch).stream;
     }
 
     /// Sets the factor of the volume, held to 0.01 to 100. A NaN sets 0.01.
     pub fn set_volume(&mut self, volume: f32) {
-        self.value = calls::set_volume(self.value, volume);
+        self.value = calls::set_volume(self.value, volume).stream;
     }
 
     /// Writes the whole frames of `samples` and makes frames of what is held. A partial last frame is dropped. Each sample is held to
@@ -105,14 +112,14 @@ impl SonicStream {
 
     /// The frames that wait to be read.
     pub fn available_frames(&self) -> usize {
-        calls::available_frames(self.value)
+        calls::available_frames(self.value).frames
     }
 
     /// Takes the first waiting frames, at most `max_frames`, and gives their samples.
     pub fn read_f32(&mut self, max_frames: usize) -> Vec<f32> {
         let frames = self.available_frames().min(max_frames);
         let mut samples = vec![0.0; frames * self.channels()];
-        self.value = calls::read_f32(self.value, max_frames, &mut samples, &mut self.areas.output);
+        self.value = calls::read_f32(self.value, max_frames, &mut samples, &mut self.areas.output).stream;
         samples
     }
 
@@ -122,17 +129,17 @@ impl SonicStream {
 
     /// Makes a call; as long as it is refused for want of room, makes the area longer and calls again. A refused call has changed
     /// nothing that is kept.
-    fn work(&mut self, call: impl Fn(Stream, &mut Areas) -> Wrote) -> Outcome {
+    fn work(&mut self, call: impl Fn(Stream, Areas<'_>) -> Wrote) -> Outcome {
         loop {
-            let answer = call(self.value, &mut self.areas);
+            let answer = call(self.value, self.areas.lend());
             let grown = match answer.refusal {
-                calls::ACCEPTED => {
+                ACCEPTED => {
                     self.value = answer.stream;
                     return Outcome::of_number(answer.outcome);
                 }
-                calls::INPUT_FULL => areas::grow(&mut self.areas.input),
-                calls::STAGE_FULL => areas::grow(&mut self.areas.stage),
-                calls::OUTPUT_FULL => areas::grow(&mut self.areas.output),
+                INPUT_FULL => areas::grow(&mut self.areas.input),
+                STAGE_FULL => areas::grow(&mut self.areas.stage),
+                OUTPUT_FULL => areas::grow(&mut self.areas.output),
                 refusal => unreachable!("refusal {refusal}: the stream and its areas belong together"),
             };
             if !grown {

@@ -51,8 +51,7 @@ impl Pair {
 
 /// A setting: mostly inside its range, at times outside or a NaN.
 fn setting(dice: &mut Dice) -> f32 {
-    const SETTINGS: [f32; 16] =
-        [1.0, 1.0, 1.0, 0.5, 2.0, 1.5, 0.7, 0.05, 20.0, 3.3, 0.31, 1.00001, 0.99998, 1000.0, -1.0, f32::NAN];
+    const SETTINGS: [f32; 16] = [1.0, 1.0, 1.0, 0.5, 2.0, 1.5, 0.7, 0.05, 20.0, 3.3, 0.31, 1.00001, 0.99998, 1000.0, -1.0, f32::NAN];
     SETTINGS[dice.below(SETTINGS.len())]
 }
 

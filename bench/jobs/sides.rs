@@ -1,0 +1,88 @@
+//! The two implementations, as a job uses them.
+
+use crate::calls;
+use crate::SonicStream;
+use std::hint::black_box;
+
+const STALLED: u32 = 4;
+
+/// One of the two implementations, as a job uses it. Frames read are handed to `sink`.
+pub trait Side {
+    fn open(rate: u32, channels: u32, speed: f32, pitch: f32) -> Self;
+    fn write(&mut self, samples: &[f32]);
+    fn read(&mut self, most: usize, sink: &mut dyn FnMut(&[f32]));
+    fn flush(&mut self);
+}
+
+/// The stream with the areas lent to it.
+pub struct Ours {
+    stream: calls::Stream,
+    input: Vec<i16>,
+    stage: Vec<i16>,
+    output: Vec<i16>,
+    scratch: Vec<i16>,
+    frames: Vec<f32>,
+}
+
+impl Ours {
+    fn lend(&mut self) -> calls::Areas<'_> {
+        calls::Areas { input: &mut self.input, stage: &mut self.stage, output: &mut self.output, scratch: &mut self.scratch }
+    }
+
+    /// Takes the stream of an accepted write or flush, and gives the outcome.
+    fn accept(&mut self, answer: calls::Wrote) -> u32 {
+        assert_eq!(answer.refusal, 0, "a write or flush was refused");
+        self.stream = answer.stream;
+        answer.outcome
+    }
+}
+
+impl Side for Ours {
+    fn open(rate: u32, channels: u32, speed: f32, pitch: f32) -> Self {
+        let required = 2 * (rate as usize / 65);
+        let length = (8 * required * channels as usize).max(65_536);
+        let faster = calls::set_speed(calls::open(rate, channels).stream, speed);
+        let stream = calls::set_pitch(faster.stream, pitch).stream;
+        let area = || vec![0i16; length];
+        Ours { stream, input: area(), stage: area(), output: area(), scratch: vec![0; required], frames: vec![0.0; length] }
+    }
+
+    fn write(&mut self, samples: &[f32]) {
+        let answer = calls::write_f32(self.stream, samples, self.lend());
+        assert_ne!(self.accept(answer), STALLED, "the voice stalled");
+    }
+
+    fn read(&mut self, most: usize, sink: &mut dyn FnMut(&[f32])) {
+        let answer = calls::read_f32(self.stream, most, &mut self.frames, &mut self.output);
+        assert_eq!(answer.refusal, 0, "a read was refused");
+        self.stream = answer.stream;
+        sink(&self.frames[..answer.frames * self.stream.channels as usize]);
+    }
+
+    // At speed 20 the silence of a flush stalls: its period is the least of the range.
+    fn flush(&mut self) {
+        let answer = calls::flush(self.stream, self.lend());
+        self.accept(answer);
+    }
+}
+
+impl Side for SonicStream {
+    fn open(rate: u32, channels: u32, speed: f32, pitch: f32) -> Self {
+        let mut stream = SonicStream::new(rate, channels).expect("in range");
+        stream.set_speed(black_box(speed));
+        stream.set_pitch(black_box(pitch));
+        stream
+    }
+
+    fn write(&mut self, samples: &[f32]) {
+        self.write_f32(samples);
+    }
+
+    fn read(&mut self, most: usize, sink: &mut dyn FnMut(&[f32])) {
+        sink(&self.read_f32(most));
+    }
+
+    fn flush(&mut self) {
+        SonicStream::flush(self);
+    }
+}

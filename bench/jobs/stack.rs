@@ -1,0 +1,59 @@
+//! The stack that the calls use: a painted one, looked at afterwards.
+
+use crate::instructions::measured;
+use crate::reels::{samples_of, Reel, JOBS, REELS};
+use std::alloc::{alloc, dealloc, Layout};
+use std::ffi::c_void;
+use std::ptr::null_mut;
+
+/// The size of glibc's `pthread_attr_t` on x86-64.
+#[repr(C)]
+struct ThreadSettings([u64; 7]);
+
+extern "C" {
+    fn pthread_attr_init(settings: *mut ThreadSettings) -> i32;
+    fn pthread_attr_setstack(settings: *mut ThreadSettings, stack: *mut u8, length: usize) -> i32;
+    fn pthread_create(thread: *mut u64, settings: *const ThreadSettings, work: extern "C" fn(*mut c_void) -> *mut c_void, word: *mut c_void) -> i32;
+    fn pthread_join(thread: u64, answer: *mut *mut c_void) -> i32;
+}
+
+/// Two seconds of every job on every reel, and a flush at the highest rate with the most channels, all on our side.
+extern "C" fn every_call(_: *mut c_void) -> *mut c_void {
+    let widest = Reel { name: "widest", rate: 500_000, channels: 32, seconds: 0, period: 4_000 };
+    for job in JOBS {
+        for reel in REELS {
+            measured(true, &job, &reel, &samples_of(Reel { seconds: 2, ..reel }));
+        }
+        measured(true, &job, &widest, &Vec::new());
+    }
+    null_mut()
+}
+
+extern "C" fn no_call(_: *mut c_void) -> *mut c_void {
+    null_mut()
+}
+
+/// The bytes of a painted stack that a thread with this work has changed.
+fn stack_of(work: extern "C" fn(*mut c_void) -> *mut c_void) -> usize {
+    const LENGTH: usize = 1 << 20;
+    const PAINT: u8 = 0xa5;
+    let layout = Layout::from_size_align(LENGTH, 4_096).expect("a layout");
+    unsafe {
+        let stack = alloc(layout);
+        assert!(!stack.is_null());
+        stack.write_bytes(PAINT, LENGTH);
+        let (mut settings, mut thread) = (ThreadSettings([0; 7]), 0);
+        assert_eq!(pthread_attr_init(&mut settings), 0);
+        assert_eq!(pthread_attr_setstack(&mut settings, stack, LENGTH), 0);
+        assert_eq!(pthread_create(&mut thread, &settings, work, null_mut()), 0);
+        assert_eq!(pthread_join(thread, null_mut()), 0);
+        let untouched = std::slice::from_raw_parts(stack, LENGTH).iter().take_while(|&&byte| byte == PAINT).count();
+        dealloc(stack, layout);
+        LENGTH - untouched
+    }
+}
+
+/// The calls' stack, with the few frames of this program above them.
+pub fn measure_stack() {
+    println!("stack: {} bytes at most", stack_of(every_call) - stack_of(no_call));
+}
