@@ -1,5 +1,5 @@
-# make test: the gate. make test-long: its comparisons at full size. make bench: kernels and whole jobs beside the original.
-# make rust: the Rust binding's tests. make vectors: the stored answers, made again.
+# make skim: the tool, on a reel. make test: the gate. make test-long: its comparisons at full size. make bench: the tool, whole jobs and
+# kernels, timed. make rust: the Rust binding's tests. make vectors: the stored answers, made again. make picture: docs/reels.png.
 SHELL := /bin/bash
 RUSTC := rustc --edition 2021 -O
 LINK_KERNELS := -L target/staticlib -l static=kernels_c
@@ -8,8 +8,18 @@ LINK_STREAM := -L target/staticlib -l static=sonic_c
 # The Rust original, unchanged: src/lib.rs of libsonic-rs. What needs it says so in one line where it is not at hand.
 ORIGINAL ?= ../shared/docs/src/src/lib.rs
 
-.PHONY: test test-long compare differential bites bench rust vectors kernels stream
+.PHONY: skim test test-long compare differential bites tool bench rust vectors picture kernels stream
 .SILENT:
+
+# Proves and builds the skim tool, and skims the reel of its crate: five seconds, two voices made by tools/make_reel.py. That it stalls at
+# the second voice is the reel's point, and no failure.
+skim:
+	echo "proving and building the tool; the first time takes some minutes"
+	mkdir -p target
+	rt check skim > target/skim.log 2>&1 || { cat target/skim.log; exit 1; }
+	tools/skim.sh < crates/skim/stdin > target/reel.pcm; test $$? -le 1
+	echo "the reel crates/skim/stdin is skimmed to target/reel.pcm (8,000 Hz, mono, 16-bit little-endian PCM)"
+	echo "to skim your own: tools/skim.sh < in.pcm > out.pcm; tools/skim.sh --help tells more"
 
 # Layout; then every proof, must-fail edit and program from nothing; then the comparisons. The last line is that of `rt ci`.
 test:
@@ -18,7 +28,7 @@ test:
 	rt ci 2>&1 | tee "$$log" | sed '$$d' && \
 	$(MAKE) --no-print-directory compare && tail -n 1 "$$log"
 
-compare: target/tests/floats target/tests/narrowing target/tests/header differential rust
+compare: target/tests/floats target/tests/narrowing target/tests/header differential rust tool
 	target/tests/narrowing 20
 	target/tests/floats 5
 	target/tests/header
@@ -27,6 +37,7 @@ test-long: target/tests/floats target/tests/narrowing
 	target/tests/narrowing 1000
 	target/tests/floats 200
 	$(MAKE) --no-print-directory differential RUNS=long
+	$(MAKE) --no-print-directory tool JOBS=5000
 
 # The stream for C beside the original, call by call: fixed runs, or random ones with the seed of the day; and two reels.
 RUNS := fixed
@@ -35,11 +46,22 @@ differential: stream
 	  $(MAKE) --no-print-directory target/tests/differential && target/tests/differential reels && target/tests/differential $(RUNS); \
 	else echo "differential: no original at $(ORIGINAL), not compared"; fi
 
+# The skim tool as its users meet it, and beside the original on random jobs.
+JOBS := 300
+tool: target/tests/skim_in_c
+	mkdir -p target/tests
+	rt check skim > target/skim.log 2>&1 || { cat target/skim.log; exit 1; }
+	tools/make_reel.py 62:24000 34:16000 | cmp - crates/skim/stdin
+	tests/skim.py tools/skim.sh target/tests/skim_in_c tools/make_reel.py
+	if test -f $(ORIGINAL); then \
+	  $(MAKE) --no-print-directory target/tests/skim && tests/skim_original.py target/bin/skim target/tests/skim $(JOBS); \
+	else echo "tool: no original at $(ORIGINAL), not compared"; fi
+
 # That the fixed runs find every wrong edit of the model.
 bites: target/tests/differential
 	target/tests/differential bites
 
-bench: target/bench/kernels target/bench/jobs
+bench: target/bench/kernels target/bench/jobs skim
 	target/bench/kernels
 	target/bench/jobs
 
@@ -64,10 +86,17 @@ target/tests/narrowing: tests/narrowing.c kernels
 target/tests/header: tests/header.c include/kelpladder.h stream
 	$(CC) -std=c99 -O2 -Wall -Wextra -Wpedantic -Werror -I include $< target/staticlib/libsonic_c.a -o $@
 
+target/tests/skim_in_c: examples/skim.c include/kelpladder.h stream
+	$(CC) -std=c99 -O2 -Wall -Wextra -Wpedantic -Werror -I include $< target/staticlib/libsonic_c.a -o $@
+
 # The original's text with the test or the benchmark joined to it, so that its private fields and functions can be used.
 target/tests/differential: tests/differential.rs $(wildcard tests/differential/*.rs tests/differential/model/*.rs) stream
 	cat $(ORIGINAL) $< > $@.rs
 	$(RUSTC) -C overflow-checks=on -A warnings --cfg library $@.rs -o $@ $(LINK_STREAM)
+
+target/tests/skim: tests/skim.rs
+	cat $(ORIGINAL) $< > $@.rs
+	$(RUSTC) -C overflow-checks=on -A warnings $@.rs -o $@
 
 target/bench/kernels: bench/kernels.rs kernels
 	test -f $(ORIGINAL) || { echo "bench: no original at $(ORIGINAL)"; exit 1; }
@@ -89,3 +118,8 @@ vectors:
 	cmp target/vectors/stdin crates/vectors/stdin
 	cmp target/vectors/stdout crates/vectors/stdout
 	tail -n 1 target/vectors/touched
+
+# The picture of reel one and reel two in the README, drawn by gnuplot, a Debian package.
+picture: skim
+	command -v gnuplot > target/gnuplot.log || apt-get install --yes gnuplot-nox >> target/gnuplot.log
+	tools/draw_reels.py target/bin/skim docs/reels.png

@@ -1,0 +1,112 @@
+-- `reels::reel::Reel::drain` meets its contract and ends: the turns left fall, and are as many as the frames that wait or more. Assumes nothing.
+use borrow.Author.Needs.{needs}
+use mathlib.Core.Path.{_≡_, refl}
+use mathlib.Core.Bool.{false}
+use Prim.Native.Nat.{_*_, _≤_, _<_}
+use native.Mathlib.Omega.{arith}
+use borrow.Author.Tests.{leb-true, leb-false, not-false}
+use lib.ListN.{length}
+use Rattle.reels.specs.Reels.{WrittenOut}
+use Rattle.reels.proofs.Going.{failed-once, out-same, out-trans}
+use Rattle.reels.proofs.reel.Reel.drain.Statement.{statement}
+use Rattle.reels.proofs.reel.Reel.drain.Tie as tie
+
+abbrev Inv-loop : tie.InvT-loop
+Inv-loop few output₀ values₀ bytes₀ reel₀ turns₀ output values bytes reel turns =
+    (32 ≤ length values) × (2 * length values ≤ length bytes) × (length output ≡ length output₀) × (length values ≡ length values₀)
+    × (length bytes ≡ length bytes₀) × WrittenOut reel₀ reel × (reel .failed ≡ false → reel .refusal ≡ 0 → reel .stream .waiting .0 ≤ turns)
+
+abbrev μ-loop : tie.MeasureT-loop
+μ-loop few output₀ values₀ bytes₀ reel₀ turns₀ output values bytes reel turns = turns
+
+loop-holds : tie.Need-loop-holds Inv-loop μ-loop
+loop-holds c = (omega arith, omega arith, refl, refl, refl, out-same, λ f z. omega arith)
+
+write-out-requires : tie.Need-write-out-requires Inv-loop μ-loop
+write-out-requires c κs = search needs
+
+sub-turns : tie.Need-sub-turns Inv-loop μ-loop
+sub-turns c = search needs
+
+loop-less : tie.Need-loop-less Inv-loop μ-loop
+loop-less c = search needs
+
+loop-again : tie.Need-loop-again Inv-loop μ-loop
+loop-again c =
+    let w = c .before .before .before .before .before in
+    let l = w .before .before .before .before .before .before .before .before .before in
+    let inv = l .loop .inv in
+    let t = w .write-out .ensures in
+    let start = l .before .before .before in
+    let many = leb-true (start .args .few) (l .loop .reel .stream .waiting .0) (w .before .before .before .before .before .before .if1 .taken) in
+    let some : 0 < l .loop .reel .stream .waiting .0 = omega (arith, start .pre .0, many) in (
+      omega (arith, w .write-out .kept .1 .1 .0, inv .0),
+      omega (arith, w .write-out .kept .1 .1 .0, w .write-out .kept .1 .1 .1 .0, inv .1),
+      omega (arith, w .write-out .kept .1 .0, inv .2),
+      omega (arith, w .write-out .kept .1 .1 .0, inv .3),
+      omega (arith, w .write-out .kept .1 .1 .1 .0, inv .4),
+      out-trans (inv .5) (t .out),
+      λ f z. omega (arith, inv .6 (t .out .failed-stays f) (t .out .refused-stays z), t .fewer f z some),
+    )
+
+same-length : tie.Need-same-length Inv-loop μ-loop
+same-length c = search needs
+
+same-length-2 : tie.Need-same-length-2 Inv-loop μ-loop
+same-length-2 c = search needs
+
+same-length-3 : tie.Need-same-length-3 Inv-loop μ-loop
+same-length-3 c = search needs
+
+returns : tie.Need-returns Inv-loop μ-loop
+returns c = record { out = c .before .before .before .before .before .loop .inv .5; fewer = λ f z. absurd (failed-once (not-false _ (c .if2 .left)) f) }
+
+same-length-4 : tie.Need-same-length-4 Inv-loop μ-loop
+same-length-4 c = search needs
+
+same-length-5 : tie.Need-same-length-5 Inv-loop μ-loop
+same-length-5 c = search needs
+
+same-length-6 : tie.Need-same-length-6 Inv-loop μ-loop
+same-length-6 c = search needs
+
+returns-2 : tie.Need-returns-2 Inv-loop μ-loop
+returns-2 c =
+    let l = c .before .before .before in
+    record { out = l .loop .inv .5; fewer = λ f z. leb-false (l .before .before .before .args .few) (l .loop .reel .stream .waiting .0) (c .if1 .left) }
+
+same-length-7 : tie.Need-same-length-7 Inv-loop μ-loop
+same-length-7 c = search needs
+
+same-length-8 : tie.Need-same-length-8 Inv-loop μ-loop
+same-length-8 c = search needs
+
+same-length-9 : tie.Need-same-length-9 Inv-loop μ-loop
+same-length-9 c = search needs
+
+returns-3 : tie.Need-returns-3 Inv-loop μ-loop
+returns-3 c = record { out = c .before .loop .inv .5; fewer = λ f z. omega (arith, c .before .loop .inv .6 f z) }
+
+pub drain-spec : {M : Type 1} → statement M
+drain-spec =
+    tie.close
+    (tie.spec
+    Inv-loop
+    μ-loop
+    loop-holds
+    write-out-requires
+    sub-turns
+    loop-less
+    loop-again
+    same-length
+    same-length-2
+    same-length-3
+    returns
+    same-length-4
+    same-length-5
+    same-length-6
+    returns-2
+    same-length-7
+    same-length-8
+    same-length-9
+    returns-3)

@@ -1,0 +1,173 @@
+-- `reels::reel::Reel::write_out` meets its contract: a read gives no more than the slice holds, and a frame or more. Assumes nothing.
+use borrow.Author.Needs.{needs}
+use mathlib.Core.Path.{_≡_, refl, sym, ap, _∙_}
+use native.Mathlib.Omega.{arith}
+use Rattle.sonic.specs.declared.SonicStream.{SonicStream}
+use Rattle.sonic.specs.declared.Gave.{Gave}
+use Rattle.sonic.specs.Reading.{readCall, streamAfterRead}
+use Rattle.reels.proofs.FramesRead.{Given, given-of, same-of}
+use Rattle.reels.proofs.Going.{failed-once, moved}
+use Rattle.reels.proofs.reel.Reel.write_out.Statement.{statement}
+use Rattle.reels.proofs.reel.Reel.write_out.Tie as tie
+
+cast-channels : tie.Need-cast-channels
+cast-channels c = search needs
+
+read-f32-requires : tie.Need-read-f32-requires
+read-f32-requires c κs = search needs
+
+enum-known-number : tie.Need-enum-known-number
+enum-known-number c = search needs
+
+enum-known-n : tie.Need-enum-known-n
+enum-known-n c = search needs
+
+-- what a read gave
+told : (c : tie.After-n)
+    → let a = c .before .before .before .before .before .before .before .before .before .before .before .args in
+    Gave.Done (c .n .given .0 .0) (c .n .given .0 .1 .0) ≡ readCall (a .self .stream) 4096 (a .values .now) (a .output .now) .answer
+told c = sym (c .n .given .1) ∙ c .before .before .before .before .before .read-f32 .ensures .answer
+
+given : (c : tie.After-n)
+    → let a = c .before .before .before .before .before .before .before .before .before .before .before .args in
+    Given (a .self .stream) (a .values .now) (c .n .given .0 .0) (c .n .given .0 .1 .0)
+given c =
+    let a = c .before .before .before .before .before .before .before .before .before .before .before .args in
+    given-of (a .self .stream) (a .values .now) (a .output .now) _ _ (told c)
+
+samples-requires : tie.Need-samples-requires
+samples-requires c κs = omega (arith, given (c .before) .fits)
+
+write-values-requires : tie.Need-write-values-requires
+write-values-requires c κs =
+    let k = c .before .before in
+    let r = k .before .before .before .before .before .before .before in
+    let count = k .samples .ensures in
+    (omega (arith, given (k .before .before) .fits, r .read-f32 .kept .1 .1 .0), omega (arith, given (k .before .before) .fits))
+
+wrapping-add-u64-requires : tie.Need-wrapping-add-u64-requires
+wrapping-add-u64-requires c κs = search needs
+
+slice-aggregate-fail : tie.Need-slice-aggregate-fail
+slice-aggregate-fail c = search needs
+
+fail-requires : tie.Need-fail-requires
+fail-requires c κs = search needs
+
+same-length : tie.Need-same-length
+same-length c = search needs
+
+same-length-2 : tie.Need-same-length-2
+same-length-2 c = search needs
+
+returns : tie.Need-returns
+returns c =
+    let r = c .before .before .before .before .before .before in
+    let a = r .before .before .before .before .before .before .args in
+    let e = sym (c .before .number .given .1) ∙ r .read-f32 .ensures .answer in
+    let s = same-of (a .self .stream) (a .values .now) (a .output .now) _ _ e in
+    record {
+      out =
+          record {
+            input-kept = record { frames-same = refl; partial-same = refl; ended-same = refl };
+            written-kept = refl;
+            flushed-kept = refl;
+            stalled-kept = refl;
+            place-kept = refl;
+            channels-kept = ap (λ (t : SonicStream). t .channels) (s .stream-same);
+            failed-stays = λ e. e;
+            refused-stays = λ e. absurd (omega (arith, s .numbered));
+            accounted = λ e. rw (s .stream-same);
+          };
+      stream-is = ap streamAfterRead e;
+      fewer = λ f z w. absurd (omega (arith, s .numbered));
+    }
+
+same-length-3 : tie.Need-same-length-3
+same-length-3 c = search needs
+
+same-length-4 : tie.Need-same-length-4
+same-length-4 c = search needs
+
+same-length-5 : tie.Need-same-length-5
+same-length-5 c = search needs
+
+returns-2 : tie.Need-returns-2
+returns-2 c =
+    let n = c .before .before .before .before .before .before .before .before .before in
+    let start = n .before .before .before .before .before .before .before .before .before .before .before in
+    let a = start .args in
+    let g = given n in
+    record {
+      out =
+          record {
+            input-kept = record { frames-same = refl; partial-same = refl; ended-same = refl };
+            written-kept = refl;
+            flushed-kept = refl;
+            stalled-kept = refl;
+            place-kept = refl;
+            channels-kept = g .channels-kept;
+            failed-stays = λ e. e;
+            refused-stays = λ e. e;
+            accounted =
+                λ e. moved (a .self .«frames_out») (n .n .given .0 .0 .0) (a .self .stream .waiting .0) _ _ (c .wrapping-add-u64 .ensures) (g .left)
+                (g .waited);
+          };
+      stream-is = ap streamAfterRead (told n);
+      fewer = λ f z w. omega (arith, g .left, g .some (start .pre .0) w);
+    }
+
+same-length-6 : tie.Need-same-length-6
+same-length-6 c = search needs
+
+same-length-7 : tie.Need-same-length-7
+same-length-7 c = search needs
+
+same-length-8 : tie.Need-same-length-8
+same-length-8 c = search needs
+
+returns-3 : tie.Need-returns-3
+returns-3 c =
+    let n = c .before .before .before .before .before .before .before .before .before .before in
+    let g = given n in
+    record {
+      out =
+          record {
+            input-kept = record { frames-same = refl; partial-same = refl; ended-same = refl };
+            written-kept = refl;
+            flushed-kept = refl;
+            stalled-kept = refl;
+            place-kept = refl;
+            channels-kept = g .channels-kept;
+            failed-stays = λ e. absurd (failed-once refl e);
+            refused-stays = λ e. e;
+            accounted = λ e. absurd (failed-once refl e);
+          };
+      stream-is = ap streamAfterRead (told n);
+      fewer = λ f z w. absurd (failed-once refl f);
+    }
+
+pub write-out-spec : {M : Type 1} → statement M
+write-out-spec =
+    tie.close
+    (tie.spec
+    cast-channels
+    read-f32-requires
+    enum-known-number
+    enum-known-n
+    samples-requires
+    write-values-requires
+    wrapping-add-u64-requires
+    slice-aggregate-fail
+    fail-requires
+    same-length
+    same-length-2
+    returns
+    same-length-3
+    same-length-4
+    same-length-5
+    returns-2
+    same-length-6
+    same-length-7
+    same-length-8
+    returns-3)

@@ -1,0 +1,4 @@
+mod Settling
+mod Starting
+mod StreamAfter
+mod Turning

@@ -1,0 +1,26 @@
+-- A stream and its plan are ready for a run. Assumes nothing.
+use mathlib.Core.Path.{_≡_, refl, subst}
+use mathlib.Core.Bool.{Bool, true, false, cond}
+use Prim.Native.Nat.{ℕ, _/_}
+use native.Mathlib.Nat.{mul-mod-left}
+use native.Mathlib.Omega.{arith}
+use Rattle.sonic.specs.declared.SonicStream.{SonicStream}
+use Rattle.reels.specs.declared.areas.Plan.{Plan}
+use Rattle.reels.specs.declared.areas.Room.{Room}
+use Rattle.reels.specs.Areas.{served, planOf, serviceOf}
+use Rattle.reels.specs.Reels.{freshReel}
+use Rattle.skim.specs.Stretching.{Ready}
+
+module _ (s : SonicStream) where
+  fresh-ready : Ready (planOf s) (freshReel s)
+  unfolding freshReel
+  fresh-ready =
+      record { channels-are = refl; block-whole = mul-mod-left (4096 / s .channels) (s .channels); level = refl; none-left = refl; unflushed = refl }
+
+  pub ready-of : (p : Plan) → serviceOf s ≡ Room.Planned p → Ready p (freshReel s)
+  unfolding serviceOf
+  ready-of p = go (served s)
+    where
+      go : (b : Bool) → cond b (Room.Planned (planOf s)) Room.None ≡ Room.Planned p → Ready p (freshReel s)
+      go true e = let same : planOf s ≡ p = cc in subst (λ (q : Plan). Ready q (freshReel s)) same fresh-ready
+      go false e = let z : _≡_ {A = ℕ} 0 1 = cc in absurd (omega arith)

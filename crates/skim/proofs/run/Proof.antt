@@ -1,0 +1,101 @@
+-- `skim::run` is safe: a stream that was opened stays in order, and its plan is usable. Assumes nothing.
+use borrow.Author.Needs.{needs}
+use mathlib.Core.Path.{sym, subst, _∙_}
+use Rattle.sonic.proofs.InOrder.{opened-of}
+use Rattle.sonic.proofs.Stays.{open-in-order}
+use Rattle.reels.specs.Areas.{Usable}
+use Rattle.skim.specs.Stretching.{Ready}
+use Rattle.reels.proofs.Plans.{usable-of}
+use Rattle.skim.proofs.Starting.{ready-of}
+use Rattle.skim.proofs.run.Statement.{statement}
+use Rattle.skim.proofs.run.Tie as tie
+
+new-requires : tie.Need-new-requires
+new-requires c κs = search needs
+
+enum-known-number : tie.Need-enum-known-number
+enum-known-number c = search needs
+
+refused-requires : tie.Need-refused-requires
+refused-requires c κs = search needs
+
+bad-usage-requires : tie.Need-bad-usage-requires
+bad-usage-requires c κs = search needs
+
+enum-known-fresh : tie.Need-enum-known-fresh
+enum-known-fresh c = search needs
+
+-- the plan
+usable : (c : tie.After-plan) → Usable (c .plan .given .0 .0)
+usable c =
+    let v = c .before .before in
+    let s = v .before .settle in
+    usable-of (s .result) _ (opened-of (s .result) (s .ensures .0)) (sym (v .serve .ensures) ∙ c .plan .given .1)
+
+settle-requires : tie.Need-settle-requires
+settle-requires c κs =
+    let k = c .before in
+    let n = k .before .before in
+    open-in-order (n .before .args .job .rate) (n .before .args .job .channels) _ (sym (n .new .ensures) ∙ k .fresh .given .1)
+
+serve-requires : tie.Need-serve-requires
+serve-requires c κs = search needs
+
+enum-told : tie.Need-enum-told
+enum-told c = search needs
+
+no-room-requires : tie.Need-no-room-requires
+no-room-requires c κs = search needs
+
+bad-usage-requires-2 : tie.Need-bad-usage-requires-2
+bad-usage-requires-2 c κs = search needs
+
+enum-known-plan : tie.Need-enum-known-plan
+enum-known-plan c = search needs
+
+new-requires-2 : tie.Need-new-requires-2
+new-requires-2 c κs = search needs
+
+stretch-requires : tie.Need-stretch-requires
+stretch-requires c κs =
+    let k = c .before .before in
+    let v = k .before .before in
+    let s = v .before .settle .result in
+    let fresh = ready-of s (k .plan .given .0 .0) (sym (v .serve .ensures) ∙ k .plan .given .1) in
+    (usable k, subst (Ready (k .plan .given .0 .0)) (sym (c .new2 .ensures)) fresh)
+
+run-requires : tie.Need-run-requires
+run-requires c κs =
+    let u = usable (c .before .before .before) in
+    (u .rate-low, u .rate-high)
+
+returns : tie.Need-returns
+returns c = search needs
+
+returns-2 : tie.Need-returns-2
+returns-2 c = search needs
+
+returns-3 : tie.Need-returns-3
+returns-3 c = search needs
+
+pub run-spec : {M : Type 1} → statement M
+run-spec =
+    tie.close
+    (tie.spec
+    new-requires
+    enum-known-number
+    refused-requires
+    bad-usage-requires
+    enum-known-fresh
+    settle-requires
+    serve-requires
+    enum-told
+    no-room-requires
+    bad-usage-requires-2
+    enum-known-plan
+    new-requires-2
+    stretch-requires
+    run-requires
+    returns
+    returns-2
+    returns-3)

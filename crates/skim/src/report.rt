@@ -1,0 +1,124 @@
+// What became of a run, on standard error.
+use reels::progress;
+use reels::reel::Reel;
+use reels::say;
+ghost use mathlib.Core.Path.{_≡_};
+ghost use Prim.Native.Nat.{_≤_};
+ghost use Rattle.skim.specs.Stretching.{statusOf};
+
+// A refusal's number, and what it means.
+pub(crate) fn refused(number: u32) {
+    say::number(b"skim: refused with number ", number as u64);
+    match number {
+        1 => say::text(b": the rate is out of range\n"),
+        2 => say::text(b": the channels are out of range\n"),
+        3 => say::text(b": the stream is not in order\n"),
+        4 => say::text(b": an area is too short for what the stream holds\n"),
+        5 => say::text(b": the input area is full\n"),
+        6 => say::text(b": the stage area is full\n"),
+        _ => say::text(b": the output area is full\n"),
+    }
+}
+
+// A frame, and its time in seconds.
+fn say_place(frame: u64, rate: u64)
+    requires { ⌜ (1000 ≤ rate) × (rate ≤ 500000) ⌝ }
+{
+    let thousandths = frame % rate * 1000 / rate;
+    say::number(b" frame ", frame);
+    say::number(b" (", frame / rate);
+    say::number(b".", thousandths / 100);
+    say::number(b"", thousandths / 10 % 10);
+    say::number(b"", thousandths % 10);
+    say::text(b" s)");
+}
+
+// The bytes at the end that are no whole frame, if there are any.
+fn say_partial(bytes: u64) {
+    if bytes > 0 {
+        say::number(
+            b"skim: left out, being no whole frame: the last bytes, ",
+            bytes,
+        );
+        say::text(b"\n");
+    }
+}
+
+// Where a write or the flush stalled.
+fn say_stall(reel: Reel, rate: u64)
+    requires { ⌜ (1000 ≤ rate) × (rate ≤ 500000) ⌝ }
+{
+    let after = std::num::wrapping_sub_u64(reel.frames_in, reel.stalled_at);
+    if reel.flushed {
+        say::text(b"skim: the flush stalled at or after");
+        say_place(reel.stalled_at, rate);
+        say::number(b": of the last ", after);
+        say::text(b" frames not all came out\n");
+        return;
+    }
+    say::text(b"skim: stalled at");
+    say_place(reel.stalled_at, rate);
+    say::text(
+        b": the pitch period there gives no frame, and nothing after it can be skimmed at this speed\n",
+    );
+    say::number(b"skim: not skimmed: the ", after);
+    say::number(b" frames from there on, and ", reel.stream.tail.0 as u64);
+    say::text(b" stretched frames before them, in the tail\n");
+}
+
+fn say_frame(name: &[u8], told: bool, frame: u64) {
+    if told {
+        say::number(name, frame);
+    } else {
+        say::text(name);
+        say::text(b"none");
+    }
+}
+
+// 0 fine; 1 a partial frame, a failed read or write, a refusal, or a stall before the flush.
+fn status(reel: Reel) -> u64
+    ensures { λ r. ⌜ r ≡ statusOf reel ⌝ }
+{
+    if reel.partial > 0 {
+        return 1;
+    }
+    if reel.failed {
+        return 1;
+    }
+    if reel.refusal != 0 {
+        return 1;
+    }
+    if reel.stalled && !reel.flushed { 1 } else { 0 }
+}
+
+// The line for scripts.
+fn say_summary(reel: Reel, status: u64) {
+    let stalled = reel.stalled && !reel.flushed;
+    let cut = reel.stalled && reel.flushed;
+    say::number(b"skim: frames_in=", reel.frames_in);
+    say::number(b" frames_out=", reel.frames_out);
+    say::number(b" stalls=", stalled as u64);
+    say_frame(b" stalled_at=", stalled, reel.stalled_at);
+    say_frame(b" flush_stalled_at=", cut, reel.stalled_at);
+    say::number(b" refusal=", reel.refusal as u64);
+    say::number(b" status=", status);
+    say::text(b"\n");
+}
+
+// Tells what became of a run, and answers the status.
+pub(crate) fn run(reel: Reel, rate: u64) -> u64
+    requires { ⌜ (1000 ≤ rate) × (rate ≤ 500000) ⌝ }
+    ensures { λ r. ⌜ r ≡ statusOf reel ⌝ }
+{
+    progress::end(rate, reel.frames_in);
+    say_partial(reel.partial as u64);
+    if reel.stalled {
+        say_stall(reel, rate);
+    }
+    if reel.refusal != 0 {
+        refused(reel.refusal);
+    }
+    let status = status(reel);
+    say_summary(reel, status);
+    status
+}

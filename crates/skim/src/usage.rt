@@ -1,0 +1,52 @@
+// The usage, on standard output, and what is said of bad usage.
+use reels::say;
+
+pub(crate) fn usage() {
+    say::line(b"usage: skim [--status] [RATE CHANNELS SPEED PITCH [VOLUME]] < in.pcm > out.pcm");
+    say::line(
+        b"Changes speed, pitch and volume of 16-bit little-endian PCM, its channels interleaved.",
+    );
+    say::line(b"  RATE      frames in a second, 1000 to 500000");
+    say::line(b"  CHANNELS  1 to 32");
+    say::line(b"  SPEED     0.05 to 20, with digits before and behind the point, as 20 or 1.25");
+    say::line(b"  PITCH     0.05 to 20");
+    say::line(b"  VOLUME    0.01 to 100, 1 if it is left out");
+    say::line(b"With no arguments: 8000 1 20 0.5.");
+    say::line(
+        b"Standard error tells where the stretch stalled and what was left out. Its last line is for scripts:",
+    );
+    say::line(
+        b"  skim: frames_in=N frames_out=N stalls=N stalled_at=FRAME flush_stalled_at=FRAME refusal=N status=N",
+    );
+    say::line(
+        b"FRAME is none where nothing stalled. status: 0 fine; 1 stalled before the flush, refused, a partial",
+    );
+    say::line(
+        b"frame at the end, or a read or a write failed; 2 bad usage, and then nothing was read.",
+    );
+    say::line(b"With --status the status is written to descriptor 3 too.");
+}
+
+// The end of every report of bad usage. Answers the status.
+pub(crate) fn bad_usage() -> u64 {
+    say::text(b"skim: --help tells the usage\nskim: status=2\n");
+    2
+}
+
+// Which argument cannot be used; 0 for a wrong count of them.
+pub(crate) fn wrong_argument(place: usize) {
+    match place {
+        0 => say::text(b"skim: give four or five arguments, or none\n"),
+        1 => say::text(b"skim: RATE has to be a whole number from 1000 to 500000\n"),
+        2 => say::text(b"skim: CHANNELS has to be a whole number from 1 to 32\n"),
+        3 => say::text(b"skim: SPEED has to be a number from 0.05 to 20, as 20 or 1.25\n"),
+        4 => say::text(b"skim: PITCH has to be a number from 0.05 to 20, as 2 or 0.5\n"),
+        _ => say::text(b"skim: VOLUME has to be a number from 0.01 to 100, as 2 or 0.5\n"),
+    }
+}
+
+pub(crate) fn no_room() {
+    say::text(
+        b"skim: no room for this job in the fixed areas: a lower rate, fewer channels or a higher speed need less\n",
+    );
+}

@@ -1,0 +1,96 @@
+// Joined to the text of the Rust original: the original driven through the writes that the skim tool makes. Arguments and files are the
+// tool's; standard error gets the tool's last line, without its refusal and status.
+use std::io::{Read, Write};
+
+// The samples that are read at a time.
+const BLOCK: usize = 4096;
+
+// The frames that a write fills the input up to.
+fn full(stream: &SonicStream) -> usize {
+    let s = (stream.speed / stream.pitch) as usize;
+    if s >= stream.min_period as usize {
+        stream.max_required + (s - 1).min(2 * stream.max_required)
+    } else {
+        3 * stream.max_required
+    }
+}
+
+// A stream on which a write stalled holds as many frames as a search looks at.
+fn stalled(stream: &SonicStream) -> bool {
+    stream.input_frames() >= stream.max_required
+}
+
+// What is waiting, as bytes.
+fn take(stream: &mut SonicStream, out: &mut Vec<u8>) {
+    for x in stream.read_f32(usize::MAX / 64) {
+        let v = (f64::from(x) * 32767.0).round() as i16;
+        out.extend_from_slice(&v.to_le_bytes());
+    }
+}
+
+fn open(words: &[&str]) -> SonicStream {
+    let mut stream = SonicStream::new(words[0].parse().unwrap(), words[1].parse().unwrap()).unwrap();
+    stream.set_speed(words[2].parse().unwrap());
+    stream.set_pitch(words[3].parse().unwrap());
+    stream.set_volume(words.get(4).map_or(1.0, |word| word.parse().unwrap()));
+    stream
+}
+
+// Writes whole frames as the tool does, up to a stall, and gives the first frame held before the write that stalled.
+fn write_all(stream: &mut SonicStream, channels: usize, samples: &[f32], out: &mut Vec<u8>) -> Option<usize> {
+    let (mut written, full) = (0, full(stream));
+    for block in samples.chunks(BLOCK / channels * channels) {
+        let mut at = 0;
+        while at < block.len() {
+            let held = stream.input_frames();
+            let before = stream.output_frames() + stream.pitch_frames();
+            let end = block.len().min(at + (full - held) * channels);
+            stream.write_f32(&block[at..end]);
+            if stalled(stream) {
+                assert_eq!(before, stream.output_frames() + stream.pitch_frames(), "a write that stalls makes no frame");
+                take(stream, out);
+                return Some(written - held);
+            }
+            written += (end - at) / channels;
+            at = end;
+        }
+        take(stream, out);
+    }
+    None
+}
+
+// The first frame held before a flush that stalls. A flush clears the input, which would show it: the silence goes in as a write instead.
+fn flush_stall(words: &[&str], channels: usize, samples: &[f32]) -> Option<usize> {
+    let mut stream = open(words);
+    write_all(&mut stream, channels, samples, &mut Vec::new());
+    let held = stream.input_frames();
+    stream.write_f32(&vec![0.0; 2 * stream.max_required * channels]);
+    stalled(&stream).then(|| samples.len() / channels - held)
+}
+
+fn told(frame: Option<usize>) -> String {
+    frame.map_or("none".to_string(), |f| f.to_string())
+}
+
+fn main() {
+    let words: Vec<String> = std::env::args().skip(1).collect();
+    let words: Vec<&str> = if words.is_empty() { vec!["8000", "1", "20", "0.5"] } else { words.iter().map(String::as_str).collect() };
+    let channels: usize = words[1].parse().unwrap();
+    let mut bytes = Vec::new();
+    std::io::stdin().read_to_end(&mut bytes).unwrap();
+    let mut samples: Vec<f32> = bytes.chunks_exact(2).map(|b| f32::from(i16::from_le_bytes([b[0], b[1]])) / 32767.0).collect();
+    let frames = samples.len() / channels;
+    samples.truncate(frames * channels);
+
+    let (mut stream, mut out, mut at_flush) = (open(&words), Vec::new(), None);
+    let at_write = write_all(&mut stream, channels, &samples, &mut out);
+    if at_write.is_none() && frames > 0 {
+        at_flush = flush_stall(&words, channels, &samples);
+        stream.flush();
+        take(&mut stream, &mut out);
+    }
+    std::io::stdout().write_all(&out).unwrap();
+    let (frames_out, stalls) = (out.len() / 2 / channels, u32::from(at_write.is_some()));
+    let (at_write, at_flush) = (told(at_write), told(at_flush));
+    eprintln!("skim: frames_in={frames} frames_out={frames_out} stalls={stalls} stalled_at={at_write} flush_stalled_at={at_flush}");
+}
