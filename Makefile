@@ -8,15 +8,12 @@ LINK_STREAM := -L target/staticlib -l static=sonic_c
 # The Rust original, unchanged: src/lib.rs of libsonic-rs. What needs it says so in one line where it is not at hand.
 ORIGINAL ?= ../shared/docs/src/src/lib.rs
 
-.PHONY: skim test test-long compare differential bites tool bench rust vectors picture kernels stream
+.PHONY: skim test test-long compare differential bites tool bench rust vectors picture program kernels stream
 .SILENT:
 
 # Proves and builds the skim tool, and skims the reel of its crate: five seconds, two voices made by tools/make_reel.py. That it stalls at
 # the second voice is the reel's point, and no failure.
-skim:
-	echo "proving and building the tool; the first time takes some minutes"
-	mkdir -p target
-	rt check skim > target/skim.log 2>&1 || { cat target/skim.log; exit 1; }
+skim: program
 	tools/skim.sh < crates/skim/stdin > target/reel.pcm; test $$? -le 1
 	echo "the reel crates/skim/stdin is skimmed to target/reel.pcm (8,000 Hz, mono, 16-bit little-endian PCM)"
 	echo "to skim your own: tools/skim.sh < in.pcm > out.pcm; tools/skim.sh --help tells more"
@@ -48,9 +45,7 @@ differential: stream
 
 # The skim tool as its users meet it, and beside the original on random jobs.
 JOBS := 300
-tool: target/tests/skim_in_c
-	mkdir -p target/tests
-	rt check skim > target/skim.log 2>&1 || { cat target/skim.log; exit 1; }
+tool: program target/tests/skim_in_c
 	tools/make_reel.py 62:24000 34:16000 | cmp - crates/skim/stdin
 	tests/skim.py tools/skim.sh target/tests/skim_in_c tools/make_reel.py
 	if test -f $(ORIGINAL); then \
@@ -68,6 +63,11 @@ bench: target/bench/kernels target/bench/jobs skim
 # The tests compare with the original too where it is there.
 rust: stream
 	cd bindings/rust && KELPLADDER_ORIGINAL=$(abspath $(ORIGINAL)) cargo test --offline --quiet
+
+program:
+	echo "proving and building the skim tool; from nothing that takes some minutes"
+	mkdir -p target
+	rt check skim > target/skim.log 2>&1 || { cat target/skim.log; exit 1; }
 
 kernels:
 	mkdir -p target/tests target/bench

@@ -26,7 +26,7 @@ INPUT = """
 set title "{title}" font "DejaVu Sans,13"
 set ylabel "input"
 set yrange [-13000:13000]
-set format y ""
+unset ytics
 unset xlabel
 {marks}
 plot {plots}
@@ -36,7 +36,7 @@ OUTPUT = """
 set title ""
 set ylabel "frames out"
 set yrange [0:1400]
-set format y "%g"
+set ytics nomirror
 set xlabel "seconds of the reel"
 unset label
 {marks}

@@ -17,7 +17,8 @@ fn time_of_tool(tool: &Path, reel: &Path, track: &Path) -> f64 {
     times::of_children() - start
 }
 
-/// Prints the tool's time over the library's, and both in milliseconds. The bytes are compared first.
+/// Prints the tool's time over the library's, and both in milliseconds: the least of the rounds, since a process that is started anew for
+/// each round varies more than a thread. The bytes are compared first.
 pub fn beside_library() {
     let here = std::env::current_exe().expect("this program");
     let (tool, reel_file, track_file) = (here.with_file_name("../bin/skim"), here.with_file_name("reel.pcm"), here.with_file_name("track.pcm"));
@@ -38,6 +39,6 @@ pub fn beside_library() {
         run::<Ours>(job, reel, &samples, &mut |frames| { black_box(frames); });
         library.push(times::of_thread() - start);
     }
-    let (a, b) = (times::median(&mut tools), times::median(&mut library));
+    let (a, b) = (times::least(&tools), times::least(&library));
     println!("the tool over the library, {} {} s: {:.2}  {a:.1} {b:.1}", job.name, reel.seconds, a / b);
 }
