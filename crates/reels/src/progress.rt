@@ -29,7 +29,7 @@ fn on_terminal() -> bool {
 }
 
 // At each minute of the reel: the minutes done, and how many times shorter than them the processor time is. The line is written over.
-pub fn show(rate: u64, before: u64, after: u64)
+pub(crate) fn show(rate: u64, before: u64, after: u64)
     requires { ⌜ (1000 ≤ rate) × (rate ≤ 500000) ⌝ }
 {
     let done = minutes(after, rate);
