@@ -3,7 +3,7 @@ use borrow.Author.Needs.{needs}
 use mathlib.Core.Path.{_≡_, sym, _∙_}
 use mathlib.Core.Bool.{true}
 use borrow.Author.Tests.{not-true, not-false}
-use Rattle.sonic.specs.Refusals.{openedInOrder, settingsInOrder, recordInOrder, inOrder}
+use Rattle.sonic.specs.Refusals.{openedInOrder, settingsInOrder, prevInOrder, inOrder}
 use Rattle.sonic.proofs.InOrder.{opened-range}
 use Rattle.sonic.proofs.order.in_order.Statement.{statement}
 use Rattle.sonic.proofs.order.in_order.Tie as tie
@@ -42,7 +42,7 @@ returns-3 c =
     let s = c .before .before in
     simp (opened (s .before .before), settings s, sym (test .ensures) ∙ not-true (test .result) (c .if3 .taken))
 
-found : (c : tie.Else3) → recordInOrder (c .before .before .before .before .before .before .args .stream) ≡ true
+found : (c : tie.Else3) → prevInOrder (c .before .before .before .before .before .before .args .stream) ≡ true
 found c = let test = c .before .record-in-order in sym (test .ensures) ∙ not-false (test .result) (c .if3 .left)
 
 positions-in-order-requires : tie.Need-positions-in-order-requires
