@@ -5,7 +5,14 @@ use lib.IntN.{pos}
 use lib.Ieee.{Float, binary32, binary64, ofBits, ofInt, div, le}
 use Rattle.floats.specs.Numbers.{one, narrow}
 
--- speed and pitch: 0.05 and 20 as f32
+-- speed: 0.05 and 20 as f32
+abbrev pub minSpeed : Float
+minSpeed = ofBits binary32 0x3d4c_cccd
+
+abbrev pub maxSpeed : Float
+maxSpeed = ofBits binary32 0x41a0_0000
+
+-- pitch: the same
 abbrev pub minPitch : Float
 minPitch = ofBits binary32 0x3d4c_cccd
 

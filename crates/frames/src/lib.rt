@@ -5,7 +5,8 @@ ghost use lib.IntN.{pos};
 ghost use lib.ListN.{length, drop, replicate};
 ghost use lib.Seq.{paste};
 
-// A count of frames. A frame is one sample per channel.
+// A count of frames. A frame is one sample per channel. C has it as a size_t.
+#[repr(C)]
 pub struct Frames(pub usize);
 
 // A count of samples, or a place in an area. A sample is one i16.

@@ -1,5 +1,5 @@
-pub mod State
 pub mod Process
-pub mod Kept
+pub mod Streams
 pub mod Filling
 pub mod Finishing
+pub mod Working

@@ -1,9 +1,9 @@
 // The first half of a call's work: copied or stretched frames, into the stage behind the tail. The input stays.
-use crate::Kept;
 use crate::Outcome;
-use crate::Setup;
 use frames::Frames;
 use frames::Samples;
+use period::PeriodRecord;
+use stream::SonicStream;
 use stretch::Stretch;
 use stretch::StretchCall;
 use stretch::Stretched;
@@ -11,16 +11,20 @@ ghost use mathlib.Core.Path.{_≡_};
 ghost use mathlib.Core.Bool.{true, false};
 ghost use Prim.Native.Nat.{_^_, _≤_};
 ghost use lib.ListN.{length};
+ghost use Rattle.floats.specs.Settings.{samplePeriod};
 ghost use Rattle.floats.specs.Write.{speedChanges};
 ghost use Rattle.period.specs.Rates.{maxRequired};
-ghost use Rattle.process.specs.Kept.{removedKept, speedOf};
-ghost use Rattle.process.specs.Filling.{Ready, Room, steppedFill, nothingFilled, FillEnsures};
+ghost use Rattle.stream.specs.Stream.{ChangedBy};
+ghost use Rattle.stream.specs.Order.{StreamReady};
+ghost use Rattle.process.specs.Process.{removed};
+ghost use Rattle.process.specs.Streams.{speedOf};
+ghost use Rattle.process.specs.Filling.{AreasFit, FillReady, SteppedAs, nothingFilled, FillEnsures};
 
-// New frames in the stage, frames of the input to be removed, what is kept without these, and the outcome.
+// New frames in the stage, frames of the input to be removed, the stream without these, and the outcome.
 pub struct Filled {
     pub frames: Frames,
     pub used: Frames,
-    pub kept: Kept,
+    pub stream: SonicStream,
     pub outcome: Outcome,
 }
 
@@ -30,150 +34,153 @@ pub enum Fill {
     Done(Filled),
 }
 
-// What is kept without the first `used` frames of the input.
-fn removed(mut kept: Kept, used: Frames) -> Kept
-    requires { ⌜ (used .0 ≤ kept .held .0) × (kept .held .0 ≤ 2 ^ 24) ⌝ }
-    ensures { λ r. ⌜ r ≡ removedKept (used .0) kept ⌝ }
+// The stream without the first `used` frames of its input.
+fn removed(mut stream: SonicStream, used: Frames) -> SonicStream
+    requires { ⌜ (used .0 ≤ stream .held .0) × (stream .held .0 ≤ 2 ^ 24) × (stream .«sample_period» ≡ samplePeriod (stream .rate)) ⌝ }
+    ensures { λ r. ⌜ ChangedBy (removed (used .0)) stream (stream .waiting .0) r ⌝ }
 {
-    let held = kept.held;
-    let left = kept.held.0 - used.0;
-    kept.input_play_time = floats::times::play_time_left(kept.input_play_time, Frames(left), held);
-    kept.held.0 = left;
-    kept
+    let held = stream.held;
+    let left = stream.held.0 - used.0;
+    stream.input_play_time = floats::times::play_time_left(
+        stream.input_play_time,
+        Frames(left),
+        held,
+    );
+    stream.held.0 = left;
+    stream
 }
 
 // What the steps of a stretch gave; a stall removes no input.
-fn stepped(mut kept: Kept, stretch: Stretch) -> Filled
-    requires { ⌜ (stretch .used .0 ≤ kept .held .0) × (kept .held .0 ≤ 2 ^ 24) ⌝ }
-    ensures { λ r. ⌜ r ≡ steppedFill kept stretch ⌝ }
+fn stepped(mut stream: SonicStream, stretch: Stretch) -> Filled
+    requires { ⌜ (stretch .used .0 ≤ stream .held .0) × (stream .held .0 ≤ 2 ^ 24) × (stream .«sample_period» ≡ samplePeriod (stream .rate)) ⌝ }
+    ensures { λ r. ⌜ SteppedAs stream stretch r ⌝ }
 {
     let frames = stretch.made;
     let used = stretch.used;
-    let found = stretch.prev;
-    kept.time_error = stretch.time_error;
-    kept.found = found;
+    let prev = stretch.prev;
+    stream.time_error = stretch.time_error;
+    stream.prev_period = prev.period;
+    stream.prev_min_diff = prev.min_diff;
     if stretch.stalled {
         return Filled {
             frames,
             used: Frames(0),
-            kept,
+            stream,
             outcome: Outcome::Stalled,
         };
     }
     Filled {
         frames,
         used,
-        kept: removed(kept, used),
+        stream: removed(stream, used),
         outcome: Outcome::Stretched,
     }
 }
 
 // The stretch at the local speed.
 fn stretch_input(
-    setup: Setup,
-    kept: Kept,
+    stream: SonicStream,
     speed: f32,
     input: &[i16],
     stage: &mut [i16],
     scratch: &mut [i16],
 ) -> Fill
-    requires { ⌜ Ready setup kept ⌝ }
-    requires { ⌜ Room setup kept (length (now input)) (length (now stage)) × (maxRequired (setup .rate) ≤ length (now scratch)) ⌝ }
-    requires { ⌜ (maxRequired (setup .rate) ≤ kept .held .0) × (speed ≡ speedOf setup kept) × (speedChanges speed ≡ true) ⌝ }
-    ensures { λ r. ⌜ FillEnsures setup kept (now (input .entry)) (now (stage .entry)) (now (stage .exit)) r ⌝ }
+    requires { ⌜ StreamReady stream × FillReady stream (now input) (now stage) (now scratch) ⌝ }
+    requires { ⌜ (maxRequired (stream .rate) ≤ stream .held .0) × (speed ≡ speedOf stream) × (speedChanges speed ≡ true) ⌝ }
+    ensures { λ r. ⌜ FillEnsures stream (now (input .entry)) (now (stage .entry)) (now (stage .exit)) r ⌝ }
 {
-    let held = kept.held;
-    let tail = kept.tail;
-    let found = kept.found;
+    let channels = stream.channels as usize;
+    let held = stream.held;
+    let tail = stream.tail;
     let call = StretchCall {
-        channels: setup.channels,
-        rate: setup.rate as usize,
-        sample_period: setup.sample_period,
+        channels,
+        rate: stream.rate as usize,
+        sample_period: stream.sample_period,
         speed,
-        input_play_time: kept.input_play_time,
+        input_play_time: stream.input_play_time,
         held,
     };
-    let count = held.samples(setup.channels).0;
-    let to = tail.samples(setup.channels);
-    let room = stage.len() / setup.channels - kept.tail.0;
+    let prev = PeriodRecord {
+        period: stream.prev_period,
+        min_diff: stream.prev_min_diff,
+    };
+    let count = held.samples(channels).0;
+    let room = Samples(stage.len()).frames(channels).0 - tail.0;
     match stretch::change_speed(
         &input[0..count],
         call,
-        kept.time_error,
-        found,
+        stream.time_error,
+        prev,
         stage,
-        to,
+        tail.samples(channels),
         Frames(room),
         scratch,
     ) {
         Stretched::Full => Fill::Full,
-        Stretched::Made(made) => Fill::Done(stepped(kept, made)),
+        Stretched::Made(made) => Fill::Done(stepped(stream, made)),
     }
 }
 
 // All frames of the input.
-fn copy_input(setup: Setup, kept: Kept, input: &[i16], stage: &mut [i16]) -> Fill
-    requires { ⌜ Ready setup kept ⌝ }
-    requires { ⌜ Room setup kept (length (now input)) (length (now stage)) ⌝ }
-    requires { ⌜ (1 ≤ kept .held .0) × (speedChanges (speedOf setup kept) ≡ false) ⌝ }
-    ensures { λ r. ⌜ FillEnsures setup kept (now (input .entry)) (now (stage .entry)) (now (stage .exit)) r ⌝ }
+fn copy_input(stream: SonicStream, input: &[i16], stage: &mut [i16]) -> Fill
+    requires { ⌜ StreamReady stream × AreasFit stream (now input) (now stage) ⌝ }
+    requires { ⌜ (1 ≤ stream .held .0) × (speedChanges (speedOf stream) ≡ false) ⌝ }
+    ensures { λ r. ⌜ FillEnsures stream (now (input .entry)) (now (stage .entry)) (now (stage .exit)) r ⌝ }
 {
-    let held = kept.held;
-    let tail = kept.tail;
-    let n = kept.held.0;
-    if stage.len() / setup.channels - kept.tail.0 < n {
+    let channels = stream.channels as usize;
+    let held = stream.held;
+    let tail = stream.tail;
+    if Samples(stage.len()).frames(channels).0 - tail.0 < held.0 {
         return Fill::Full;
     }
     frames::copy(
         input,
         Samples(0),
-        held.samples(setup.channels),
+        held.samples(channels),
         stage,
-        tail.samples(setup.channels),
+        tail.samples(channels),
     );
     Fill::Done(Filled {
         frames: held,
         used: held,
-        kept: removed(kept, held),
+        stream: removed(stream, held),
         outcome: Outcome::Copied,
     })
 }
 
 // No frames.
-fn nothing(kept: Kept, outcome: Outcome) -> Fill
-    ensures { λ r. ⌜ r ≡ nothingFilled kept outcome ⌝ }
+fn nothing(stream: SonicStream, outcome: Outcome) -> Fill
+    ensures { λ r. ⌜ r ≡ nothingFilled stream outcome ⌝ }
 {
     Fill::Done(Filled {
         frames: Frames(0),
         used: Frames(0),
-        kept,
+        stream,
         outcome,
     })
 }
 
 // The frames of a call, before rate and volume.
 pub(crate) fn fill_stage(
-    setup: Setup,
-    kept: Kept,
+    stream: SonicStream,
     input: &[i16],
     stage: &mut [i16],
     scratch: &mut [i16],
 ) -> Fill
-    requires { ⌜ Ready setup kept ⌝ }
-    requires { ⌜ Room setup kept (length (now input)) (length (now stage)) × (maxRequired (setup .rate) ≤ length (now scratch)) ⌝ }
-    ensures { λ r. ⌜ FillEnsures setup kept (now (input .entry)) (now (stage .entry)) (now (stage .exit)) r ⌝ }
+    requires { ⌜ StreamReady stream × FillReady stream (now input) (now stage) (now scratch) ⌝ }
+    ensures { λ r. ⌜ FillEnsures stream (now (input .entry)) (now (stage .entry)) (now (stage .exit)) r ⌝ }
 {
-    let held = kept.held;
-    let n = kept.held.0;
+    let held = stream.held;
+    let n = stream.held.0;
     if n == 0 {
-        return nothing(kept, Outcome::Empty);
+        return nothing(stream, Outcome::Empty);
     }
-    let speed = floats::times::local_speed(held, setup.sample_period, kept.input_play_time);
+    let speed = floats::times::local_speed(held, stream.sample_period, stream.input_play_time);
     if floats::times::speed_changes(speed) {
-        if n < period::max_required(setup.rate as usize).0 {
-            return nothing(kept, Outcome::Waiting);
+        if n < period::max_required(stream.rate as usize).0 {
+            return nothing(stream, Outcome::Waiting);
         }
-        return stretch_input(setup, kept, speed, input, stage, scratch);
+        return stretch_input(stream, speed, input, stage, scratch);
     }
-    copy_input(setup, kept, input, stage)
+    copy_input(stream, input, stage)
 }

@@ -1,41 +1,18 @@
-// One call's work: frames that a write or a flush added are copied or stretched, then rate and volume follow. `specs/Process.antt` says what
-// becomes of the samples. Work goes into the free parts of the areas first and is committed at the end.
+// One call's work on a stream: frames that a write or a flush added are copied or stretched, then rate and volume follow.
+// `specs/Process.antt` says what becomes of the samples. Work goes into the free parts of the areas first and is committed at the end.
 mod fill;
 mod finish;
 
-pub use finish::process_stream_input;
+use fill::Fill;
 use frames::Frames;
-use period::PeriodRecord;
-use rate::Position;
+use stream::SonicStream;
 ghost use mathlib.Core.Path.{_≡_};
 ghost use Prim.Native.Nat.{_^_, _+_, _≤_};
-ghost use Rattle.process.specs.Kept.{joinedKept};
-
-// Fixed from the opening on: the rate in Hz, the channels, and the sample period in seconds.
-pub struct Setup {
-    pub rate: u32,
-    pub channels: usize,
-    pub sample_period: f32,
-}
-
-// The settings.
-pub struct Settings {
-    pub speed: f32,
-    pub pitch: f32,
-    pub volume: f32,
-}
-
-// What a stream keeps from call to call beside the samples in its areas.
-pub struct Kept {
-    pub settings: Settings,
-    pub held: Frames,
-    pub tail: Frames,
-    pub waiting: Frames,
-    pub at: Position,
-    pub found: PeriodRecord,
-    pub input_play_time: f32,
-    pub time_error: f32,
-}
+ghost use Rattle.frames.specs.Areas.{areas};
+ghost use Rattle.floats.specs.Settings.{samplePeriod};
+ghost use Rattle.stream.specs.Order.{StreamReady};
+ghost use Rattle.process.specs.Streams.{joinedStream};
+ghost use Rattle.process.specs.Working.{AreasReady, WorkEnsures};
 
 // How a call's work went.
 pub enum Outcome {
@@ -50,23 +27,42 @@ pub enum Outcome {
 pub enum Work {
     StageFull,
     OutputFull,
-    Done(Outcome, Kept),
+    Done(Outcome, SonicStream),
 }
 
-// What is kept when n frames have joined the input.
-pub fn joined(setup: Setup, mut kept: Kept, n: Frames) -> Kept
-    requires { ⌜ kept .held .0 + n .0 ≤ 2 ^ 24 ⌝ }
-    ensures { λ r. ⌜ r ≡ joinedKept setup (n .0) kept ⌝ }
+// The stream when n frames have joined its input, with the sample period that its rate gives.
+pub fn joined(mut stream: SonicStream, period: f32, n: Frames) -> SonicStream
+    requires { ⌜ (stream .held .0 + n .0 ≤ 2 ^ 24) × (period ≡ samplePeriod (stream .rate)) ⌝ }
+    ensures { λ r. ⌜ r ≡ joinedStream (n .0) stream ⌝ }
 {
-    let held = kept.held.0 + n.0;
-    let settings = kept.settings;
-    kept.input_play_time = floats::times::play_time_grown(
-        kept.input_play_time,
+    let held = stream.held.0 + n.0;
+    stream.input_play_time = floats::times::play_time_grown(
+        stream.input_play_time,
         n,
-        setup.sample_period,
-        settings.speed,
-        settings.pitch,
+        period,
+        stream.speed,
+        stream.pitch,
     );
-    kept.held.0 = held;
-    kept
+    stream.sample_period = period;
+    stream.held.0 = held;
+    stream
+}
+
+// A call's work on the frames held. Without room the kept parts stay as they came.
+pub fn process_stream_input(
+    stream: SonicStream,
+    input: &mut [i16],
+    stage: &mut [i16],
+    output: &mut [i16],
+    scratch: &mut [i16],
+) -> Work
+    requires { ⌜ StreamReady stream ⌝ }
+    requires { ⌜ AreasReady stream (areas (now input) (now stage) (now output) (now scratch)) ⌝ }
+    ensures { λ r. ⌜ WorkEnsures stream (areas (now (input .entry)) (now (stage .entry)) (now (output .entry)) (now (scratch .entry)))
+        (areas (now (input .exit)) (now (stage .exit)) (now (output .exit)) (now (scratch .exit))) r ⌝ }
+{
+    match fill::fill_stage(stream, input, stage, scratch) {
+        Fill::Full => Work::StageFull,
+        Fill::Done(filled) => finish::finish(stream, filled, input, stage, output),
+    }
 }

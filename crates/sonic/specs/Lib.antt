@@ -1,6 +1,3 @@
-pub mod Settings
-pub mod Stream
-pub mod Refusals
 pub mod Calls
 pub mod Reading
-pub mod Working
+pub mod Adding

@@ -7,14 +7,13 @@ use lib.Ieee.{Float}
 use lib.ListN.{length, take, drop}
 use Rattle.frames.specs.Framing.{Frame, framesOf}
 use Rattle.floats.specs.Write.{sampleOut}
-use Rattle.process.specs.declared.Kept.{Kept}
-use Rattle.sonic.specs.declared.SonicStream.{SonicStream}
+use Rattle.stream.specs.declared.SonicStream.{SonicStream}
+use Rattle.stream.specs.Stream.{streamOf, unlent}
+use Rattle.stream.specs.Refusals.{readRefusal}
 use Rattle.sonic.specs.declared.Gave.{Gave}
-use Rattle.sonic.specs.Stream.{keptIn, keeping}
-use Rattle.sonic.specs.Refusals.{readRefusal}
 
 -- the answer, the frames given as f32 values, and the frames waiting after it
-pub record Read : Type 0 where
+pub record ReadResult : Type 0 where
   pub answer : Gave
   pub given : List (List Float)
   pub output : List Frame
@@ -23,27 +22,17 @@ pub record Read : Type 0 where
 unfoldable pub readCount : SonicStream → ℕ → List Float → ℕ
 readCount s most slice = min (min (s .waiting .0) most) (length slice / s .channels)
 
--- with n frames fewer waiting
-unfoldable pub fewer : ℕ → Kept → Kept
-fewer n k =
-    record {
-      settings = k .settings;
-      held = k .held;
-      tail = k .tail;
-      waiting = record { 0 = k .waiting .0 - n };
-      at = k .at;
-      found = k .found;
-      «input_play_time» = k .«input_play_time»;
-      «time_error» = k .«time_error»;
-    }
-
--- by the number of a refusal, 0 if there is none; each sample/32767 in f32
-abbrev pub readBy : ℕ → SonicStream → ℕ → List Frame → Read
+-- by the number of a refusal, 0 if there is none; n frames fewer wait, each sample given is sample/32767 in f32
+abbrev pub readBy : ℕ → SonicStream → ℕ → List Frame → ReadResult
 readBy zero s n waiting =
-    record { answer = Gave.Done (record { 0 = n }) (keeping s (fewer n (keptIn s))); given = map (map sampleOut) (take n waiting); output = drop n waiting }
+    record {
+      answer = Gave.Done (record { 0 = n }) (streamOf (unlent s) (s .waiting .0 - n));
+      given = map (map sampleOut) (take n waiting);
+      output = drop n waiting;
+    }
 readBy (suc k) s n waiting = record { answer = Gave.Refused (suc k) s; given = []; output = waiting }
 
-unfoldable pub readCall : SonicStream → ℕ → List Float → List ℤ → Read
+unfoldable pub readCall : SonicStream → ℕ → List Float → List ℤ → ReadResult
 readCall s most slice output = readBy (readRefusal s output) s (readCount s most slice) (framesOf (s .channels) (s .waiting .0) output)
 
 -- ---- what its contract ensures
@@ -57,7 +46,7 @@ countRead (Gave.Refused number s) = 0
 countRead (Gave.Done n s) = n .0
 
 -- the answer r, the slice from `entry` to `exit` and the output area at exit are those of the read c; the rest of the slice is unchanged
-pub record ReadEnsures (channels : ℕ) (c : Read) (r : Gave) (entry exit : List Float) (area : List ℤ) : Type 0 where
+pub record ReadEnsures (channels : ℕ) (c : ReadResult) (r : Gave) (entry exit : List Float) (area : List ℤ) : Type 0 where
   pub answer : r ≡ c .answer
   pub given : framesOf channels (countRead r) exit ≡ c .given
   pub rest : drop (countRead r * channels) exit ≡ drop (countRead r * channels) entry

@@ -1,19 +1,20 @@
 // Refusal 4, and room for frames by dividing an area's length, so that no count overflows.
-use crate::SonicStream;
 use frames::Frames;
+use frames::Samples;
+use stream::SonicStream;
 ghost use mathlib.Core.Path.{_≡_};
+ghost use mathlib.Core.List.{[]};
 ghost use Prim.Native.Nat.{_+_, _*_, _≤_};
 ghost use lib.ListN.{length};
-ghost use Rattle.sonic.specs.Stream.{areas};
-ghost use Rattle.sonic.specs.Refusals.{tooShort, sizesBad, partsBad, areasBad, outputBad};
+ghost use Rattle.frames.specs.Areas.{areas};
+ghost use Rattle.stream.specs.Refusals.{tooShort, sizesBad, partsBad, areasBad, outputBad};
 
 // Whether an area has fewer samples than these frames.
 pub(crate) fn too_short(area: &[i16], count: Frames, channels: u32) -> bool
     requires { ⌜ 1 ≤ channels ⌝ }
     ensures { λ r. ⌜ r ≡ tooShort channels (count .0) (now (area .entry)) ⌝ }
 {
-    let n = count.0;
-    n > area.len() / (channels as usize)
+    count.0 > Samples(area.len()).frames(channels as usize).0
 }
 
 // Whether an area is too long, or the scratch too short.
@@ -44,7 +45,7 @@ fn sizes_bad(
 // Whether an area is shorter than what the stream says it holds.
 fn parts_bad(stream: SonicStream, input: &[i16], stage: &[i16], output: &[i16]) -> bool
     requires { ⌜ 1 ≤ stream .channels ⌝ }
-    ensures { λ r. ⌜ r ≡ partsBad stream (now (input .entry)) (now (stage .entry)) (now (output .entry)) ⌝ }
+    ensures { λ r. ⌜ r ≡ partsBad stream (areas (now (input .entry)) (now (stage .entry)) (now (output .entry)) []) ⌝ }
 {
     let held = stream.held;
     let tail = stream.tail;
@@ -80,10 +81,8 @@ pub(crate) fn input_full(stream: SonicStream, n: Frames, input: &[i16]) -> bool
     requires { ⌜ (1 ≤ stream .channels) × (stream .held .0 * stream .channels ≤ length (now input)) ⌝ }
     ensures { λ r. ⌜ r ≡ tooShort (stream .channels) (stream .held .0 + n .0) (now (input .entry)) ⌝ }
 {
-    let channels = stream.channels as usize;
     let held = stream.held.0;
-    let added = n.0;
-    added > input.len() / channels - held
+    n.0 > Samples(input.len()).frames(stream.channels as usize).0 - held
 }
 
 // Refusal 4 of a read.

@@ -1,96 +1,95 @@
 // The flush: a write of silence, of which only the frames expected are kept; then everything held is cleared.
-use crate::SonicStream;
 use crate::Wrote;
 use crate::areas::areas_bad;
 use crate::areas::input_full;
-use crate::order::in_order;
-use crate::stream_with;
 use crate::write::process_added;
 use frames::Frames;
-use process::Kept;
 use process::Work;
+use stream::Order;
+use stream::SonicStream;
+use stream::refusals;
 ghost use mathlib.Core.Path.{_≡_};
 ghost use Prim.Native.Nat.{_+_, _-_, _*_, _≤_, min};
+ghost use Rattle.frames.specs.Areas.{areas};
+ghost use Rattle.floats.specs.Settings.{samplePeriod};
 ghost use Rattle.period.specs.Rates.{maxRequired};
-ghost use Rattle.sonic.specs.Stream.{areas};
+ghost use Rattle.stream.specs.Stream.{ChangedBy};
+ghost use Rattle.process.specs.Process.{cleared};
 ghost use Rattle.sonic.specs.Calls.{flushCall, CallEnsures, OrderAfter};
-ghost use Rattle.sonic.specs.Working.{Accepted, clearedKept};
+ghost use Rattle.sonic.specs.Adding.{AddReady};
 
-// What is kept after a flush: of the frames behind the first `waiting` ones at most `expected`, and nothing held. Positions and period
-// record stay.
-fn cleared(mut kept: Kept, waiting: Frames, expected: Frames) -> Kept
-    requires { ⌜ waiting .0 ≤ kept .waiting .0 ⌝ }
-    ensures { λ r. ⌜ r ≡ clearedKept (waiting .0 + min (expected .0) (kept .waiting .0 - waiting .0)) kept ⌝ }
+// The stream after a flush: of the frames behind the first `waiting` ones at most `expected` wait, and nothing is held. Positions and
+// period record stay.
+fn cleared(mut stream: SonicStream, waiting: Frames, expected: Frames) -> SonicStream
+    requires { ⌜ (waiting .0 ≤ stream .waiting .0) × (stream .«sample_period» ≡ samplePeriod (stream .rate)) ⌝ }
+    ensures { λ r. ⌜ ChangedBy cleared stream (waiting .0 + min (expected .0) (stream .waiting .0 - waiting .0)) r ⌝ }
 {
     let before = waiting.0;
-    let made = kept.waiting.0 - before;
+    let made = stream.waiting.0 - before;
     let most = expected.0;
-    kept.input_play_time = 0.0;
-    kept.time_error = 0.0;
-    kept.held.0 = 0;
-    kept.tail.0 = 0;
+    stream.input_play_time = 0.0;
+    stream.time_error = 0.0;
+    stream.held.0 = 0;
+    stream.tail.0 = 0;
     if most < made {
         let w = before + most;
-        kept.waiting.0 = w;
+        stream.waiting.0 = w;
     }
-    kept
+    stream
 }
 
-impl SonicStream {
-    // A flush whose n silent frames fit the input.
-    fn flush_frames(
-        self,
-        n: Frames,
-        input: &mut [i16],
-        stage: &mut [i16],
-        output: &mut [i16],
-        scratch: &mut [i16],
-    ) -> Wrote
-        requires { ⌜ Accepted self (areas (now input) (now stage) (now output) (now scratch)) (n .0) × (n .0 ≡ 2 * maxRequired (self .rate)) ⌝ }
-        ensures { λ r. ⌜ CallEnsures (self .channels)
-            (flushCall self (areas (now (input .entry)) (now (stage .entry)) (now (output .entry)) (now (scratch .entry)))) r
-            (areas (now (input .exit)) (now (stage .exit)) (now (output .exit)) (now (scratch .exit))) ⌝ }
-        ensures { λ r. ⌜ OrderAfter r ⌝ }
-    {
-        let channels = self.channels as usize;
-        let held = self.held;
-        let tail = self.tail;
-        let waiting = self.waiting;
-        let expected = floats::times::expected_frames(held, tail, self.speed, self.pitch);
-        frames::silence(n.samples(channels), input, held.samples(channels));
-        match process_added(self, n, input, stage, output, scratch) {
-            Work::StageFull => Wrote::Refused(6, self),
-            Work::OutputFull => Wrote::Refused(7, self),
-            Work::Done(outcome, after) => Wrote::Done(
-                outcome,
-                stream_with(self.setup(), cleared(after, waiting, expected)),
-            ),
-        }
+// A flush whose n silent frames fit the input.
+fn flush_frames(
+    stream: SonicStream,
+    period: f32,
+    n: Frames,
+    input: &mut [i16],
+    stage: &mut [i16],
+    output: &mut [i16],
+    scratch: &mut [i16],
+) -> Wrote
+    requires { ⌜ AddReady stream period (areas (now input) (now stage) (now output) (now scratch)) (n .0) × (n .0 ≡ 2 * maxRequired (stream .rate)) ⌝ }
+    ensures { λ r. ⌜ CallEnsures (stream .channels)
+        (flushCall stream (areas (now (input .entry)) (now (stage .entry)) (now (output .entry)) (now (scratch .entry)))) r
+        (areas (now (input .exit)) (now (stage .exit)) (now (output .exit)) (now (scratch .exit))) ⌝ }
+    ensures { λ r. ⌜ OrderAfter r ⌝ }
+{
+    let channels = stream.channels as usize;
+    let held = stream.held;
+    let tail = stream.tail;
+    let waiting = stream.waiting;
+    let expected = floats::times::expected_frames(held, tail, stream.speed, stream.pitch);
+    frames::silence(n.samples(channels), input, held.samples(channels));
+    match process_added(stream, period, n, input, stage, output, scratch) {
+        Work::StageFull => Wrote::Refused(refusals::STAGE_FULL, stream),
+        Work::OutputFull => Wrote::Refused(refusals::OUTPUT_FULL, stream),
+        Work::Done(outcome, after) => Wrote::Done(outcome, cleared(after, waiting, expected)),
     }
+}
 
-    // Makes frames of what is held, and clears it.
-    pub fn flush(
-        self,
-        input: &mut [i16],
-        stage: &mut [i16],
-        output: &mut [i16],
-        scratch: &mut [i16],
-    ) -> Wrote
-        ensures { λ r. ⌜ CallEnsures (self .channels)
-            (flushCall self (areas (now (input .entry)) (now (stage .entry)) (now (output .entry)) (now (scratch .entry)))) r
-            (areas (now (input .exit)) (now (stage .exit)) (now (output .exit)) (now (scratch .exit))) ⌝ }
-        ensures { λ r. ⌜ OrderAfter r ⌝ }
-    {
-        if !in_order(self) {
-            return Wrote::Refused(3, self);
-        }
-        if areas_bad(self, input, stage, output, scratch) {
-            return Wrote::Refused(4, self);
-        }
-        let n = 2 * period::max_required(self.rate as usize).0;
-        if input_full(self, Frames(n), input) {
-            return Wrote::Refused(5, self);
-        }
-        self.flush_frames(Frames(n), input, stage, output, scratch)
+// Makes frames of what is held, and clears it.
+pub fn flush(
+    stream: SonicStream,
+    input: &mut [i16],
+    stage: &mut [i16],
+    output: &mut [i16],
+    scratch: &mut [i16],
+) -> Wrote
+    ensures { λ r. ⌜ CallEnsures (stream .channels)
+        (flushCall stream (areas (now (input .entry)) (now (stage .entry)) (now (output .entry)) (now (scratch .entry)))) r
+        (areas (now (input .exit)) (now (stage .exit)) (now (output .exit)) (now (scratch .exit))) ⌝ }
+    ensures { λ r. ⌜ OrderAfter r ⌝ }
+{
+    let order = stream.ordered();
+    let Order::Good(period) = order else {
+        return Wrote::Refused(refusals::BAD_STREAM, stream);
+    };
+    if areas_bad(stream, input, stage, output, scratch) {
+        return Wrote::Refused(refusals::BAD_AREAS, stream);
     }
+    let n = 2 * period::max_required(stream.rate as usize).0;
+    if input_full(stream, Frames(n), input) {
+        return Wrote::Refused(refusals::INPUT_FULL, stream);
+    }
+    flush_frames(stream, period, Frames(n), input, stage, output, scratch)
 }

@@ -1,14 +1,16 @@
 // The read: frames waiting, as f32 values.
 use crate::Gave;
-use crate::SonicStream;
 use crate::areas::output_bad;
-use crate::order::in_order;
 use frames::Frames;
 use frames::Samples;
+use stream::Order;
+use stream::SonicStream;
+use stream::refusals;
 ghost use mathlib.Core.Path.{_≡_};
 ghost use mathlib.Core.Bool.{true, false};
 ghost use Prim.Native.Nat.{min};
-ghost use Rattle.sonic.specs.Refusals.{inOrder, outputBad};
+ghost use Rattle.floats.specs.Settings.{samplePeriod};
+ghost use Rattle.stream.specs.Refusals.{inOrder, outputBad};
 ghost use Rattle.sonic.specs.Reading.{readCount, readCall, ReadEnsures};
 
 // The smaller of two counts.
@@ -18,35 +20,43 @@ fn fewest(a: Frames, b: Frames) -> Frames
     if a.0 <= b.0 { a } else { b }
 }
 
-impl SonicStream {
-    // Gives the first n frames waiting.
-    fn give(mut self, most: Frames, n: Frames, slice: &mut [f32], output: &mut [i16]) -> Gave
-        requires { ⌜ (inOrder self ≡ true) × (outputBad self (now output) ≡ false) × (n .0 ≡ readCount self (most .0) (now slice)) ⌝ }
-        ensures { λ r. ⌜ ReadEnsures (self .channels) (readCall self (most .0) (now (slice .entry)) (now (output .entry))) r
-            (now (slice .entry)) (now (slice .exit)) (now (output .exit)) ⌝ }
-    {
-        let channels = self.channels as usize;
-        let left = Frames(self.waiting.0 - n.0);
-        floats::samples::samples_out(output, n.samples(channels), slice);
-        frames::remove_front(output, n.samples(channels), left.samples(channels));
-        self.waiting = left;
-        Gave::Done(n, self)
-    }
+// Gives the first n frames waiting. The period is that of the rate.
+fn give(
+    mut stream: SonicStream,
+    period: f32,
+    most: Frames,
+    n: Frames,
+    slice: &mut [f32],
+    output: &mut [i16],
+) -> Gave
+    requires { ⌜ (inOrder stream ≡ true) × (period ≡ samplePeriod (stream .rate)) ⌝ }
+    requires { ⌜ (outputBad stream (now output) ≡ false) × (n .0 ≡ readCount stream (most .0) (now slice)) ⌝ }
+    ensures { λ r. ⌜ ReadEnsures (stream .channels) (readCall stream (most .0) (now (slice .entry)) (now (output .entry))) r
+        (now (slice .entry)) (now (slice .exit)) (now (output .exit)) ⌝ }
+{
+    let channels = stream.channels as usize;
+    let left = Frames(stream.waiting.0 - n.0);
+    floats::samples::samples_out(output, n.samples(channels), slice);
+    frames::remove_front(output, n.samples(channels), left.samples(channels));
+    stream.sample_period = period;
+    stream.waiting = left;
+    Gave::Done(n, stream)
+}
 
-    // Gives frames waiting, at most `most`, at the front of the slice.
-    pub fn read_f32(self, most: Frames, slice: &mut [f32], output: &mut [i16]) -> Gave
-        ensures { λ r. ⌜ ReadEnsures (self .channels) (readCall self (most .0) (now (slice .entry)) (now (output .entry))) r
-            (now (slice .entry)) (now (slice .exit)) (now (output .exit)) ⌝ }
-    {
-        if !in_order(self) {
-            return Gave::Refused(3, self);
-        }
-        if output_bad(self, output) {
-            return Gave::Refused(4, self);
-        }
-        let waiting = self.waiting;
-        let whole = Samples(slice.len()).frames(self.channels as usize);
-        let n = fewest(fewest(waiting, most), whole);
-        self.give(most, n, slice, output)
+// Gives frames waiting, at most `most`, at the front of the slice.
+pub fn read_f32(stream: SonicStream, most: Frames, slice: &mut [f32], output: &mut [i16]) -> Gave
+    ensures { λ r. ⌜ ReadEnsures (stream .channels) (readCall stream (most .0) (now (slice .entry)) (now (output .entry))) r
+        (now (slice .entry)) (now (slice .exit)) (now (output .exit)) ⌝ }
+{
+    let order = stream.ordered();
+    let Order::Good(period) = order else {
+        return Gave::Refused(refusals::BAD_STREAM, stream);
+    };
+    if output_bad(stream, output) {
+        return Gave::Refused(refusals::BAD_AREAS, stream);
     }
+    let waiting = stream.waiting;
+    let whole = Samples(slice.len()).frames(stream.channels as usize);
+    let n = fewest(fewest(waiting, most), whole);
+    give(stream, period, most, n, slice, output)
 }

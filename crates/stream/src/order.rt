@@ -1,21 +1,28 @@
 // Refusal 3: whether a stream value is in order. Play time, time error and counts are free.
 use crate::SonicStream;
 ghost use mathlib.Core.Path.{_≡_};
-ghost use Prim.Native.Nat.{_≤_};
+ghost use Rattle.period.specs.Rates.{InLimits};
 ghost use Rattle.rate.specs.Halving.{ratesOf};
-ghost use Rattle.sonic.specs.Refusals.{inOrder, openedInOrder, settingsInOrder, prevInOrder, positionsInOrder};
+ghost use Rattle.stream.specs.Refusals.{limitsInOrder, settingsInOrder, prevInOrder, positionsInOrder};
+ghost use Rattle.stream.specs.Order.{orderOf};
 
-// Whether rate and channels are in range, and the sample period is that of the rate.
-fn opened_in_order(stream: SonicStream) -> bool
-    ensures { λ r. ⌜ r ≡ openedInOrder stream ⌝ }
+// Not in order; or in order, with the sample period that the rate gives.
+pub enum Order {
+    Bad,
+    Good(f32),
+}
+
+// Whether rate and channels are in range.
+fn limits_in_order(stream: SonicStream) -> bool
+    ensures { λ r. ⌜ r ≡ limitsInOrder stream ⌝ }
 {
     if stream.rate < SonicStream::MIN_RATE || stream.rate > SonicStream::MAX_RATE {
         return false;
     }
-    if stream.channels < SonicStream::MIN_CHANNELS || stream.channels > SonicStream::MAX_CHANNELS {
+    if stream.channels < SonicStream::MIN_CHANNELS {
         return false;
     }
-    stream.sample_period == floats::settings::sample_period(stream.rate)
+    stream.channels <= SonicStream::MAX_CHANNELS
 }
 
 // Whether speed, pitch and volume are in their ranges. A NaN is not.
@@ -50,7 +57,7 @@ fn prev_in_order(stream: SonicStream) -> bool
 
 // Whether p is below O and n the least whole number with n·O at least p·N.
 fn positions_in_order(stream: SonicStream) -> bool
-    requires { ⌜ stream .rate ≤ 500000 ⌝ }
+    requires { ⌜ InLimits (stream .rate) (stream .channels) ⌝ }
     ensures { λ r. ⌜ r ≡ positionsInOrder (ratesOf (stream .rate) (stream .pitch)) stream ⌝ }
 {
     let rates = rate::rates_of(stream.rate, stream.pitch);
@@ -63,18 +70,27 @@ fn positions_in_order(stream: SonicStream) -> bool
     stream.new_rate_position == (position * new + (old - 1)) / old
 }
 
-// Whether the stream is in order.
-pub(crate) fn in_order(stream: SonicStream) -> bool
-    ensures { λ r. ⌜ r ≡ inOrder stream ⌝ }
-{
-    if !opened_in_order(stream) {
-        return false;
+impl SonicStream {
+    // Whether the stream is in order. A call computes T here and nowhere else.
+    pub fn ordered(self) -> Order
+        ensures { λ r. ⌜ r ≡ orderOf self ⌝ }
+    {
+        if !limits_in_order(self) {
+            return Order::Bad;
+        }
+        let period = floats::settings::sample_period(self.rate);
+        if self.sample_period == period {} else {
+            return Order::Bad;
+        }
+        if !settings_in_order(self) {
+            return Order::Bad;
+        }
+        if !prev_in_order(self) {
+            return Order::Bad;
+        }
+        if !positions_in_order(self) {
+            return Order::Bad;
+        }
+        Order::Good(period)
     }
-    if !settings_in_order(stream) {
-        return false;
-    }
-    if !prev_in_order(stream) {
-        return false;
-    }
-    positions_in_order(stream)
 }

@@ -6,14 +6,42 @@ use lib.Dec.{leb, ltb, eqb}
 use lib.IntN.{ℤ}
 use lib.Ieee.{Float, le, eq}
 use lib.ListN.{length}
-use Rattle.floats.specs.Settings.{samplePeriod, minPitch, maxPitch, minVolume, maxVolume}
+use Rattle.frames.specs.Areas.{Areas}
+use Rattle.floats.specs.Settings.{samplePeriod, minSpeed, maxSpeed, minPitch, maxPitch, minVolume, maxVolume}
 use Rattle.period.specs.Rates.{minPeriod, maxPeriod, maxRequired}
 use Rattle.period.specs.Search.{widestGap}
 use Rattle.rate.specs.declared.Rates.{Rates}
 use Rattle.rate.specs.Halving.{ratesOf}
 use Rattle.rate.specs.Tail.{ceilDiv}
-use Rattle.sonic.specs.declared.SonicStream.{SonicStream}
-use Rattle.sonic.specs.Stream.{Areas}
+use Rattle.stream.specs.declared.SonicStream.{SonicStream}
+
+-- ---- the numbers; 0: accepted
+
+abbrev pub accepted : ℕ
+accepted = 0
+
+abbrev pub badRate : ℕ
+badRate = 1
+
+abbrev pub badChannels : ℕ
+badChannels = 2
+
+abbrev pub badStream : ℕ
+badStream = 3
+
+abbrev pub badAreas : ℕ
+badAreas = 4
+
+abbrev pub inputFull : ℕ
+inputFull = 5
+
+abbrev pub stageFull : ℕ
+stageFull = 6
+
+abbrev pub outputFull : ℕ
+outputFull = 7
+
+-- ---- 1 and 2, of an opening
 
 -- 1: rate outside 1,000..=500,000
 unfoldable pub rateBad : ℕ → Bool
@@ -28,13 +56,17 @@ channelsBad channels = ltb channels 1 || ltb 32 channels
 abbrev pub within : Float → Float → Float → Bool
 within low high x = le low x && le x high
 
--- rate and channels in range, T that of the rate
-unfoldable pub openedInOrder : SonicStream → Bool
-openedInOrder s = not (rateBad (s .rate)) && (not (channelsBad (s .channels)) && eq (s .«sample_period») (samplePeriod (s .rate)))
+-- rate and channels in range
+unfoldable pub limitsInOrder : SonicStream → Bool
+limitsInOrder s = not (rateBad (s .rate)) && not (channelsBad (s .channels))
+
+-- T is that of the rate
+unfoldable pub periodInOrder : SonicStream → Bool
+periodInOrder s = eq (s .«sample_period») (samplePeriod (s .rate))
 
 unfoldable pub settingsInOrder : SonicStream → Bool
 settingsInOrder s =
-    within minPitch maxPitch (s .speed) && (within minPitch maxPitch (s .pitch) && within minVolume maxVolume (s .volume))
+    within minSpeed maxSpeed (s .speed) && (within minPitch maxPitch (s .pitch) && within minVolume maxVolume (s .volume))
 
 -- previous period 0 or in range, previous least mean in 0..=65,535
 unfoldable pub prevInOrder : SonicStream → Bool
@@ -49,7 +81,9 @@ positionsInOrder r s =
 
 -- play time, time error and counts are free
 unfoldable pub inOrder : SonicStream → Bool
-inOrder s = openedInOrder s && (settingsInOrder s && (prevInOrder s && positionsInOrder (ratesOf (s .rate) (s .pitch)) s))
+inOrder s =
+    limitsInOrder s
+    && (periodInOrder s && (settingsInOrder s && (prevInOrder s && positionsInOrder (ratesOf (s .rate) (s .pitch)) s)))
 
 -- ---- 4 to 7, by the lengths of the areas
 
@@ -67,16 +101,19 @@ tooShort channels k area = ltb (length area) (k * channels)
 -- an area too long, or scratch shorter than `max_required`
 unfoldable pub sizesBad : SonicStream → Areas → Bool
 sizesBad s a =
-    tooLong (a .input) || (tooLong (a .stage) || (tooLong (a .output) || (tooLong (a .scratch) || ltb (length (a .scratch)) (maxRequired (s .rate)))))
+    tooLong (a .input)
+    || (tooLong (a .stage)
+    || (tooLong (a .output) || (tooLong (a .scratch) || ltb (length (a .scratch)) (maxRequired (s .rate)))))
 
 -- an area shorter than what the stream says it holds
-unfoldable pub partsBad : SonicStream → List ℤ → List ℤ → List ℤ → Bool
-partsBad s input stage output =
-    tooShort (s .channels) (s .held .0) input || (tooShort (s .channels) (s .tail .0) stage || tooShort (s .channels) (s .waiting .0) output)
+unfoldable pub partsBad : SonicStream → Areas → Bool
+partsBad s a =
+    tooShort (s .channels) (s .held .0) (a .input)
+    || (tooShort (s .channels) (s .tail .0) (a .stage) || tooShort (s .channels) (s .waiting .0) (a .output))
 
 -- 4: one of the two
 unfoldable pub areasBad : SonicStream → Areas → Bool
-areasBad s a = sizesBad s a || partsBad s (a .input) (a .stage) (a .output)
+areasBad s a = sizesBad s a || partsBad s a
 
 -- 4 of a read, which is lent the output alone
 unfoldable pub outputBad : SonicStream → List ℤ → Bool
@@ -85,12 +122,12 @@ outputBad s output = tooLong output || tooShort (s .channels) (s .waiting .0) ou
 -- the number of a write or a flush that adds, stages and makes so many frames; 0: accepted
 unfoldable pub refusal : SonicStream → Areas → ℕ → ℕ → ℕ → ℕ
 refusal s a added staged made =
-    cond (not (inOrder s)) 3
-    (cond (areasBad s a) 4
-    (cond (tooShort (s .channels) (s .held .0 + added) (a .input)) 5
-    (cond (tooShort (s .channels) (s .tail .0 + staged) (a .stage)) 6
-    (cond (tooShort (s .channels) (s .waiting .0 + made) (a .output)) 7 0))))
+    cond (not (inOrder s)) badStream
+    (cond (areasBad s a) badAreas
+    (cond (tooShort (s .channels) (s .held .0 + added) (a .input)) inputFull
+    (cond (tooShort (s .channels) (s .tail .0 + staged) (a .stage)) stageFull
+    (cond (tooShort (s .channels) (s .waiting .0 + made) (a .output)) outputFull accepted))))
 
 -- that of a read
 unfoldable pub readRefusal : SonicStream → List ℤ → ℕ
-readRefusal s output = cond (not (inOrder s)) 3 (cond (outputBad s output) 4 0)
+readRefusal s output = cond (not (inOrder s)) badStream (cond (outputBad s output) badAreas accepted)

@@ -1,0 +1,53 @@
+-- What `process_stream_input` requires and ensures of a stream s; its areas go from a to b. Definitions only. Assumes nothing.
+use mathlib.Core.Path.{_≡_}
+use mathlib.Core.List.{List, _++_}
+use Prim.Native.Nat.{ℕ, _+_, _*_, _^_, _≤_, _<_}
+use lib.ListN.{length}
+use Rattle.frames.specs.Areas.{Areas}
+use Rattle.frames.specs.Framing.{framesOf}
+use Rattle.stream.specs.declared.SonicStream.{SonicStream}
+use Rattle.stream.specs.Stream.{stateOf, streamOf}
+use Rattle.stream.specs.Order.{StreamReady}
+use Rattle.process.specs.declared.Outcome.{Outcome}
+use Rattle.process.specs.declared.Work.{Work}
+use Rattle.process.specs.Process.{Made, process}
+use Rattle.process.specs.Filling.{FillReady}
+
+-- ---- required
+
+-- what the stream holds lies in its areas
+pub record AreasReady (s : SonicStream) (a : Areas) : Type 0 where
+  pub fill : FillReady s (a .input) (a .stage) (a .scratch)
+  pub waiting : s .waiting .0 * s .channels ≤ length (a .output)
+  pub output-short : length (a .output) ≤ 2 ^ 24
+
+-- ---- ensured
+
+-- the kept parts as they came
+pub record Unchanged (s : SonicStream) (a b : Areas) : Type 0 where
+  pub held : framesOf (s .channels) (s .held .0) (b .input) ≡ framesOf (s .channels) (s .held .0) (a .input)
+  pub tail : framesOf (s .channels) (s .tail .0) (b .stage) ≡ framesOf (s .channels) (s .tail .0) (a .stage)
+  pub waiting : framesOf (s .channels) (s .waiting .0) (b .output) ≡ framesOf (s .channels) (s .waiting .0) (a .output)
+
+-- done as m says, within the stage and the output; the stream is in order again
+pub record WorkedAs (s : SonicStream) (m : Made) (a b : Areas) (o : Outcome) (t : SonicStream) : Type 0 where
+  pub outcome : o ≡ m .outcome
+  pub stream : t ≡ streamOf (m .state) (s .waiting .0 + length (m .frames))
+  pub ready : StreamReady t
+  pub stage-fits : (s .tail .0 + m .staged) * s .channels ≤ length (a .stage)
+  pub output-fits : (s .waiting .0 + length (m .frames)) * s .channels ≤ length (a .output)
+  pub held : framesOf (s .channels) (length (m .state .input)) (b .input) ≡ m .state .input
+  pub tail : framesOf (s .channels) (length (m .state .tail)) (b .stage) ≡ m .state .tail
+  pub waiting : framesOf (s .channels) (s .waiting .0 + length (m .frames)) (b .output)
+      ≡ framesOf (s .channels) (s .waiting .0) (a .output) ++ m .frames
+
+-- or without room, in the stage first
+abbrev pub WorkedBy : SonicStream → Made → Areas → Areas → Work → Type 0
+WorkedBy s m a b Work.StageFull = Unchanged s a b × (length (a .stage) < (s .tail .0 + m .staged) * s .channels)
+WorkedBy s m a b Work.OutputFull =
+    Unchanged s a b × ((s .tail .0 + m .staged) * s .channels ≤ length (a .stage))
+    × (length (a .output) < (s .waiting .0 + length (m .frames)) * s .channels)
+WorkedBy s m a b (Work.Done o t) = WorkedAs s m a b o t
+
+abbrev pub WorkEnsures : SonicStream → Areas → Areas → Work → Type 0
+WorkEnsures s a b r = WorkedBy s (process (stateOf s (a .input) (a .stage))) a b r

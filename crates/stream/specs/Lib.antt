@@ -1,0 +1,5 @@
+pub mod State
+pub mod Stream
+pub mod Refusals
+pub mod Settings
+pub mod Order

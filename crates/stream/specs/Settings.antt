@@ -1,0 +1,52 @@
+-- Document 01, "Opening and settings": the fresh values, what a setting changes, and what an opening, a setting and `available_frames`
+-- answer. Definitions only. Assumes nothing.
+use mathlib.Core.Bool.{cond}
+use mathlib.Core.List.{[]}
+use Prim.Native.Nat.{ℕ}
+use Rattle.floats.specs.Numbers.{zero, one}
+use Rattle.floats.specs.Settings.{clamped, minSpeed, maxSpeed, minPitch, maxPitch, minVolume, maxVolume}
+use Rattle.rate.specs.Tail.{start}
+use Rattle.stream.specs.declared.SonicStream.{SonicStream}
+use Rattle.stream.specs.declared.Setting.{Setting}
+use Rattle.stream.specs.declared.Setting.the-variants.{Speed, Pitch, Volume}
+use Rattle.stream.specs.declared.Opened.{Opened}
+use Rattle.stream.specs.declared.Changed.{Changed}
+use Rattle.stream.specs.declared.Available.{Available}
+use Rattle.stream.specs.State.{State, withSettings}
+use Rattle.stream.specs.Stream.{streamOf, unlent, zeroStream}
+use Rattle.stream.specs.Refusals.{badRate, badChannels, badStream, rateBad, channelsBad, inOrder}
+
+-- settings 1.0, all but rate, channels and what follows from the rate empty or 0
+unfoldable pub fresh : ℕ → ℕ → State
+fresh rate channels =
+    record {
+      rate = rate;
+      channels = channels;
+      speed = one;
+      pitch = one;
+      volume = one;
+      input = [];
+      tail = [];
+      at = start;
+      prev = record { period = 0; «min_diff» = 0 };
+      «input_play_time» = zero;
+      «time_error» = zero;
+    }
+
+-- 1 and 2 carry the number given and the stream with every field 0
+unfoldable pub openCall : ℕ → ℕ → Opened
+openCall rate channels =
+    cond (rateBad rate) (Opened.Refused badRate rate zeroStream)
+    (cond (channelsBad channels) (Opened.Refused badChannels channels zeroStream) (Opened.Done (streamOf (fresh rate channels) 0)))
+
+-- each setting is held to its range, NaN to the lower end; setting a pitch, even the same, puts p and n to 0
+unfoldable pub withSetting : Setting → State → State
+withSetting (Speed x) s = withSettings s (clamped x minSpeed maxSpeed) (s .pitch) (s .volume) (s .at)
+withSetting (Pitch x) s = withSettings s (s .speed) (clamped x minPitch maxPitch) (s .volume) start
+withSetting (Volume x) s = withSettings s (s .speed) (s .pitch) (clamped x minVolume maxVolume) (s .at)
+
+unfoldable pub setCall : SonicStream → Setting → Changed
+setCall s v = cond (inOrder s) (Changed.Done (streamOf (withSetting v (unlent s)) (s .waiting .0))) (Changed.Refused badStream s)
+
+unfoldable pub availableCall : SonicStream → Available
+availableCall s = cond (inOrder s) (Available.Waiting (s .waiting)) (Available.Refused badStream s)

@@ -1,0 +1,72 @@
+-- What a stream and its areas hold, the frames waiting apart (document 01, "Ledger of demand 3"). Definitions only. Assumes nothing.
+use mathlib.Core.List.{List}
+use Prim.Native.Nat.{ℕ}
+use lib.Ieee.{Float}
+use Rattle.frames.specs.Framing.{Frame}
+use Rattle.period.specs.declared.PeriodRecord.{PeriodRecord}
+use Rattle.rate.specs.declared.Position.{Position}
+
+-- rate and channels, the settings, input, tail, positions p and n, period record, play time, time error
+pub record State : Type 0 where
+  pub rate : ℕ
+  pub channels : ℕ
+  pub speed : Float
+  pub pitch : Float
+  pub volume : Float
+  pub input : List Frame
+  pub tail : List Frame
+  pub at : Position
+  pub prev : PeriodRecord
+  pub «input_play_time» : Float
+  pub «time_error» : Float
+
+-- the state with other settings and positions
+abbrev pub withSettings : State → Float → Float → Float → Position → State
+withSettings s speed pitch volume at =
+    record {
+      rate = s .rate;
+      channels = s .channels;
+      speed = speed;
+      pitch = pitch;
+      volume = volume;
+      input = s .input;
+      tail = s .tail;
+      at = at;
+      prev = s .prev;
+      «input_play_time» = s .«input_play_time»;
+      «time_error» = s .«time_error»;
+    }
+
+-- the state with another input, period record, play time and time error
+abbrev pub withInput : State → List Frame → PeriodRecord → Float → Float → State
+withInput s input prev play error =
+    record {
+      rate = s .rate;
+      channels = s .channels;
+      speed = s .speed;
+      pitch = s .pitch;
+      volume = s .volume;
+      input = input;
+      tail = s .tail;
+      at = s .at;
+      prev = prev;
+      «input_play_time» = play;
+      «time_error» = error;
+    }
+
+-- the state with another tail and other positions
+abbrev pub withTail : State → List Frame → Position → State
+withTail s tail at =
+    record {
+      rate = s .rate;
+      channels = s .channels;
+      speed = s .speed;
+      pitch = s .pitch;
+      volume = s .volume;
+      input = s .input;
+      tail = tail;
+      at = at;
+      prev = s .prev;
+      «input_play_time» = s .«input_play_time»;
+      «time_error» = s .«time_error»;
+    }

@@ -1,0 +1,19 @@
+// The numbers of the refusals, in the order in which they are tested. `specs/Refusals.antt` says when each is met.
+
+// Opening: the rate, or the channels, out of range.
+pub const BAD_RATE: u32 = 1;
+
+pub const BAD_CHANNELS: u32 = 2;
+
+// The stream value is not in order.
+pub const BAD_STREAM: u32 = 3;
+
+// An area is too long, or shorter than what it holds, or the scratch is too short.
+pub const BAD_AREAS: u32 = 4;
+
+// The frames do not fit the input, the stage or the output.
+pub const INPUT_FULL: u32 = 5;
+
+pub const STAGE_FULL: u32 = 6;
+
+pub const OUTPUT_FULL: u32 = 7;
