@@ -46,5 +46,5 @@ returns-3 c =
     (λ w. simp (eq-eqb _ _ (w .left)))
     (c .before .if1 .came)
 
-pub record-in-order-spec : {M : Type 1} → statement M
-record-in-order-spec = tie.close (tie.spec cast-rate min-period-requires returns max-period-requires returns-2 returns-3)
+pub prev-in-order-spec : {M : Type 1} → statement M
+prev-in-order-spec = tie.close (tie.spec cast-rate min-period-requires returns max-period-requires returns-2 returns-3)
