@@ -10,14 +10,14 @@ use Rattle.floats.specs.Numbers.{one}
 use Rattle.floats.specs.Settings.{clamped, minPitch, maxPitch}
 use Rattle.rate.specs.Halving.{ratesOf}
 use Rattle.rate.specs.Tail.{ceilDiv}
+use Rattle.stream.specs.declared.SonicStream.{SonicStream}
+use Rattle.stream.specs.declared.Setting.{Setting}
+use Rattle.stream.specs.declared.Setting.the-variants.{Speed, Pitch, Volume}
+use Rattle.stream.specs.declared.Opened.{Opened}
+use Rattle.stream.specs.Settings.{openCall}
 use Rattle.process.specs.declared.Outcome.{Outcome}
 use Rattle.process.specs.declared.Outcome.the-variants.{Empty, Copied, Waiting, Stretched, Stalled}
 use Rattle.process.specs.Process.{wholeFrames}
-use Rattle.sonic.specs.declared.SonicStream.{SonicStream}
-use Rattle.sonic.specs.declared.Setting.{Setting}
-use Rattle.sonic.specs.declared.Setting.the-variants.{Speed, Pitch, Volume}
-use Rattle.sonic.specs.declared.Opened.{Opened}
-use Rattle.sonic.specs.Calls.{openCall}
 use Rattle.runs.specs.Ledger.{Call, setting, write, flush, read, Fed, Ledger, ledger}
 use Rattle.runs.specs.Run.{Event, Moment, opening, Run, end, values, total, fed}
 

@@ -5,12 +5,11 @@ use Prim.Native.Nat.{ℕ}
 use lib.Ieee.{Float}
 use lib.ListN.{take}
 use Rattle.frames.specs.Framing.{Frame}
-use Rattle.process.specs.declared.Setup.{Setup}
+use Rattle.stream.specs.declared.Setting.{Setting}
+use Rattle.stream.specs.State.{State}
+use Rattle.stream.specs.Settings.{fresh, withSetting}
 use Rattle.process.specs.declared.Outcome.{Outcome}
-use Rattle.process.specs.State.{State, setupFor}
 use Rattle.process.specs.Process.{Made, writeWork, flushWork, expected, cleared}
-use Rattle.sonic.specs.declared.Setting.{Setting}
-use Rattle.sonic.specs.Settings.{fresh, withSetting}
 
 -- a call with its arguments: a setting, the samples of a write, a flush, the maximum that a read names
 pub data Call : Type 0 where
@@ -24,41 +23,41 @@ pub record Fed : Type 0 where
   pub call : Call
   pub accepted : Bool
 
--- the state (settings, input, tail, p, n, period record, play time, time error), the frames made and the outcomes
+-- the state (rate, channels, settings, input, tail, p, n, period record, play time, time error), the frames made and the outcomes
 pub record Ledger : Type 0 where
   pub state : State
   pub made : List Frame
   pub outcomes : List Outcome
 
 -- it begins with the fresh values and all else empty
-unfoldable pub begun : Ledger
-begun = record { state = fresh; made = []; outcomes = [] }
+unfoldable pub begun : ℕ → ℕ → Ledger
+begun rate channels = record { state = fresh rate channels; made = []; outcomes = [] }
 
 -- an accepted call: a write's frames go behind the frames made, its outcome behind the outcomes; of a flush only the first e, found first,
 -- or all if fewer, and then it clears; a read changes nothing
-unfoldable pub entry : Setup → Ledger → Call → Ledger
-entry u l (setting v) = record { state = withSetting v (l .state); made = l .made; outcomes = l .outcomes }
-entry u l (write samples) =
-    let m : Made = writeWork u samples (l .state) in
+unfoldable pub entry : Ledger → Call → Ledger
+entry l (setting v) = record { state = withSetting v (l .state); made = l .made; outcomes = l .outcomes }
+entry l (write samples) =
+    let m : Made = writeWork samples (l .state) in
     record { state = m .state; made = l .made ++ m .frames; outcomes = l .outcomes ++ (m .outcome ∷ []) }
-entry u l flush =
-    let m : Made = flushWork u (l .state) in
+entry l flush =
+    let m : Made = flushWork (l .state) in
     record {
       state = cleared (m .state);
       made = l .made ++ take (expected (l .state)) (m .frames);
       outcomes = l .outcomes ++ (m .outcome ∷ []);
     }
-entry u l (read most) = l
+entry l (read most) = l
 
 -- a refused call changes nothing
-unfoldable pub posted : Setup → Ledger → Fed → Ledger
-posted u l f = cond (f .accepted) (entry u l (f .call)) l
+unfoldable pub posted : Ledger → Fed → Ledger
+posted l f = cond (f .accepted) (entry l (f .call)) l
 
 -- call after call
-unfoldable pub ledgerFrom : Setup → Ledger → List Fed → Ledger
-ledgerFrom u l [] = l
-ledgerFrom u l (f ∷ fs) = ledgerFrom u (posted u l f) fs
+unfoldable pub ledgerFrom : Ledger → List Fed → Ledger
+ledgerFrom l [] = l
+ledgerFrom l (f ∷ fs) = ledgerFrom (posted l f) fs
 
 -- the ledger of a rate, channels and calls
 unfoldable pub ledger : ℕ → ℕ → List Fed → Ledger
-ledger rate channels fs = ledgerFrom (setupFor rate channels) begun fs
+ledger rate channels fs = ledgerFrom (begun rate channels) fs

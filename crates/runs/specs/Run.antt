@@ -8,16 +8,17 @@ use Prim.Native.Nat.{ℕ, _*_}
 use lib.IntN.{ℤ}
 use lib.Ieee.{Float}
 use lib.ListN.{length, take, drop}
+use Rattle.frames.specs.Areas.{Areas}
 use Rattle.frames.specs.Framing.{Frame, framesOf}
 use Rattle.floats.specs.Write.{sampleOut}
+use Rattle.stream.specs.declared.SonicStream.{SonicStream}
+use Rattle.stream.specs.declared.Setting.{Setting}
+use Rattle.stream.specs.declared.Changed.{Changed}
+use Rattle.stream.specs.Settings.{setCall}
 use Rattle.process.specs.declared.Outcome.{Outcome}
-use Rattle.sonic.specs.declared.SonicStream.{SonicStream}
-use Rattle.sonic.specs.declared.Setting.{Setting}
-use Rattle.sonic.specs.declared.Changed.{Changed}
 use Rattle.sonic.specs.declared.Wrote.{Wrote}
 use Rattle.sonic.specs.declared.Gave.{Gave}
-use Rattle.sonic.specs.Stream.{Areas}
-use Rattle.sonic.specs.Calls.{setCall, writeCall, flushCall, CallEnsures, streamAfter}
+use Rattle.sonic.specs.Calls.{writeCall, flushCall, CallEnsures, streamAfter}
 use Rattle.sonic.specs.Reading.{readCall, ReadEnsures, streamAfterRead, countRead}
 use Rattle.runs.specs.Ledger.{setting, write, flush, read, Fed}
 
