@@ -1,69 +1,28 @@
--- The structs of C for streams and answers, and what the calls ensure of them. Definitions only. Assumes nothing.
+-- The structs of C for answers, and what the calls ensure of them. Definitions only. Assumes nothing.
 use mathlib.Core.Path.{_≡_}
 use mathlib.Core.List.{List}
 use Prim.Native.Nat.{ℕ, _*_}
 use lib.IntN.{ℤ}
 use lib.Ieee.{Float}
 use lib.ListN.{drop}
+use Rattle.frames.specs.Areas.{Areas}
 use Rattle.frames.specs.Framing.{framesOf}
+use Rattle.stream.specs.declared.SonicStream.{SonicStream}
+use Rattle.stream.specs.declared.Opened as open-answer
+use Rattle.stream.specs.declared.Changed as set-answer
+use Rattle.stream.specs.declared.Available as available-answer
+use Rattle.stream.specs.Refusals.{accepted}
 use Rattle.process.specs.declared.Outcome.{Outcome}
 use Rattle.process.specs.declared.Outcome.the-variants.{Empty, Copied, Waiting, Stretched, Stalled}
-use Rattle.sonic.specs.declared.SonicStream.{SonicStream}
-use Rattle.sonic.specs.declared.Opened.{Opened}
-use Rattle.sonic.specs.declared.Changed.{Changed}
-use Rattle.sonic.specs.declared.Available.{Available}
-use Rattle.sonic.specs.declared.Wrote.{Wrote}
-use Rattle.sonic.specs.declared.Gave.{Gave}
-use Rattle.sonic.specs.Stream.{Areas}
-use Rattle.sonic.specs.Calls.{Call}
-use Rattle.sonic.specs.Reading.{Read}
-use Rattle.sonic_c.specs.declared.Stream.{Stream}
-use Rattle.sonic_c.specs.declared.Opening.{Opening}
-use Rattle.sonic_c.specs.declared.Change.{Change}
-use Rattle.sonic_c.specs.declared.Count.{Count}
-use Rattle.sonic_c.specs.declared.Writing.{Writing}
-
--- ---- streams, field by field
-
-unfoldable pub streamIn : Stream → SonicStream
-streamIn s =
-    record {
-      rate = s .rate;
-      channels = s .channels;
-      speed = s .speed;
-      pitch = s .pitch;
-      volume = s .volume;
-      «sample_period» = s .«sample_period»;
-      «input_play_time» = s .«input_play_time»;
-      «time_error» = s .«time_error»;
-      «old_rate_position» = s .«old_rate_position»;
-      «new_rate_position» = s .«new_rate_position»;
-      «prev_period» = s .«prev_period»;
-      «prev_min_diff» = s .«prev_min_diff»;
-      held = record { 0 = s .held };
-      tail = record { 0 = s .tail };
-      waiting = record { 0 = s .waiting };
-    }
-
-unfoldable pub streamOut : SonicStream → Stream
-streamOut s =
-    record {
-      rate = s .rate;
-      channels = s .channels;
-      speed = s .speed;
-      pitch = s .pitch;
-      volume = s .volume;
-      «sample_period» = s .«sample_period»;
-      «input_play_time» = s .«input_play_time»;
-      «time_error» = s .«time_error»;
-      «old_rate_position» = s .«old_rate_position»;
-      «new_rate_position» = s .«new_rate_position»;
-      «prev_period» = s .«prev_period»;
-      «prev_min_diff» = s .«prev_min_diff»;
-      held = s .held .0;
-      tail = s .tail .0;
-      waiting = s .waiting .0;
-    }
+use Rattle.sonic.specs.declared.Wrote as write-answer
+use Rattle.sonic.specs.declared.Gave as read-answer
+use Rattle.sonic.specs.Calls.{CallResult}
+use Rattle.sonic.specs.Reading.{ReadResult}
+use Rattle.sonic_c.specs.declared.Opened.{Opened}
+use Rattle.sonic_c.specs.declared.Changed.{Changed}
+use Rattle.sonic_c.specs.declared.Available.{Available}
+use Rattle.sonic_c.specs.declared.Wrote.{Wrote}
+use Rattle.sonic_c.specs.declared.Gave.{Gave}
 
 -- ---- answers: a number of refusal, 0 if accepted
 
@@ -74,37 +33,37 @@ outcomeNumber Waiting = 2
 outcomeNumber Stretched = 3
 outcomeNumber Stalled = 4
 
-unfoldable pub opening : Opened → Opening
-opening (Opened.Refused number given s) = record { refusal = number; given = given; stream = streamOut s }
-opening (Opened.Done s) = record { refusal = 0; given = 0; stream = streamOut s }
+unfoldable pub openedOf : open-answer.Opened → Opened
+openedOf (open-answer.Opened.Refused number given s) = record { refusal = number; given = given; stream = s }
+openedOf (open-answer.Opened.Done s) = record { refusal = accepted; given = 0; stream = s }
 
-unfoldable pub change : Changed → Change
-change (Changed.Refused number s) = record { refusal = number; stream = streamOut s }
-change (Changed.Done s) = record { refusal = 0; stream = streamOut s }
+unfoldable pub changedOf : set-answer.Changed → Changed
+changedOf (set-answer.Changed.Refused number s) = record { refusal = number; stream = s }
+changedOf (set-answer.Changed.Done s) = record { refusal = accepted; stream = s }
 
 -- to the entering stream
-unfoldable pub available : Stream → Available → Count
-available entering (Available.Refused number s) = record { refusal = number; frames = 0; stream = streamOut s }
-available entering (Available.Waiting n) = record { refusal = 0; frames = n .0; stream = entering }
+unfoldable pub availableOf : SonicStream → available-answer.Available → Available
+availableOf entering (available-answer.Available.Refused number s) = record { refusal = number; frames = record { 0 = 0 }; stream = s }
+availableOf entering (available-answer.Available.Waiting n) = record { refusal = accepted; frames = n; stream = entering }
 
-unfoldable pub writing : Wrote → Writing
-writing (Wrote.Refused number s) = record { refusal = number; outcome = 0; stream = streamOut s }
-writing (Wrote.Done outcome s) = record { refusal = 0; outcome = outcomeNumber outcome; stream = streamOut s }
+unfoldable pub wroteOf : write-answer.Wrote → Wrote
+wroteOf (write-answer.Wrote.Refused number s) = record { refusal = number; outcome = 0; stream = s }
+wroteOf (write-answer.Wrote.Done outcome s) = record { refusal = accepted; outcome = outcomeNumber outcome; stream = s }
 
-unfoldable pub reading : Gave → Count
-reading (Gave.Refused number s) = record { refusal = number; frames = 0; stream = streamOut s }
-reading (Gave.Done n s) = record { refusal = 0; frames = n .0; stream = streamOut s }
+unfoldable pub gaveOf : read-answer.Gave → Gave
+gaveOf (read-answer.Gave.Refused number s) = record { refusal = number; frames = record { 0 = 0 }; stream = s }
+gaveOf (read-answer.Gave.Done n s) = record { refusal = accepted; frames = n; stream = s }
 
 -- ---- what the calls ensure: the answer r and the areas at exit are those of the call c
 
-pub record WritingEnsures (channels : ℕ) (c : Call) (r : Writing) (a : Areas) : Type 0 where
-  pub answer : r ≡ writing (c .answer)
-  pub input : framesOf channels (r .stream .held) (a .input) ≡ c .input
-  pub tail : framesOf channels (r .stream .tail) (a .stage) ≡ c .tail
-  pub output : framesOf channels (r .stream .waiting) (a .output) ≡ c .output
+pub record WroteEnsures (channels : ℕ) (c : CallResult) (r : Wrote) (a : Areas) : Type 0 where
+  pub answer : r ≡ wroteOf (c .answer)
+  pub input : framesOf channels (r .stream .held .0) (a .input) ≡ c .input
+  pub tail : framesOf channels (r .stream .tail .0) (a .stage) ≡ c .tail
+  pub output : framesOf channels (r .stream .waiting .0) (a .output) ≡ c .output
 
-pub record ReadingEnsures (channels : ℕ) (c : Read) (r : Count) (entry exit : List Float) (area : List ℤ) : Type 0 where
-  pub answer : r ≡ reading (c .answer)
-  pub given : framesOf channels (r .frames) exit ≡ c .given
-  pub rest : drop (r .frames * channels) exit ≡ drop (r .frames * channels) entry
-  pub output : framesOf channels (r .stream .waiting) area ≡ c .output
+pub record GaveEnsures (channels : ℕ) (c : ReadResult) (r : Gave) (entry exit : List Float) (area : List ℤ) : Type 0 where
+  pub answer : r ≡ gaveOf (c .answer)
+  pub given : framesOf channels (r .frames .0) exit ≡ c .given
+  pub rest : drop (r .frames .0 * channels) exit ≡ drop (r .frames .0 * channels) entry
+  pub output : framesOf channels (r .stream .waiting .0) area ≡ c .output

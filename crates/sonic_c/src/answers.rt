@@ -1,68 +1,15 @@
-// Streams and answers as the structs of C.
-use crate::Change;
-use crate::Count;
-use crate::Opening;
-use crate::Stream;
-use crate::Writing;
+// Answers as the structs of C.
+use crate::Available;
+use crate::Changed;
+use crate::Gave;
+use crate::Opened;
+use crate::Wrote;
 use frames::Frames;
-use sonic::Available;
-use sonic::Changed;
-use sonic::Gave;
-use sonic::Opened;
 use sonic::Outcome;
-use sonic::SonicStream;
-use sonic::Wrote;
+use stream::SonicStream;
+use stream::refusals;
 ghost use mathlib.Core.Path.{_≡_};
-ghost use Rattle.sonic_c.specs.Answers.{streamIn, streamOut, opening, change, available, writing, reading, outcomeNumber};
-
-// The stream that a struct of C stands for.
-pub(crate) fn stream_in(s: Stream) -> SonicStream
-    ensures { λ r. ⌜ r ≡ streamIn s ⌝ }
-{
-    SonicStream {
-        rate: s.rate,
-        channels: s.channels,
-        speed: s.speed,
-        pitch: s.pitch,
-        volume: s.volume,
-        sample_period: s.sample_period,
-        input_play_time: s.input_play_time,
-        time_error: s.time_error,
-        old_rate_position: s.old_rate_position,
-        new_rate_position: s.new_rate_position,
-        prev_period: s.prev_period,
-        prev_min_diff: s.prev_min_diff,
-        held: Frames(s.held),
-        tail: Frames(s.tail),
-        waiting: Frames(s.waiting),
-    }
-}
-
-// The struct of C for a stream.
-fn stream_out(s: SonicStream) -> Stream
-    ensures { λ r. ⌜ r ≡ streamOut s ⌝ }
-{
-    let held = s.held.0;
-    let tail = s.tail.0;
-    let waiting = s.waiting.0;
-    Stream {
-        rate: s.rate,
-        channels: s.channels,
-        speed: s.speed,
-        pitch: s.pitch,
-        volume: s.volume,
-        sample_period: s.sample_period,
-        input_play_time: s.input_play_time,
-        time_error: s.time_error,
-        old_rate_position: s.old_rate_position,
-        new_rate_position: s.new_rate_position,
-        prev_period: s.prev_period,
-        prev_min_diff: s.prev_min_diff,
-        held,
-        tail,
-        waiting,
-    }
-}
+ghost use Rattle.sonic_c.specs.Answers.{openedOf, changedOf, availableOf, wroteOf, gaveOf, outcomeNumber};
 
 // The number of an outcome.
 fn outcome_number(outcome: Outcome) -> u32
@@ -78,89 +25,90 @@ fn outcome_number(outcome: Outcome) -> u32
 }
 
 // An opening's answer.
-pub(crate) fn opening(answer: Opened) -> Opening
-    ensures { λ r. ⌜ r ≡ opening answer ⌝ }
+pub(crate) fn opened_of(answer: stream::Opened) -> Opened
+    ensures { λ r. ⌜ r ≡ openedOf answer ⌝ }
 {
     match answer {
-        Opened::Refused(refusal, given, s) => Opening {
-            refusal,
+        stream::Opened::Refused {
+            number,
             given,
-            stream: stream_out(s),
+            stream,
+        } => Opened {
+            refusal: number,
+            given,
+            stream,
         },
-        Opened::Done(s) => Opening {
-            refusal: 0,
+        stream::Opened::Done(stream) => Opened {
+            refusal: refusals::ACCEPTED,
             given: 0,
-            stream: stream_out(s),
+            stream,
         },
     }
 }
 
 // A setting's answer.
-pub(crate) fn change(answer: Changed) -> Change
-    ensures { λ r. ⌜ r ≡ change answer ⌝ }
+pub(crate) fn changed_of(answer: stream::Changed) -> Changed
+    ensures { λ r. ⌜ r ≡ changedOf answer ⌝ }
 {
     match answer {
-        Changed::Refused(refusal, s) => Change {
-            refusal,
-            stream: stream_out(s),
-        },
-        Changed::Done(s) => Change {
-            refusal: 0,
-            stream: stream_out(s),
+        stream::Changed::Refused(refusal, stream) => Changed { refusal, stream },
+        stream::Changed::Done(stream) => Changed {
+            refusal: refusals::ACCEPTED,
+            stream,
         },
     }
 }
 
 // The answer of `available_frames` to a stream.
-pub(crate) fn available(entering: Stream, answer: Available) -> Count
-    ensures { λ r. ⌜ r ≡ available entering answer ⌝ }
+pub(crate) fn available_of(entering: SonicStream, answer: stream::Available) -> Available
+    ensures { λ r. ⌜ r ≡ availableOf entering answer ⌝ }
 {
     match answer {
-        Available::Refused(refusal, s) => Count {
+        stream::Available::Refused(refusal, stream) => Available {
             refusal,
-            frames: 0,
-            stream: stream_out(s),
+            frames: Frames(0),
+            stream,
         },
-        Available::Waiting(n) => Count {
-            refusal: 0,
-            frames: n.0,
+        stream::Available::Waiting(frames) => Available {
+            refusal: refusals::ACCEPTED,
+            frames,
             stream: entering,
         },
     }
 }
 
 // The answer of a write or a flush.
-pub(crate) fn writing(answer: Wrote) -> Writing
-    ensures { λ r. ⌜ r ≡ writing answer ⌝ }
+pub(crate) fn wrote_of(answer: sonic::Wrote) -> Wrote
+    ensures { λ r. ⌜ r ≡ wroteOf answer ⌝ }
 {
     match answer {
-        Wrote::Refused(refusal, s) => Writing {
+        sonic::Wrote::Refused(refusal, stream) => Wrote {
             refusal,
             outcome: 0,
-            stream: stream_out(s),
+            stream,
         },
-        Wrote::Done(outcome, s) => Writing {
-            refusal: 0,
+        sonic::Wrote::Done(outcome, stream) => Wrote {
+            refusal: refusals::ACCEPTED,
             outcome: outcome_number(outcome),
-            stream: stream_out(s),
+            stream,
         },
     }
 }
 
 // A read's answer.
-pub(crate) fn reading(answer: Gave) -> Count
-    ensures { λ r. ⌜ r ≡ reading answer ⌝ }
+pub(crate) fn gave_of(answer: sonic::Gave) -> Gave
+    ensures { λ r. ⌜ r ≡ gaveOf answer ⌝ }
 {
     match answer {
-        Gave::Refused(refusal, s) => Count {
+        sonic::Gave::Refused(refusal, stream) => Gave {
             refusal,
-            frames: 0,
-            stream: stream_out(s),
+            frames: Frames(0),
+            stream,
         },
-        Gave::Done(n, s) => Count {
-            refusal: 0,
-            frames: n.0,
-            stream: stream_out(s),
+        sonic::Gave::Done(frames, stream) => Gave {
+            refusal: refusals::ACCEPTED,
+            frames,
+            stream,
         },
     }
 }

@@ -1,55 +1,46 @@
-// The stream for C: each function converts and calls `sonic`. include/kelpladder.h has the declarations; `specs/Answers.antt` says what
-// numbers stand for an answer.
+// The stream for C: each function calls `stream` or `sonic` and hands its answer over as a struct. include/kelpladder.h has the
+// declarations; `specs/Answers.antt` says what numbers stand for an answer. The stream is `SonicStream` itself.
 mod answers;
 mod calls;
 
-// The stream's value, its counts in frames.
-#[repr(C)]
-pub struct Stream {
-    pub rate: u32,
-    pub channels: u32,
-    pub speed: f32,
-    pub pitch: f32,
-    pub volume: f32,
-    pub sample_period: f32,
-    pub input_play_time: f32,
-    pub time_error: f32,
-    pub old_rate_position: usize,
-    pub new_rate_position: usize,
-    pub prev_period: usize,
-    pub prev_min_diff: usize,
-    pub held: usize,
-    pub tail: usize,
-    pub waiting: usize,
-}
+use frames::Frames;
+use stream::SonicStream;
 
 // An opening: the number of its refusal, 0 if accepted, and the rate or channels that were refused.
 #[repr(C)]
-pub struct Opening {
+pub struct Opened {
     pub refusal: u32,
     pub given: u32,
-    pub stream: Stream,
+    pub stream: SonicStream,
 }
 
 // A setting.
 #[repr(C)]
-pub struct Change {
+pub struct Changed {
     pub refusal: u32,
-    pub stream: Stream,
+    pub stream: SonicStream,
 }
 
-// The frames waiting, or the frames that a read gave.
+// The frames waiting.
 #[repr(C)]
-pub struct Count {
+pub struct Available {
     pub refusal: u32,
-    pub frames: usize,
-    pub stream: Stream,
+    pub frames: Frames,
+    pub stream: SonicStream,
 }
 
 // A write or a flush, with the number of its outcome.
 #[repr(C)]
-pub struct Writing {
+pub struct Wrote {
     pub refusal: u32,
     pub outcome: u32,
-    pub stream: Stream,
+    pub stream: SonicStream,
+}
+
+// A read: the frames given.
+#[repr(C)]
+pub struct Gave {
+    pub refusal: u32,
+    pub frames: Frames,
+    pub stream: SonicStream,
 }

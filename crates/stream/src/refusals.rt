@@ -1,5 +1,8 @@
 // The numbers of the refusals, in the order in which they are tested. `specs/Refusals.antt` says when each is met.
 
+// The call was accepted.
+pub const ACCEPTED: u32 = 0;
+
 // Opening: the rate, or the channels, out of range.
 pub const BAD_RATE: u32 = 1;
 
