@@ -4,29 +4,30 @@ use mathlib.Core.List.{List}
 use Prim.Native.Nat.{ℕ}
 use lib.IntN.{ℤ}
 use lib.Ieee.{Float}
-use Rattle.sonic.specs.declared.Wrote.{Wrote}
-use Rattle.sonic.specs.declared.Gave.{Gave}
-use Rattle.sonic.specs.Stream.{Areas}
-use Rattle.sonic.specs.Calls.{Call, CallEnsures}
-use Rattle.sonic.specs.Reading.{Read, ReadEnsures}
-use Rattle.sonic_c.specs.declared.Writing.{Writing}
-use Rattle.sonic_c.specs.declared.Count.{Count}
-use Rattle.sonic_c.specs.Answers.{streamOut, writing, reading, WritingEnsures, ReadingEnsures}
+use Rattle.frames.specs.Areas.{Areas}
+use Rattle.sonic.specs.declared.Wrote as write-answer
+use Rattle.sonic.specs.declared.Gave as read-answer
+use Rattle.sonic.specs.Calls.{CallResult, CallEnsures}
+use Rattle.sonic.specs.Reading.{ReadResult, ReadEnsures}
+use Rattle.sonic_c.specs.declared.Wrote.{Wrote}
+use Rattle.sonic_c.specs.declared.Gave.{Gave}
+use Rattle.sonic_c.specs.Answers.{wroteOf, gaveOf, WroteEnsures, GaveEnsures}
 
-writing-cases : (channels : ℕ) (c : Call) (w : Wrote) (a : Areas) → CallEnsures channels c w a → WritingEnsures channels c (writing w) a
-unfolding writing streamOut
-writing-cases channels c (Wrote.Refused number s) a h = record { answer = rw (← h .answer); input = h .input; tail = h .tail; output = h .output }
-writing-cases channels c (Wrote.Done outcome s) a h = record { answer = rw (← h .answer); input = h .input; tail = h .tail; output = h .output }
+module _ {channels : ℕ} {c : CallResult} {a : Areas} where
+  wrote-cases : (w : write-answer.Wrote) → CallEnsures channels c w a → WroteEnsures channels c (wroteOf w) a
+  unfolding wroteOf
+  wrote-cases (write-answer.Wrote.Refused number s) h = record { answer = rw (← h .answer); input = h .input; tail = h .tail; output = h .output }
+  wrote-cases (write-answer.Wrote.Done outcome s) h = record { answer = rw (← h .answer); input = h .input; tail = h .tail; output = h .output }
 
-pub writing-of : (channels : ℕ) (c : Call) (w : Wrote) (r : Writing) (a : Areas) → r ≡ writing w → CallEnsures channels c w a
-    → WritingEnsures channels c r a
-writing-of channels c w r a e h = rw e (writing-cases channels c w a h)
+  pub wrote-ensures : (w : write-answer.Wrote) (r : Wrote) → r ≡ wroteOf w → CallEnsures channels c w a → WroteEnsures channels c r a
+  wrote-ensures w r e h = rw e (wrote-cases w h)
 
-module _ (channels : ℕ) (c : Read) (entry exit : List Float) (area : List ℤ) where
-  reading-cases : (g : Gave) → ReadEnsures channels c g entry exit area → ReadingEnsures channels c (reading g) entry exit area
-  unfolding reading streamOut
-  reading-cases (Gave.Refused number s) h = record { answer = rw (← h .answer); given = h .given; rest = h .rest; output = h .output }
-  reading-cases (Gave.Done n s) h = record { answer = rw (← h .answer); given = h .given; rest = h .rest; output = h .output }
+module _ {channels : ℕ} {c : ReadResult} {entry exit : List Float} {area : List ℤ} where
+  gave-cases : (g : read-answer.Gave) → ReadEnsures channels c g entry exit area → GaveEnsures channels c (gaveOf g) entry exit area
+  unfolding gaveOf
+  gave-cases (read-answer.Gave.Refused number s) h = record { answer = rw (← h .answer); given = h .given; rest = h .rest; output = h .output }
+  gave-cases (read-answer.Gave.Done n s) h = record { answer = rw (← h .answer); given = h .given; rest = h .rest; output = h .output }
 
-  pub reading-of : (g : Gave) (r : Count) → r ≡ reading g → ReadEnsures channels c g entry exit area → ReadingEnsures channels c r entry exit area
-  reading-of g r e h = rw e (reading-cases g h)
+  pub gave-ensures : (g : read-answer.Gave) (r : Gave) → r ≡ gaveOf g → ReadEnsures channels c g entry exit area
+      → GaveEnsures channels c r entry exit area
+  gave-ensures g r e h = rw e (gave-cases g h)

@@ -6,11 +6,11 @@ use Rattle.sonic_c.proofs.calls.kelpladder_open.Tie as tie
 new-requires : tie.Need-new-requires
 new-requires c κs = search needs
 
-opening-requires : tie.Need-opening-requires
-opening-requires c κs = search needs
+opened-of-requires : tie.Need-opened-of-requires
+opened-of-requires c κs = search needs
 
 returns : tie.Need-returns
-returns c = rw (c .opening .ensures, c .before .new .ensures)
+returns c = rw (← c .before .new .ensures) (c .opened-of .ensures)
 
 pub kelpladder-open-spec : {M : Type 1} → statement M
-kelpladder-open-spec = tie.close (tie.spec new-requires opening-requires returns)
+kelpladder-open-spec = tie.close (tie.spec new-requires opened-of-requires returns)

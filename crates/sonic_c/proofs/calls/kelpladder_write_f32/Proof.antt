@@ -1,20 +1,14 @@
 -- `sonic_c::calls::kelpladder_write_f32` meets its contract. Assumes nothing.
 use borrow.Author.Needs.{needs}
-use Rattle.sonic_c.specs.Answers.{streamIn}
-use Rattle.sonic.specs.Stream.{areas}
-use Rattle.sonic.specs.Calls.{writeCall}
-use Rattle.sonic_c.proofs.Answering.{writing-of}
+use Rattle.sonic_c.proofs.Answering.{wrote-ensures}
 use Rattle.sonic_c.proofs.calls.kelpladder_write_f32.Statement.{statement}
 use Rattle.sonic_c.proofs.calls.kelpladder_write_f32.Tie as tie
-
-stream-in-requires : tie.Need-stream-in-requires
-stream-in-requires c κs = search needs
 
 write-f32-requires : tie.Need-write-f32-requires
 write-f32-requires c κs = search needs
 
-writing-requires : tie.Need-writing-requires
-writing-requires c κs = search needs
+wrote-of-requires : tie.Need-wrote-of-requires
+wrote-of-requires c κs = search needs
 
 same-length : tie.Need-same-length
 same-length c = search needs
@@ -29,25 +23,16 @@ same-length-4 : tie.Need-same-length-4
 same-length-4 c = search needs
 
 returns : tie.Need-returns
-unfolding streamIn
 returns c =
     let called = c .before .before .before .before .before in
-    let converted = called .before .before .before .before .before in
-    let a = converted .before .before .args in
-    let last = called .write-f32 .last in
-    let done = rw (converted .stream-in .ensures) at (called .write-f32 .ensures .0) in
-    writing-of (a .stream .channels)
-    (writeCall (streamIn (a .stream)) (a .samples .now) (areas (a .input .now) (a .stage .now) (a .output .now) (a .scratch .now)))
-    (called .write-f32 .result) (c .writing .result) (areas (last .1 .1 .0) (last .1 .1 .1 .0) (last .1 .1 .1 .1 .0) (last .1 .1 .1 .1 .1 .0))
-    (c .writing .ensures) done
+    wrote-ensures (called .write-f32 .result) (c .wrote-of .result) (c .wrote-of .ensures) (called .write-f32 .ensures .0)
 
 pub kelpladder-write-f32-spec : {M : Type 1} → statement M
 kelpladder-write-f32-spec =
     tie.close
     (tie.spec
-    stream-in-requires
     write-f32-requires
-    writing-requires
+    wrote-of-requires
     same-length
     same-length-2
     same-length-3
