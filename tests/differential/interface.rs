@@ -4,7 +4,7 @@
 #[cfg_attr(not(library), allow(dead_code))]
 pub mod calls;
 
-pub use calls::{Areas, Changed, Counted, Opened, Stream, Wrote};
+pub use calls::{Areas, Available, Changed, Gave, Opened, Stream, Wrote};
 
 /// Numbers of an accepted write or flush.
 pub const EMPTY: u32 = 0;
@@ -69,11 +69,11 @@ pub trait Subject {
     /// Sets the speed, the pitch or the volume.
     fn set(&mut self, stream: Stream, setting: Setting) -> Changed;
     /// Counts the frames waiting.
-    fn available(&mut self, stream: Stream) -> Counted;
+    fn available(&mut self, stream: Stream) -> Available;
     /// Writes samples.
     fn write(&mut self, stream: Stream, samples: &[f32], areas: Areas<'_>) -> Wrote;
     /// Reads frames into the slice.
-    fn read(&mut self, stream: Stream, most: usize, slice: &mut [f32], output: &mut [i16]) -> Counted;
+    fn read(&mut self, stream: Stream, most: usize, slice: &mut [f32], output: &mut [i16]) -> Gave;
     /// Makes frames of what is held.
     fn flush(&mut self, stream: Stream, areas: Areas<'_>) -> Wrote;
 }

@@ -1,6 +1,6 @@
 //! The library through its C interface. Built only with `--cfg library`, and linked with `libsonic_c.a`.
 
-use crate::interface::{calls, Areas, Changed, Counted, Opened, Setting, Stream, Subject, Wrote};
+use crate::interface::{calls, Areas, Available, Changed, Gave, Opened, Setting, Stream, Subject, Wrote};
 
 /// The linked library.
 pub struct Library;
@@ -18,7 +18,7 @@ impl Subject for Library {
         }
     }
 
-    fn available(&mut self, stream: Stream) -> Counted {
+    fn available(&mut self, stream: Stream) -> Available {
         calls::available_frames(stream)
     }
 
@@ -26,7 +26,7 @@ impl Subject for Library {
         calls::write_f32(stream, samples, areas)
     }
 
-    fn read(&mut self, stream: Stream, most: usize, slice: &mut [f32], output: &mut [i16]) -> Counted {
+    fn read(&mut self, stream: Stream, most: usize, slice: &mut [f32], output: &mut [i16]) -> Gave {
         calls::read_f32(stream, most, slice, output)
     }
 

@@ -1,7 +1,7 @@
 //! One run under way: each call goes to the subject, to the model, which says whether it is refused and how it goes, and, if it is
 //! accepted, to the original. After every call all that document 01 does not leave free is compared.
 
-use crate::interface::{same_float, Counted, Setting, Stream, Subject, Wrote};
+use crate::interface::{same_float, Gave, Setting, Stream, Subject, Wrote};
 use crate::lending::{slice_with_guard, Buffers, Leftovers};
 use crate::model::Model;
 use crate::original::Original;
@@ -249,7 +249,7 @@ impl<'a> Session<'a> {
     }
 
     /// Compares the stream and the output that a read leaves.
-    fn settle_read(&mut self, said: Counted, got: Counted) -> Result<Answer, String> {
+    fn settle_read(&mut self, said: Gave, got: Gave) -> Result<Answer, String> {
         self.take(got.stream, said.stream, got.refusal)?;
         if got.refusal == 0 {
             let output = self.original()?.samples()[2].to_vec();

@@ -39,10 +39,10 @@ pub struct Changed {
     pub stream: Stream,
 }
 
-/// The frames waiting, or those that a read gave.
+/// The frames waiting.
 #[repr(C)]
 #[derive(Debug, Clone, Copy)]
-pub struct Counted {
+pub struct Available {
     pub refusal: u32,
     pub frames: usize,
     pub stream: Stream,
@@ -54,6 +54,15 @@ pub struct Counted {
 pub struct Wrote {
     pub refusal: u32,
     pub outcome: u32,
+    pub stream: Stream,
+}
+
+/// A read: the frames given.
+#[repr(C)]
+#[derive(Debug, Clone, Copy)]
+pub struct Gave {
+    pub refusal: u32,
+    pub frames: usize,
     pub stream: Stream,
 }
 
@@ -70,7 +79,7 @@ extern "C" {
     fn kelpladder_set_speed(stream: Stream, speed: f32) -> Changed;
     fn kelpladder_set_pitch(stream: Stream, pitch: f32) -> Changed;
     fn kelpladder_set_volume(stream: Stream, volume: f32) -> Changed;
-    fn kelpladder_available_frames(stream: Stream) -> Counted;
+    fn kelpladder_available_frames(stream: Stream) -> Available;
     fn kelpladder_write_f32(
         stream: Stream,
         samples: *const f32,
@@ -91,7 +100,7 @@ extern "C" {
         slice_length: usize,
         output: *mut i16,
         output_length: usize,
-    ) -> Counted;
+    ) -> Gave;
     fn kelpladder_flush(
         stream: Stream,
         input: *mut i16,
@@ -125,7 +134,7 @@ pub fn set_volume(stream: Stream, volume: f32) -> Changed {
 }
 
 /// Counts the frames waiting.
-pub fn available_frames(stream: Stream) -> Counted {
+pub fn available_frames(stream: Stream) -> Available {
     unsafe { kelpladder_available_frames(stream) }
 }
 
@@ -149,7 +158,7 @@ pub fn write_f32(stream: Stream, samples: &[f32], areas: Areas<'_>) -> Wrote {
 }
 
 /// Reads frames to the front of the slice.
-pub fn read_f32(stream: Stream, most_frames: usize, slice: &mut [f32], output: &mut [i16]) -> Counted {
+pub fn read_f32(stream: Stream, most_frames: usize, slice: &mut [f32], output: &mut [i16]) -> Gave {
     unsafe { kelpladder_read_f32(stream, most_frames, slice.as_mut_ptr(), slice.len(), output.as_mut_ptr(), output.len()) }
 }
 

@@ -5,7 +5,7 @@ use super::numbers::{sample_period, PITCHES, SPEEDS, VOLUMES};
 use super::order::{CHANNELS, RATES};
 use super::search::max_required;
 use super::{Model, Room, Work};
-use crate::interface::{Areas, Changed, Counted, Opened, Setting, Stream, Subject, Wrote, EMPTY, WAITING};
+use crate::interface::{Areas, Available, Changed, Gave, Opened, Setting, Stream, Subject, Wrote, EMPTY, WAITING};
 
 /// A fresh stream.
 fn fresh(rate: u32, channels: u32) -> Stream {
@@ -130,12 +130,12 @@ impl Subject for Model {
         Changed { refusal: 0, stream: self.changed(stream, setting) }
     }
 
-    fn available(&mut self, stream: Stream) -> Counted {
+    fn available(&mut self, stream: Stream) -> Available {
         if !self.in_order(&stream) {
-            return Counted { refusal: 3, frames: 0, stream };
+            return Available { refusal: 3, frames: 0, stream };
         }
         let frames = if self.wrong(Edit::AvailableCountsTail) { stream.waiting.wrapping_add(stream.tail) } else { stream.waiting };
-        Counted { refusal: 0, frames, stream }
+        Available { refusal: 0, frames, stream }
     }
 
     fn write(&mut self, stream: Stream, samples: &[f32], areas: Areas<'_>) -> Wrote {
@@ -158,12 +158,12 @@ impl Subject for Model {
         }
     }
 
-    fn read(&mut self, mut stream: Stream, most: usize, slice: &mut [f32], output: &mut [i16]) -> Counted {
+    fn read(&mut self, mut stream: Stream, most: usize, slice: &mut [f32], output: &mut [i16]) -> Gave {
         if !self.in_order(&stream) {
-            return Counted { refusal: 3, frames: 0, stream };
+            return Gave { refusal: 3, frames: 0, stream };
         }
         if !self.output_in_order(&stream, output) {
-            return Counted { refusal: 4, frames: 0, stream };
+            return Gave { refusal: 4, frames: 0, stream };
         }
         let channels = stream.channels as usize;
         let most = if self.wrong(Edit::ReadIgnoresMost) { usize::MAX } else { most };
@@ -176,7 +176,7 @@ impl Subject for Model {
         }
         output.copy_within(frames * channels..stream.waiting * channels, 0);
         stream.waiting -= frames;
-        Counted { refusal: 0, frames, stream }
+        Gave { refusal: 0, frames, stream }
     }
 
     fn flush(&mut self, stream: Stream, areas: Areas<'_>) -> Wrote {
