@@ -1,24 +1,26 @@
 -- What the tests of refusals 3 and 4 show, as facts on numbers: a stream in order, then the areas lent to a call. Here:
 --   both, neither, holds             tests joined by `&&` and `||`, and a test as a fact
---   Tests, tests-of, in-order-of     the four tests of a stream in order, from it and to it
---   opened-range, opened-of          rate and channels
+--   Tests, tests-of, in-order-of     the five tests of a stream in order, from it and to it
+--   limits-range, limits-of          rate and channels
 --   within-range, Ranges, ranges-of, settings-of     a setting in its range; the three of them, from their test and to it
---   period-in, found-order, position-order           the period record and the positions
---   ready-of                         what a call's work requires
+--   period-in, prev-order, position-order            the period record and the positions
+--   state-ready, ready-of            what a call's work goes by, with its areas and without
+--   good-of, bad-of                  the two answers of `ordered`
 --   AreasGood, areas-of, output-of   the lengths of the areas; area-short, area-fits: of one area
 -- Assumes nothing.
 use mathlib.Core.Path.{_≡_, refl, sym, subst}
-use mathlib.Core.Bool.{Bool, true, false, not, _&&_, _||_, true≢false, false≢true}
+use mathlib.Core.Bool.{Bool, true, false, not, cond, _&&_, _||_, true≢false, false≢true}
 use mathlib.Core.Logic.{_⊎_, inl, inr}
-use mathlib.Core.List.{List}
+use mathlib.Core.List.{List, []}
 use Prim.Native.Nat.{ℕ, _*_, _^_, _≤_}
 use native.Mathlib.Omega.{arith}
 use borrow.Author.Tests.{leb-true, ltb-true, ltb-false, eqb-true, not-true}
 use lib.Dec.{T, leb, ltb, eqb}
 use lib.IntN.{ℤ}
-use lib.Ieee.{Float, le, eq}
+use lib.Ieee.{Float, le}
 use lib.ListN.{length}
-use Rattle.floats.specs.Settings.{samplePeriod, minPitch, maxPitch, minVolume, maxVolume}
+use Rattle.frames.specs.Areas.{Areas}
+use Rattle.floats.specs.Settings.{samplePeriod, minSpeed, maxSpeed, minPitch, maxPitch, minVolume, maxVolume}
 use Rattle.period.specs.Rates.{minPeriod, maxPeriod, maxRequired, InLimits}
 use Rattle.period.specs.Search.{widestGap}
 use Rattle.period.specs.Pitch as Pitch
@@ -26,14 +28,16 @@ use Rattle.rate.specs.declared.Rates.{Rates}
 use Rattle.rate.specs.Halving.{ratesOf}
 use Rattle.rate.specs.Tail.{ceilDiv}
 use Rattle.rate.specs.Tail as Tail
-use Rattle.process.specs.Filling.{Ready}
-use Rattle.sonic.specs.declared.SonicStream.{SonicStream}
-use Rattle.sonic.specs.Stream.{Areas, setupOf, keptIn}
-use Rattle.sonic.specs.Refusals.{
+use Rattle.stream.specs.declared.SonicStream.{SonicStream}
+use Rattle.stream.specs.declared.order.Order.{Order}
+use Rattle.stream.specs.Stream.{stateOf, unlent}
+use Rattle.stream.specs.Order.{orderOf, StateReady}
+use Rattle.stream.specs.Refusals.{
   rateBad,
   channelsBad,
   within,
-  openedInOrder,
+  limitsInOrder,
+  periodInOrder,
   settingsInOrder,
   prevInOrder,
   positionsInOrder,
@@ -62,34 +66,34 @@ holds e = subst T (sym e) tt
 
 -- ---- a stream in order
 
--- the four tests
+-- the five tests
 pub record Tests (s : SonicStream) : Type 0 where
-  pub opened : openedInOrder s ≡ true
+  pub limits : limitsInOrder s ≡ true
+  pub period : periodInOrder s ≡ true
   pub settings : settingsInOrder s ≡ true
-  pub found : prevInOrder s ≡ true
+  pub prev : prevInOrder s ≡ true
   pub positions : positionsInOrder (ratesOf (s .rate) (s .pitch)) s ≡ true
 
 pub tests-of : (s : SonicStream) → inOrder s ≡ true → Tests s
 unfolding inOrder
 tests-of s e =
     let positions : Bool = positionsInOrder (ratesOf (s .rate) (s .pitch)) s in
-    let a = both (openedInOrder s) (settingsInOrder s && (prevInOrder s && positions)) e in
-    let b = both (settingsInOrder s) (prevInOrder s && positions) (a .1) in
-    let c = both (prevInOrder s) positions (b .1) in
-    record { opened = a .0; settings = b .0; found = c .0; positions = c .1 }
+    let a = both (limitsInOrder s) (periodInOrder s && (settingsInOrder s && (prevInOrder s && positions))) e in
+    let b = both (periodInOrder s) (settingsInOrder s && (prevInOrder s && positions)) (a .1) in
+    let c = both (settingsInOrder s) (prevInOrder s && positions) (b .1) in
+    let d = both (prevInOrder s) positions (c .1) in
+    record { limits = a .0; period = b .0; settings = c .0; prev = d .0; positions = d .1 }
 
 pub in-order-of : (s : SonicStream) → Tests s → inOrder s ≡ true
 unfolding inOrder
-in-order-of s t = rw (t .opened, t .settings, t .found, t .positions)
+in-order-of s t = rw (t .limits, t .period, t .settings, t .prev, t .positions)
 
-pub opened-range : (s : SonicStream) → openedInOrder s ≡ true → InLimits (s .rate) (s .channels)
-unfolding openedInOrder rateBad channelsBad
-opened-range s e =
-    let same : Bool = eq (s .«sample_period») (samplePeriod (s .rate)) in
-    let a = both (not (rateBad (s .rate))) (not (channelsBad (s .channels)) && same) e in
-    let b = both (not (channelsBad (s .channels))) same (a .1) in
+pub limits-range : (s : SonicStream) → limitsInOrder s ≡ true → InLimits (s .rate) (s .channels)
+unfolding limitsInOrder rateBad channelsBad
+limits-range s e =
+    let a = both (not (rateBad (s .rate))) (not (channelsBad (s .channels))) e in
     let r = neither (ltb (s .rate) 1000) (ltb 500000 (s .rate)) (not-true (rateBad (s .rate)) (a .0)) in
-    let c = neither (ltb (s .channels) 1) (ltb 32 (s .channels)) (not-true (channelsBad (s .channels)) (b .0)) in
+    let c = neither (ltb (s .channels) 1) (ltb 32 (s .channels)) (not-true (channelsBad (s .channels)) (a .1)) in
     record {
       rate-low = ltb-false (s .rate) 1000 (r .0);
       rate-high = ltb-false 500000 (s .rate) (r .1);
@@ -97,8 +101,8 @@ opened-range s e =
       channels-high = ltb-false 32 (s .channels) (c .1);
     }
 
-pub opened-of : (s : SonicStream) → inOrder s ≡ true → InLimits (s .rate) (s .channels)
-opened-of s e = opened-range s (tests-of s e .opened)
+pub limits-of : (s : SonicStream) → inOrder s ≡ true → InLimits (s .rate) (s .channels)
+limits-of s e = limits-range s (tests-of s e .limits)
 
 -- a setting in its range
 pub within-range : (low high x : Float) → within low high x ≡ true → T (le low x) × T (le x high)
@@ -106,7 +110,7 @@ within-range low high x e = let b = both (le low x) (le x high) e in (holds (b .
 
 -- the three of them
 pub record Ranges (s : SonicStream) : Type 0 where
-  pub speed : within minPitch maxPitch (s .speed) ≡ true
+  pub speed : within minSpeed maxSpeed (s .speed) ≡ true
   pub pitch : within minPitch maxPitch (s .pitch) ≡ true
   pub volume : within minVolume maxVolume (s .volume) ≡ true
 
@@ -114,7 +118,7 @@ pub ranges-of : (s : SonicStream) → settingsInOrder s ≡ true → Ranges s
 unfolding settingsInOrder
 ranges-of s e =
     let volume : Bool = within minVolume maxVolume (s .volume) in
-    let a = both (within minPitch maxPitch (s .speed)) (within minPitch maxPitch (s .pitch) && volume) e in
+    let a = both (within minSpeed maxSpeed (s .speed)) (within minPitch maxPitch (s .pitch) && volume) e in
     let b = both (within minPitch maxPitch (s .pitch)) volume (a .1) in
     record { speed = a .0; pitch = b .0; volume = b .1 }
 
@@ -131,33 +135,57 @@ period-in rate q e = go (eqb q 0) refl e
         let r = both (leb (minPeriod rate) q) (leb q (maxPeriod rate)) h in
         inr (record { low = leb-true (minPeriod rate) q (r .0); high = leb-true q (maxPeriod rate) (r .1) })
 
-found-order : (s : SonicStream) → prevInOrder s ≡ true → Pitch.PrevInOrder (s .rate) (keptIn s .found)
-unfolding prevInOrder keptIn
-found-order s e =
+prev-order : (s : SonicStream) → prevInOrder s ≡ true → Pitch.PrevInOrder (s .rate) (unlent s .prev)
+unfolding prevInOrder stateOf
+prev-order s e =
     let q = s .«prev_period» in
     let r = both (eqb q 0 || (leb (minPeriod (s .rate)) q && leb q (maxPeriod (s .rate)))) (leb (s .«prev_min_diff») widestGap) e in
     record { period-in = period-in (s .rate) q (r .0); min-diff-in = leb-true (s .«prev_min_diff») widestGap (r .1) }
 
-position-order : (r : Rates) (s : SonicStream) → positionsInOrder r s ≡ true → Tail.PositionInOrder r (keptIn s .at)
-unfolding positionsInOrder keptIn
+position-order : (r : Rates) (s : SonicStream) → positionsInOrder r s ≡ true → Tail.PositionInOrder r (unlent s .at)
+unfolding positionsInOrder stateOf
 position-order r s e =
     let least : ℕ = ceilDiv (s .«old_rate_position» * r .new) (r .old) in
     let b = both (ltb (s .«old_rate_position») (r .old)) (eqb (s .«new_rate_position») least) e in
     record { below = ltb-true (s .«old_rate_position») (r .old) (b .0); least = eqb-true (s .«new_rate_position») least (b .1) }
 
-pub ready-of : (s : SonicStream) → inOrder s ≡ true → Ready (setupOf s) (keptIn s)
-unfolding keptIn
-ready-of s e =
+-- whatever its areas hold
+pub state-ready : (s : SonicStream) → inOrder s ≡ true → (input stage : List ℤ) → StateReady (stateOf s input stage)
+unfolding stateOf
+state-ready s e input stage =
     let t = tests-of s e in
     let v = within-range minVolume maxVolume (s .volume) (ranges-of s (t .settings) .volume) in
     record {
-      opened = opened-of s e;
-      period-is = refl;
+      limits = limits-of s e;
       volume-low = v .0;
       volume-high = v .1;
       position = position-order (ratesOf (s .rate) (s .pitch)) s (t .positions);
-      found = found-order s (t .found);
+      prev = prev-order s (t .prev);
     }
+
+pub ready-of : (s : SonicStream) → inOrder s ≡ true → StateReady (unlent s)
+ready-of s e = state-ready s e [] []
+
+-- ---- what `ordered` answers
+
+abbrev orderBy : SonicStream → Bool → Order
+orderBy s b = cond b (Order.Good (samplePeriod (s .rate))) Order.Bad
+
+pub good-of : (s : SonicStream) (period : Float) → orderOf s ≡ Order.Good period → (inOrder s ≡ true) × (period ≡ samplePeriod (s .rate))
+unfolding orderOf
+good-of s period e = go (inOrder s) refl e
+  where
+    go : (b : Bool) → inOrder s ≡ b → orderBy s b ≡ Order.Good period → (inOrder s ≡ true) × (period ≡ samplePeriod (s .rate))
+    go true p h = (p, cc)
+    go false p h = let z : true ≡ false = cc in absurd (true≢false z)
+
+pub bad-of : (s : SonicStream) → orderOf s ≡ Order.Bad → inOrder s ≡ false
+unfolding orderOf
+bad-of s e = go (inOrder s) refl e
+  where
+    go : (b : Bool) → inOrder s ≡ b → orderBy s b ≡ Order.Bad → inOrder s ≡ false
+    go true p h = let z : true ≡ false = cc in absurd (true≢false z)
+    go false p h = p
 
 -- ---- the areas
 
@@ -189,7 +217,7 @@ areas-of s a e =
     let held : Bool = tooShort (s .channels) (s .held .0) (a .input) in
     let tail : Bool = tooShort (s .channels) (s .tail .0) (a .stage) in
     let waiting : Bool = tooShort (s .channels) (s .waiting .0) (a .output) in
-    let p = neither (sizesBad s a) (partsBad s (a .input) (a .stage) (a .output)) e in
+    let p = neither (sizesBad s a) (partsBad s a) e in
     let i = neither input (stage || (output || (scratch || few))) (p .0) in
     let t = neither stage (output || (scratch || few)) (i .1) in
     let o = neither output (scratch || few) (t .1) in

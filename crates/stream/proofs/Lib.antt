@@ -1,3 +1,2 @@
 pub mod InOrder
-pub mod Stays
-mod Testing
+pub mod Testing

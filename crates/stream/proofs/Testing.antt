@@ -1,23 +1,32 @@
 -- What the code's tests of settings, positions and room compute: the tests of `specs/Refusals.antt`. Assumes nothing.
 use mathlib.Core.Path.{_≡_, refl, sym, _∙_}
-use mathlib.Core.Bool.{Bool, true, false}
+use mathlib.Core.Bool.{Bool, true, false, not}
 use Prim.Native.Nat.{ℕ, _+_, _-_, _*_, _/_, _≤_, _<_}
-use borrow.Author.Tests.{ltb-true, ltb-false, lt-ltb, le-ltb}
-use lib.Dec.{ltb, eqb}
+use borrow.Author.Tests.{leb-true, leb-false, ltb-true, ltb-false, lt-ltb, le-ltb}
+use lib.Dec.{leb, ltb, eqb}
 use lib.Ieee.{le}
-use Rattle.floats.specs.Settings.{minPitch, maxPitch, minVolume, maxVolume}
+use Rattle.floats.specs.Settings.{minSpeed, maxSpeed, minPitch, maxPitch, minVolume, maxVolume}
 use Rattle.frames.proofs.Room.{samples-le, samples-over, room-over, room-under}
 use Rattle.rate.specs.declared.Rates.{Rates}
 use Rattle.rate.specs.Tail.{ceilDiv}
-use Rattle.sonic.specs.declared.SonicStream.{SonicStream}
-use Rattle.sonic.specs.Refusals.{within, settingsInOrder, positionsInOrder}
+use Rattle.stream.specs.declared.SonicStream.{SonicStream}
+use Rattle.stream.specs.Refusals.{within, settingsInOrder, positionsInOrder}
+
+-- ---- channels
+
+pub leb-is : (m n : ℕ) → leb m n ≡ not (ltb n m)
+leb-is m n = go (leb m n) refl
+  where
+    go : (b : Bool) → leb m n ≡ b → b ≡ not (ltb n m)
+    go true e = rw (le-ltb n m (leb-true m n e))
+    go false e = rw (lt-ltb n m (leb-false m n e))
 
 -- ---- settings
 
 -- the code's tests of speed and pitch are passed
 pub record Passed (s : SonicStream) : Type 0 where
-  pub speed-low : le minPitch (s .speed) ≡ true
-  pub speed-high : le (s .speed) maxPitch ≡ true
+  pub speed-low : le minSpeed (s .speed) ≡ true
+  pub speed-high : le (s .speed) maxSpeed ≡ true
   pub pitch-low : le minPitch (s .pitch) ≡ true
   pub pitch-high : le (s .pitch) maxPitch ≡ true
 

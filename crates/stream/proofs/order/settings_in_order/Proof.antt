@@ -1,9 +1,9 @@
--- `sonic::order::settings_in_order` meets its contract. Assumes nothing.
+-- `stream::order::settings_in_order` meets its contract. Assumes nothing.
 use mathlib.Core.Logic.{⊎-elim}
-use Rattle.sonic.specs.Refusals.{settingsInOrder}
-use Rattle.sonic.proofs.Testing.{Passed, volume-high, volume-low}
-use Rattle.sonic.proofs.order.settings_in_order.Statement.{statement}
-use Rattle.sonic.proofs.order.settings_in_order.Tie as tie
+use Rattle.stream.specs.Refusals.{settingsInOrder}
+use Rattle.stream.proofs.Testing.{Passed, volume-high, volume-low}
+use Rattle.stream.proofs.order.settings_in_order.Statement.{statement}
+use Rattle.stream.proofs.order.settings_in_order.Tie as tie
 
 returns : tie.Need-returns
 unfolding settingsInOrder
