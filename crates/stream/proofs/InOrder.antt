@@ -1,37 +1,32 @@
--- What the tests of refusals 3 and 4 show, as facts on numbers: a stream in order, then the areas lent to a call. Here:
---   both, neither, holds             tests joined by `&&` and `||`, and a test as a fact
---   Tests, tests-of, in-order-of     the five tests of a stream in order, from it and to it
---   limits-range, limits-of          rate and channels
---   within-range, Ranges, ranges-of, settings-of     a setting in its range; the three of them, from their test and to it
---   period-in, prev-order, position-order            the period record and the positions
---   state-ready, ready-of            what a call's work goes by, with its areas and without
---   good-of, bad-of                  the two answers of `ordered`
---   AreasGood, areas-of, output-of   the lengths of the areas; area-short, area-fits: of one area
+-- What the tests of refusal 3 show, as facts on numbers. Here:
+--   Tests, tests-of, in-order-of             the five tests of a stream in order, from it and to it
+--   limits-in, limits-range, limits-of       rate and channels
+--   within-range                             a setting in its range
+--   Ranges, ranges-of, settings-of, ranges-same      the three of them, from their test and to it, and of equal settings
+--   period-in, prev-order, position-order    the period record and the positions
+--   state-ready, ready-of                    what a call's work goes by, in any areas and in none
+--   good-of, bad-of                          the two answers of `ordered`
+-- Passed on: both, neither, holds (`Testing`); AreasGood, areas-of, output-of, area-short, area-fits, over-same, room-same (`AreaTests`).
 -- Assumes nothing.
-use mathlib.Core.Path.{_≡_, refl, sym, subst}
-use mathlib.Core.Bool.{Bool, true, false, not, cond, _&&_, _||_, true≢false, false≢true}
+use mathlib.Core.Path.{_≡_, refl}
+use mathlib.Core.Bool.{Bool, true, false, not, cond, _&&_, _||_, true≢false}
 use mathlib.Core.Logic.{_⊎_, inl, inr}
 use mathlib.Core.List.{List, []}
-use Prim.Native.Nat.{ℕ, _*_, _^_, _≤_}
-use native.Mathlib.Omega.{arith}
+use Prim.Native.Nat.{ℕ, _*_}
 use borrow.Author.Tests.{leb-true, ltb-true, ltb-false, eqb-true, not-true}
 use lib.Dec.{T, leb, ltb, eqb}
 use lib.IntN.{ℤ}
 use lib.Ieee.{Float, le}
-use lib.ListN.{length}
-use Rattle.frames.specs.Areas.{Areas}
 use Rattle.floats.specs.Settings.{samplePeriod, minSpeed, maxSpeed, minPitch, maxPitch, minVolume, maxVolume}
-use Rattle.period.specs.Rates.{minPeriod, maxPeriod, maxRequired, InLimits}
+use Rattle.period.specs.Rates.{minPeriod, maxPeriod, InLimits}
 use Rattle.period.specs.Search.{widestGap}
-use Rattle.period.specs.Pitch as Pitch
+use Rattle.period.specs.Pitch.{InRange, PrevInOrder}
 use Rattle.rate.specs.declared.Rates.{Rates}
 use Rattle.rate.specs.Halving.{ratesOf}
-use Rattle.rate.specs.Tail.{ceilDiv}
-use Rattle.rate.specs.Tail as Tail
+use Rattle.rate.specs.Tail.{ceilDiv, PositionInOrder}
 use Rattle.stream.specs.declared.SonicStream.{SonicStream}
 use Rattle.stream.specs.declared.order.Order.{Order}
 use Rattle.stream.specs.Stream.{stateOf, unlent}
-use Rattle.stream.specs.Order.{orderOf, StateReady}
 use Rattle.stream.specs.Refusals.{
   rateBad,
   channelsBad,
@@ -42,29 +37,12 @@ use Rattle.stream.specs.Refusals.{
   prevInOrder,
   positionsInOrder,
   inOrder,
-  maxArea,
-  tooLong,
-  tooShort,
-  sizesBad,
-  partsBad,
-  areasBad,
-  outputBad,
 }
+use Rattle.stream.specs.Order.{orderOf, StateReady}
+pub use Rattle.stream.proofs.Testing.{both, neither, holds}
+pub use Rattle.stream.proofs.AreaTests.{AreasGood, areas-of, output-of, area-short, area-fits, over-same, room-same}
 
--- ---- tests joined
-
-pub both : (a b : Bool) → (a && b) ≡ true → (a ≡ true) × (b ≡ true)
-both true b e = (refl, e)
-both false b e = absurd (false≢true e)
-
-pub neither : (a b : Bool) → (a || b) ≡ false → (a ≡ false) × (b ≡ false)
-neither true b e = absurd (true≢false e)
-neither false b e = (refl, e)
-
-pub holds : {b : Bool} → b ≡ true → T b
-holds e = subst T (sym e) tt
-
--- ---- a stream in order
+-- ---- the tests
 
 -- the five tests
 pub record Tests (s : SonicStream) : Type 0 where
@@ -88,23 +66,32 @@ pub in-order-of : (s : SonicStream) → Tests s → inOrder s ≡ true
 unfolding inOrder
 in-order-of s t = rw (t .limits, t .period, t .settings, t .prev, t .positions)
 
+-- ---- rate and channels
+
+pub limits-in : (rate channels : ℕ) → rateBad rate ≡ false → channelsBad channels ≡ false → InLimits rate channels
+unfolding rateBad channelsBad
+limits-in rate channels r c =
+    let p = neither (ltb rate 1000) (ltb 500000 rate) r in
+    let q = neither (ltb channels 1) (ltb 32 channels) c in
+    record {
+      rate-low = ltb-false rate 1000 (p .0);
+      rate-high = ltb-false 500000 rate (p .1);
+      channels-low = ltb-false channels 1 (q .0);
+      channels-high = ltb-false 32 channels (q .1);
+    }
+
 pub limits-range : (s : SonicStream) → limitsInOrder s ≡ true → InLimits (s .rate) (s .channels)
-unfolding limitsInOrder rateBad channelsBad
+unfolding limitsInOrder
 limits-range s e =
     let a = both (not (rateBad (s .rate))) (not (channelsBad (s .channels))) e in
-    let r = neither (ltb (s .rate) 1000) (ltb 500000 (s .rate)) (not-true (rateBad (s .rate)) (a .0)) in
-    let c = neither (ltb (s .channels) 1) (ltb 32 (s .channels)) (not-true (channelsBad (s .channels)) (a .1)) in
-    record {
-      rate-low = ltb-false (s .rate) 1000 (r .0);
-      rate-high = ltb-false 500000 (s .rate) (r .1);
-      channels-low = ltb-false (s .channels) 1 (c .0);
-      channels-high = ltb-false 32 (s .channels) (c .1);
-    }
+    limits-in (s .rate) (s .channels) (not-true (rateBad (s .rate)) (a .0)) (not-true (channelsBad (s .channels)) (a .1))
 
 pub limits-of : (s : SonicStream) → inOrder s ≡ true → InLimits (s .rate) (s .channels)
 limits-of s e = limits-range s (tests-of s e .limits)
 
--- a setting in its range
+-- ---- settings
+
+-- one of them in its range
 pub within-range : (low high x : Float) → within low high x ≡ true → T (le low x) × T (le x high)
 within-range low high x e = let b = both (le low x) (le x high) e in (holds (b .0), holds (b .1))
 
@@ -126,28 +113,36 @@ pub settings-of : (s : SonicStream) → Ranges s → settingsInOrder s ≡ true
 unfolding settingsInOrder
 settings-of s r = rw (r .speed, r .pitch, r .volume)
 
-period-in : (rate q : ℕ) → (eqb q 0 || (leb (minPeriod rate) q && leb q (maxPeriod rate))) ≡ true → (q ≡ 0) ⊎ Pitch.InRange rate q
+pub ranges-same : (s t : SonicStream) → t .speed ≡ s .speed → t .pitch ≡ s .pitch → t .volume ≡ s .volume → Ranges s → Ranges t
+ranges-same s t speed pitch volume r =
+    record { speed = rw speed (r .speed); pitch = rw pitch (r .pitch); volume = rw volume (r .volume) }
+
+-- ---- the period record and the positions
+
+pub period-in : (rate q : ℕ) → (eqb q 0 || (leb (minPeriod rate) q && leb q (maxPeriod rate))) ≡ true → (q ≡ 0) ⊎ InRange rate q
 period-in rate q e = go (eqb q 0) refl e
   where
-    go : (b : Bool) → eqb q 0 ≡ b → (b || (leb (minPeriod rate) q && leb q (maxPeriod rate))) ≡ true → (q ≡ 0) ⊎ Pitch.InRange rate q
+    go : (b : Bool) → eqb q 0 ≡ b → (b || (leb (minPeriod rate) q && leb q (maxPeriod rate))) ≡ true → (q ≡ 0) ⊎ InRange rate q
     go true z h = inl (eqb-true q 0 z)
     go false z h =
         let r = both (leb (minPeriod rate) q) (leb q (maxPeriod rate)) h in
         inr (record { low = leb-true (minPeriod rate) q (r .0); high = leb-true q (maxPeriod rate) (r .1) })
 
-prev-order : (s : SonicStream) → prevInOrder s ≡ true → Pitch.PrevInOrder (s .rate) (unlent s .prev)
+pub prev-order : (s : SonicStream) → prevInOrder s ≡ true → PrevInOrder (s .rate) (unlent s .prev)
 unfolding prevInOrder stateOf
 prev-order s e =
     let q = s .«prev_period» in
     let r = both (eqb q 0 || (leb (minPeriod (s .rate)) q && leb q (maxPeriod (s .rate)))) (leb (s .«prev_min_diff») widestGap) e in
     record { period-in = period-in (s .rate) q (r .0); min-diff-in = leb-true (s .«prev_min_diff») widestGap (r .1) }
 
-position-order : (r : Rates) (s : SonicStream) → positionsInOrder r s ≡ true → Tail.PositionInOrder r (unlent s .at)
+pub position-order : (r : Rates) (s : SonicStream) → positionsInOrder r s ≡ true → PositionInOrder r (unlent s .at)
 unfolding positionsInOrder stateOf
 position-order r s e =
     let least : ℕ = ceilDiv (s .«old_rate_position» * r .new) (r .old) in
     let b = both (ltb (s .«old_rate_position») (r .old)) (eqb (s .«new_rate_position») least) e in
     record { below = ltb-true (s .«old_rate_position») (r .old) (b .0); least = eqb-true (s .«new_rate_position») least (b .1) }
+
+-- ---- what a call's work goes by
 
 -- whatever its areas hold
 pub state-ready : (s : SonicStream) → inOrder s ≡ true → (input stage : List ℤ) → StateReady (stateOf s input stage)
@@ -186,58 +181,3 @@ bad-of s e = go (inOrder s) refl e
     go : (b : Bool) → inOrder s ≡ b → orderBy s b ≡ Order.Bad → inOrder s ≡ false
     go true p h = let z : true ≡ false = cc in absurd (true≢false z)
     go false p h = p
-
--- ---- the areas
-
--- refusal 4 is not met
-pub record AreasGood (s : SonicStream) (a : Areas) : Type 0 where
-  pub input-short : length (a .input) ≤ 2 ^ 24
-  pub stage-short : length (a .stage) ≤ 2 ^ 24
-  pub output-short : length (a .output) ≤ 2 ^ 24
-  pub scratch-short : length (a .scratch) ≤ 2 ^ 24
-  pub scratch-fits : maxRequired (s .rate) ≤ length (a .scratch)
-  pub held : s .held .0 * s .channels ≤ length (a .input)
-  pub tail : s .tail .0 * s .channels ≤ length (a .stage)
-  pub waiting : s .waiting .0 * s .channels ≤ length (a .output)
-
-area-short : (area : List ℤ) → tooLong area ≡ false → length area ≤ 2 ^ 24
-area-short area e = let h : length area ≤ maxArea = ltb-false maxArea (length area) e in omega arith
-
-area-fits : (channels k : ℕ) (area : List ℤ) → tooShort channels k area ≡ false → k * channels ≤ length area
-area-fits channels k area e = ltb-false (length area) (k * channels) e
-
-pub areas-of : (s : SonicStream) (a : Areas) → areasBad s a ≡ false → AreasGood s a
-unfolding areasBad sizesBad partsBad
-areas-of s a e =
-    let input : Bool = tooLong (a .input) in
-    let stage : Bool = tooLong (a .stage) in
-    let output : Bool = tooLong (a .output) in
-    let scratch : Bool = tooLong (a .scratch) in
-    let few : Bool = ltb (length (a .scratch)) (maxRequired (s .rate)) in
-    let held : Bool = tooShort (s .channels) (s .held .0) (a .input) in
-    let tail : Bool = tooShort (s .channels) (s .tail .0) (a .stage) in
-    let waiting : Bool = tooShort (s .channels) (s .waiting .0) (a .output) in
-    let p = neither (sizesBad s a) (partsBad s a) e in
-    let i = neither input (stage || (output || (scratch || few))) (p .0) in
-    let t = neither stage (output || (scratch || few)) (i .1) in
-    let o = neither output (scratch || few) (t .1) in
-    let x = neither scratch few (o .1) in
-    let h = neither held (tail || waiting) (p .1) in
-    let w = neither tail waiting (h .1) in
-    record {
-      input-short = area-short (a .input) (i .0);
-      stage-short = area-short (a .stage) (t .0);
-      output-short = area-short (a .output) (o .0);
-      scratch-short = area-short (a .scratch) (x .0);
-      scratch-fits = ltb-false (length (a .scratch)) (maxRequired (s .rate)) (x .1);
-      held = area-fits (s .channels) (s .held .0) (a .input) (h .0);
-      tail = area-fits (s .channels) (s .tail .0) (a .stage) (w .0);
-      waiting = area-fits (s .channels) (s .waiting .0) (a .output) (w .1);
-    }
-
-pub output-of : (s : SonicStream) (output : List ℤ) → outputBad s output ≡ false
-    → (s .waiting .0 * s .channels ≤ length output) × (length output ≤ 2 ^ 24)
-unfolding outputBad
-output-of s output e =
-    let p = neither (tooLong output) (tooShort (s .channels) (s .waiting .0) output) e in
-    (area-fits (s .channels) (s .waiting .0) output (p .1), area-short output (p .0))

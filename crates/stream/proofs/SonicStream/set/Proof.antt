@@ -1,4 +1,4 @@
--- `stream::SonicStream::set` meets its contract. Assumes nothing.
+-- `stream::SonicStream::set` meets its contract: places, what a stream in order shows, the answers, what is closed by search. Assumes nothing.
 use borrow.Author.Needs.{needs}
 use mathlib.Core.Path.{_≡_, sym, _∙_}
 use mathlib.Core.Bool.{true}
@@ -11,6 +11,49 @@ use Rattle.stream.proofs.InOrder.{good-of, bad-of}
 use Rattle.stream.proofs.SonicStream.set.Statement.{statement}
 use Rattle.stream.proofs.SonicStream.set.Tie as tie
 
+-- ---- places
+
+abbrev ordered-at : tie.After-known-told → tie.After-ordered
+ordered-at c = c .before .before .before
+
+-- ---- in order: the test, and the period of the rate
+
+good : (c : tie.After-known-told) → let s = ordered-at c .before .args .self in (inOrder s ≡ true) × (c .before .order .given .0 .0 ≡ samplePeriod (s .rate))
+good c =
+    let o = ordered-at c in
+    good-of (o .before .args .self) _ (sym (o .ordered .ensures) ∙ c .before .order .given .1)
+
+-- ---- the answers
+
+returns : tie.Need-returns
+unfolding setCall
+returns c =
+    let o = c .before .before in
+    simp (bad-of (o .before .args .self) (sym (o .ordered .ensures) ∙ c .enum-told .given .1))
+
+returns-2 : tie.Need-returns-2
+unfolding setCall withSetting streamOf stateOf
+returns-2 c =
+    let v = c .before .before in
+    let g = good (v .before .before) in
+    simp (g .0, g .1, v .setting .given .1, c .clamp .ensures, length-framesOf)
+
+returns-3 : tie.Need-returns-3
+unfolding setCall withSetting streamOf stateOf
+returns-3 c =
+    let v = c .before .before in
+    let g = good (v .before .before) in
+    simp (g .0, g .1, v .setting2 .given .1, c .clamp2 .ensures, length-framesOf)
+
+returns-4 : tie.Need-returns-4
+unfolding setCall withSetting streamOf stateOf
+returns-4 c =
+    let v = c .before .before in
+    let g = good (v .before .before) in
+    simp (g .0, g .1, v .setting3 .given .1, c .clamp3 .ensures, length-framesOf)
+
+-- ---- closed by search
+
 ordered-requires : tie.Need-ordered-requires
 ordered-requires c κs = search needs
 
@@ -19,19 +62,6 @@ enum-known-order c = search needs
 
 enum-told : tie.Need-enum-told
 enum-told c = search needs
-
-returns : tie.Need-returns
-unfolding setCall
-returns c =
-    let o = c .before .before in
-    simp (bad-of (o .before .args .self) (sym (o .ordered .ensures) ∙ c .enum-told .given .1))
-
--- in order, and the period is that of the rate
-good : (c : tie.After-known-told) → let s = c .before .before .before .before .args .self in
-    (inOrder s ≡ true) × (c .before .order .given .0 .0 ≡ samplePeriod (s .rate))
-good c =
-    let o = c .before .before .before in
-    good-of (o .before .args .self) _ (sym (o .ordered .ensures) ∙ c .before .order .given .1)
 
 enum-known-setting : tie.Need-enum-known-setting
 enum-known-setting c = search needs
@@ -50,27 +80,6 @@ enum-known-setting-3 c = search needs
 
 clamp-requires-3 : tie.Need-clamp-requires-3
 clamp-requires-3 c κs = search needs
-
-returns-2 : tie.Need-returns-2
-unfolding setCall withSetting streamOf stateOf
-returns-2 c =
-    let k = c .before .before in
-    let g = good (k .before .before) in
-    simp (g .0, g .1, k .setting .given .1, c .clamp .ensures, length-framesOf)
-
-returns-3 : tie.Need-returns-3
-unfolding setCall withSetting streamOf stateOf
-returns-3 c =
-    let k = c .before .before in
-    let g = good (k .before .before) in
-    simp (g .0, g .1, k .setting2 .given .1, c .clamp2 .ensures, length-framesOf)
-
-returns-4 : tie.Need-returns-4
-unfolding setCall withSetting streamOf stateOf
-returns-4 c =
-    let k = c .before .before in
-    let g = good (k .before .before) in
-    simp (g .0, g .1, k .setting3 .given .1, c .clamp3 .ensures, length-framesOf)
 
 pub set-spec : {M : Type 1} → statement M
 set-spec =
