@@ -94,6 +94,8 @@ positions-of r s h =
     let least : ℕ = ceilDiv (s .«old_rate_position» * r .new) (r .old) in
     rw (lt-ltb (s .«old_rate_position») (r .old) (h .below), eq-eqb (s .«new_rate_position») least (h .least))
 
+-- ---- in order, from the facts
+
 pub ready-in-order : (s : SonicStream) → StreamReady s → Ranges s → inOrder s ≡ true
 unfolding stateOf
 ready-in-order s r g =
