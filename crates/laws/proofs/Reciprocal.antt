@@ -1,7 +1,7 @@
--- Division by a reciprocal in parts of 2^44: n·(2^44/k + 1)/2^44 is n/k where (n + k)·k is at most 2^44; the same of integers, toward zero.
--- Assumes nothing.
+-- Division by a reciprocal in parts of 2^44: n·m/2^44 is n/k for the m of `reciprocalOf k`, where (n + k)·k is at most 2^44; the same of
+-- integers, toward zero. Assumes nothing.
 use mathlib.Core.Path.{_≡_, refl, sym, ap, _∙_, subst}
-use Prim.Native.Nat.{ℕ, zero, suc, _+_, _*_, _/_, _^_, _≤_, _<_}
+use Prim.Native.Nat.{ℕ, zero, suc, _+_, _*_, _/_, _≤_, _<_}
 use native.Mathlib.Nat.{
   le-trans,
   mul-add,
@@ -20,6 +20,7 @@ use native.Mathlib.Nat.{
 use native.Mathlib.Omega.{arith}
 use lib.IntN.{ℤ, pos, negsuc, negℤ, natAbs, _*ℤ_}
 use lib.Signed.{quotZ}
+use Rattle.laws.specs.Reciprocal.{reciprocalParts, reciprocalOf}
 
 -- q is n/k, w is p/k: n·(w + 1)/p is q
 scaled-is : (n k p q w : ℕ) → q * k ≤ n → n < q * k + k → k * w ≤ p → p ≤ k * (w + 1) → (q + 1) * k ≤ w → n * (w + 1) / p ≡ q
@@ -40,14 +41,14 @@ scaled-le n k p w s size under =
 next-le : (n k q w : ℕ) → q * k ≤ n → n + k ≤ w → (q + 1) * k ≤ w
 next-le n k q w front small = omega arith
 
-pub reciprocal-divides : (n k : ℕ) → 1 ≤ k → (n + k) * k ≤ 2 ^ 44 → n * (2 ^ 44 / k + 1) / 2 ^ 44 ≡ n / k
+pub reciprocal-divides : (n k : ℕ) → 1 ≤ k → (n + k) * k ≤ reciprocalParts → n * reciprocalOf k / reciprocalParts ≡ n / k
 reciprocal-divides n k some small =
-    scaled-is n k (2 ^ 44) (n / k) (2 ^ 44 / k) (div-mul-le-self n k) (lt-div-mul-add some) (mul-div-le (2 ^ 44) k)
-    (le-of-lt (lt-mul-div-succ (2 ^ 44) some)) (next-le n k (n / k) (2 ^ 44 / k) (div-mul-le-self n k) (le-div-iff-mul-le some .1 small))
+    scaled-is n k reciprocalParts (n / k) (reciprocalParts / k) (div-mul-le-self n k) (lt-div-mul-add some) (mul-div-le reciprocalParts k)
+    (le-of-lt (lt-mul-div-succ reciprocalParts some)) (next-le n k (n / k) (reciprocalParts / k) (div-mul-le-self n k) (le-div-iff-mul-le some .1 small))
 
 -- the product, where n is at most s·k
-pub product-le : (n k s : ℕ) → n ≤ s * k → n * (2 ^ 44 / k + 1) ≤ s * (2 ^ 44 + k)
-product-le n k s size = scaled-le n k (2 ^ 44) (2 ^ 44 / k) s size (mul-div-le (2 ^ 44) k)
+pub product-le : (n k s : ℕ) → n ≤ s * k → n * reciprocalOf k ≤ s * (reciprocalParts + k)
+product-le n k s size = scaled-le n k reciprocalParts (reciprocalParts / k) s size (mul-div-le reciprocalParts k)
 
 -- ---- integers
 
@@ -55,7 +56,7 @@ quot-neg : (x k : ℕ) → quotZ (negℤ (pos x)) (pos k) ≡ negℤ (pos (x / k
 quot-neg zero k = rw (zero-div k)
 quot-neg (suc x) k = refl
 
-pub quot-by-reciprocal : (z : ℤ) (k : ℕ) → 1 ≤ k → (natAbs z + k) * k ≤ 2 ^ 44 → quotZ (z *ℤ pos (2 ^ 44 / k + 1)) (pos (2 ^ 44)) ≡ quotZ z (pos k)
+pub quot-by-reciprocal : (z : ℤ) (k : ℕ) → 1 ≤ k → (natAbs z + k) * k ≤ reciprocalParts → quotZ (z *ℤ pos (reciprocalOf k)) (pos reciprocalParts) ≡ quotZ z (pos k)
 quot-by-reciprocal (pos a) k some small = ap pos (reciprocal-divides a k some small)
 quot-by-reciprocal (negsuc a) k some small =
-    quot-neg (suc a * (2 ^ 44 / k + 1)) (2 ^ 44) ∙ ap (λ (n : ℕ). negℤ (pos n)) (reciprocal-divides (suc a) k some small)
+    quot-neg (suc a * reciprocalOf k) reciprocalParts ∙ ap (λ (n : ℕ). negℤ (pos n)) (reciprocal-divides (suc a) k some small)

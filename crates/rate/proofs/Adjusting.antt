@@ -1,8 +1,8 @@
 -- What the two ways of a conversion leave, in the words of the contracts. Assumes nothing.
 use mathlib.Core.Path.{_≡_, refl, sym, ap, _∙_, subst}
-use mathlib.Core.Bool.{Bool, true, false}
+use mathlib.Core.Bool.{true, false}
 use mathlib.Core.List.{List, [], _∷_, _++_}
-use Prim.Native.Nat.{ℕ, _+_, _-_, _*_, _≤_, _<_}
+use Prim.Native.Nat.{ℕ, _+_, _*_, _≤_, _<_}
 use native.Mathlib.Nat.{add-mul, zero-mul}
 use native.Mathlib.Omega.{arith}
 use lib.ListN.{length, drop, length-drop}
@@ -11,15 +11,13 @@ use lib.IntN.{ℤ}
 use lib.Ieee.{Float, eq}
 use Rattle.floats.specs.Numbers.{one}
 use Rattle.frames.specs.Framing.{Frame, framesOf, Behind}
-use Rattle.frames.proofs.Framing.{framesOf-add, length-framesOf, drop-framesOf}
+use Rattle.frames.proofs.Framing.{framesOf-add, length-framesOf}
 use Rattle.frames.proofs.Behind.{behind-paste, behind-none}
 use Rattle.rate.specs.declared.Position.{Position}
-use Rattle.rate.specs.declared.Rates.{Rates}
 use Rattle.rate.specs.declared.Adjustment.{Adjustment}
-use Rattle.rate.specs.declared.scan.ScanEnd.{ScanEnd}
 use Rattle.rate.specs.Halving.{ratesOf}
 use Rattle.rate.specs.Conversion.{Conversion, convert, joinTail, adjustRate}
-use Rattle.rate.specs.Adjusting.{ScannedAs, ScannedBy, ScanEnsures, AdjustedBy, newFrames, StraightOutEnsures, ConvertEnsures, AdjustEnsures}
+use Rattle.rate.specs.Adjusting.{AdjustedBy, newFrames, StraightOutEnsures, ScanEnsures, AdjustEnsures}
 
 -- the tail as it was
 stays : (ch tail : ℕ) (stage : List ℤ) → framesOf ch tail (drop (0 * ch) stage) ≡ framesOf ch tail stage
@@ -46,34 +44,6 @@ pub straight-full : (ch tail new w : ℕ) (at : Position) (stage entry : List �
 straight-full ch tail new w at stage entry h =
     record { kept = refl; over = subst (λ (k : ℕ). length entry < (w + k) * ch) (sym (length-framesOf ch new (drop (tail * ch) stage))) h }
 
--- ---- a scan of the tail
-
-module _ (ch : ℕ) (r : Rates) (tail w : ℕ) (at : Position) (stage entry exit : List ℤ) (e : ScanEnd)
-    (scanned : ScanEnsures ch w r at (framesOf ch tail stage) entry exit e) where
-  pub convert-full : e .full ≡ true → ConvertEnsures ch r tail w at stage entry exit Adjustment.Full
-  unfolding convert
-  convert-full f = subst (λ (b : Bool). ScannedBy b ch w r at (framesOf ch tail stage) entry exit e) f scanned
-
-  scanned-to : e .full ≡ false → ScannedAs ch w r at (framesOf ch tail stage) entry exit e
-  scanned-to f = subst (λ (b : Bool). ScannedBy b ch w r at (framesOf ch tail stage) entry exit e) f scanned
-
-  pub consumed-le : e .full ≡ false → e .consumed .0 ≤ tail
-  consumed-le f = omega (arith, scanned-to f .consumed, length-framesOf ch tail stage)
-
-  pub convert-done : e .full ≡ false → ConvertEnsures ch r tail w at stage entry exit
-      (Adjustment.Done (record { made = e .made; from = record { 0 = e .consumed .0 }; left = record { 0 = tail - e .consumed .0 }; at = e .at }))
-  unfolding convert
-  convert-done f =
-      let k : ℕ = e .consumed .0 in
-      let s = scanned-to f in
-      let l = consumed-le f in
-      record {
-        behind = s .behind;
-        rest = sym (drop-framesOf ch k tail stage l) ∙ ap (λ (i : ℕ). drop i (framesOf ch tail stage)) (s .consumed);
-        at = s .at;
-        within = omega arith;
-      }
-
 -- ---- by the pitch and the number of new frames
 
 module _ (ch rate : ℕ) (pitch : Float) (at : Position) (tail new w : ℕ) (stage entry exit : List ℤ) (a : Adjustment) where
@@ -92,7 +62,7 @@ module _ (ch rate : ℕ) (pitch : Float) (at : Position) (tail new w : ℕ) (sta
   unfolding adjustRate
   other-pitch e fs = rw e
 
-  pub some-new : eq pitch one ≡ false → 0 < new → ConvertEnsures ch (ratesOf rate pitch) (tail + new) w at stage entry exit a
+  pub some-new : eq pitch one ≡ false → 0 < new → ScanEnsures ch (ratesOf rate pitch) (tail + new) w at stage entry exit a
       → AdjustEnsures ch rate pitch at tail new w stage entry exit a
   some-new e h d =
       let fs : List Frame = newFrames ch tail new stage in

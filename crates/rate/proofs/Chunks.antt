@@ -11,6 +11,7 @@ use lib.ListN.{length, take, drop, length-append, length-drop}
 use lib.Seq.{take-append-le, drop-append-le, drop-drop}
 use Rattle.floats.specs.Numbers.{one}
 use Rattle.frames.specs.Framing.{Frame}
+use Rattle.sinc.specs.Sinc.{sincFilterPoints}
 use Rattle.rate.specs.declared.Rates.{Rates}
 use Rattle.rate.specs.declared.Position.{Position}
 use Rattle.rate.specs.Halving.{ratesOf}
@@ -50,7 +51,7 @@ module _ (r : Rates) where
   scan-add zero k s l = ap (λ (i : ℕ). scan r i s l) (zero-add k)
   scan-add (suc j) k s l =
       let one : 1 + j ≡ suc j = omega arith in
-      let first : List Frame = emit r (due r s) s (take 12 l) in
+      let first : List Frame = emit r (due r s) s (take sincFilterPoints l) in
       let more : List Frame = scan r j (next r s) (drop 1 l) in
       let ahead : drop j (drop 1 l) ≡ drop (suc j) l = drop-drop j 1 l ∙ ap (λ (i : ℕ). drop i l) one in
       ap (λ (i : ℕ). scan r i s l) (suc-add j k)
@@ -60,21 +61,21 @@ module _ (r : Rates) where
 
   -- one tail frame more
   pub scan-snoc : (j : ℕ) (s : Position) (l : List Frame)
-      → scan r (suc j) s l ≡ scan r j s l ++ emit r (due r (steps r j s)) (steps r j s) (take 12 (drop j l))
+      → scan r (suc j) s l ≡ scan r j s l ++ emit r (due r (steps r j s)) (steps r j s) (take sincFilterPoints (drop j l))
   unfolding scan
   scan-snoc j s l =
       let e : suc j ≡ j + 1 = omega arith in
       let t : Position = steps r j s in
       ap (λ (i : ℕ). scan r i s l) e ∙ scan-add j 1 s l
-      ∙ ap (λ (m : List Frame). scan r j s l ++ m) (append-nil (emit r (due r t) t (take 12 (drop j l))))
+      ∙ ap (λ (m : List Frame). scan r j s l ++ m) (append-nil (emit r (due r t) t (take sincFilterPoints (drop j l))))
 
   -- what stands behind the frames in reach has no part in the scan
-  pub scan-append : (j : ℕ) (s : Position) (a b : List Frame) → j + 12 ≤ length a → scan r j s (a ++ b) ≡ scan r j s a
+  pub scan-append : (j : ℕ) (s : Position) (a b : List Frame) → j + sincFilterPoints ≤ length a → scan r j s (a ++ b) ≡ scan r j s a
   unfolding scan
   scan-append zero s a b h = refl
   scan-append (suc j) s [] b h = absurd (omega arith)
   scan-append (suc j) s (x ∷ xs) b h =
-      let e : take 12 ((x ∷ xs) ++ b) ≡ take 12 (x ∷ xs) = take-append-le 12 (x ∷ xs) b (omega arith) in
+      let e : take sincFilterPoints ((x ∷ xs) ++ b) ≡ take sincFilterPoints (x ∷ xs) = take-append-le sincFilterPoints (x ∷ xs) b (omega arith) in
       let ih : scan r j (next r s) (xs ++ b) ≡ scan r j (next r s) xs = scan-append j (next r s) xs b (omega arith) in
       rw (e, ih)
 

@@ -9,6 +9,7 @@ use lib.Dec.{eqb}
 use lib.ListN.{length, take, drop, length-append}
 use borrow.Author.Tests.{eqb-true}
 use Rattle.frames.specs.Framing.{Frame}
+use Rattle.sinc.specs.Sinc.{sincFilterPoints}
 use Rattle.rate.specs.declared.Rates.{Rates}
 use Rattle.rate.specs.declared.Position.{Position}
 use Rattle.rate.specs.Tail.{start, ceilDiv, PositionInOrder, due, next, emit, scan}
@@ -60,10 +61,10 @@ module _ (r : Rates) where
       let e : s .old + 0 ≡ s .old = omega arith in
       omega (arith, h .least, ap reach e)
   scan-count (suc k) s l h =
-      let m : List Frame = emit r (due r s) s (take 12 l) in
+      let m : List Frame = emit r (due r s) s (take sincFilterPoints l) in
       let more : List Frame = scan r k (next r s) (drop 1 l) in
       let ih : (next r s) .new + length more ≡ reach ((next r s) .old + k) = scan-count k (next r s) (drop 1 l) (next-order r s h) in
-      omega (arith, turn-count s h k (length more) ih, length-append m more, length-emit r (due r s) s (take 12 l))
+      omega (arith, turn-count s h k (length more) ih, length-append m more, length-emit r (due r s) s (take sincFilterPoints l))
 
   -- k tail frames consumed from positions at 0 make k·N/O frames, rounded up
   pub start-count : (k : ℕ) (l : List Frame) → 0 < r .old → length (scan r k start l) ≡ ceilDiv (k * r .new) (r .old)

@@ -93,7 +93,7 @@ record Near (r : Rates) : Type 0 where
   some-new : 1 ≤ r .new
   some-old : 1 ≤ r .old
 
-half-near : (r : Rates) → Near r → (16384 < r .new) ⊎ (16384 < r .old) → Near (half r)
+half-near : (r : Rates) → Near r → (maxHalvedRate < r .new) ⊎ (maxHalvedRate < r .old) → Near (half r)
 half-near r n o = record {
   new-le = omega (arith, n .new-le);
   old-le = omega (arith, n .old-le);
@@ -109,9 +109,9 @@ halved-near (suc k) r n = halved-suc Near k r (λ o. halved-near k (half r) (hal
 -- N and O of a rate in 1,000..=500,000 and a pitch in 0.05..=20 lie in 1..=16,384
 pub record Within (r : Rates) : Type 0 where
   pub new-least : 1 ≤ r .new
-  pub new-most : r .new ≤ 16384
+  pub new-most : r .new ≤ maxHalvedRate
   pub old-least : 1 ≤ r .old
-  pub old-most : r .old ≤ 16384
+  pub old-most : r .old ≤ maxHalvedRate
 
 pub rates-within : (rate : ℕ) (pitch : Float) → 1000 ≤ rate → rate ≤ 500000 → T (le minPitch pitch) → T (le pitch maxPitch) → Within (ratesOf rate pitch)
 unfolding ratesOf

@@ -9,6 +9,7 @@ use lib.Dec.{eqb}
 use borrow.Author.Tests.{eqb-false, eq-eqb, ne-eqb}
 use Rattle.rate.specs.declared.Rates.{Rates}
 use Rattle.rate.specs.declared.Position.{Position}
+use Rattle.rate.specs.Halving.{maxHalvedRate}
 use Rattle.rate.specs.Tail.{start, ceilDiv, PositionInOrder, due, next, steps}
 use Rattle.rate.specs.Adjusting.{Placed}
 use Rattle.rate.proofs.Ceiling.{ceilDiv-le, le-ceilDiv-mul, lt-ceilDiv, ceilDiv-mono, ceilDiv-zero}
@@ -71,9 +72,9 @@ due-no-more r s i p h = omega (arith, ceilDiv-le ((s .old + 1) * r .new) (r .old
 
 -- they stay small, and p·N is never above n·O
 pub record Small (r : Rates) (s : Position) : Type 0 where
-  pub below : s .old < 16384
-  pub right-most : (s .old + 1) * r .new ≤ 268435456
-  pub last-most : s .new + due r s ≤ 268435456
+  pub below : s .old < maxHalvedRate
+  pub right-most : (s .old + 1) * r .new ≤ maxHalvedRate * maxHalvedRate
+  pub last-most : s .new + due r s ≤ maxHalvedRate * maxHalvedRate
   pub passed : s .old * r .new ≤ s .new * r .old
 
 pub placed-small : (r : Rates) (s : Position) → Placed r s → Small r s
@@ -81,8 +82,8 @@ placed-small r s h =
     let o = h .order in
     let p : 0 < r .old = omega (arith, o .below) in
     let right : ℕ = (s .old + 1) * r .new in
-    let a : s .old + 1 ≤ 16384 = omega (arith, o .below, h .old-most) in
-    let b : right ≤ 16384 * 16384 = mul-le-mul a (h .new-most) in
+    let a : s .old + 1 ≤ maxHalvedRate = omega (arith, o .below, h .old-most) in
+    let b : right ≤ maxHalvedRate * maxHalvedRate = mul-le-mul a (h .new-most) in
     let c : ceilDiv right (r .old) ≤ right = ceilDiv-le right (r .old) right p (omega (arith, mul-le-mul-left {m = 1} {n = r .old} right p)) in
     let d : ceilDiv (s .old * r .new) (r .old) ≤ s .new = omega (arith, o .least) in
     record {

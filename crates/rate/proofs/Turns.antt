@@ -1,6 +1,5 @@
 -- The two loops of the scan: what holds at each, their starts, turns and ends. Assumes nothing.
 use mathlib.Core.Path.{_≡_, refl, sym, ap, _∙_, subst}
-use mathlib.Core.Bool.{false}
 use mathlib.Core.List.{List, [], _∷_, _++_, append-assoc, append-nil}
 use Prim.Native.Nat.{ℕ, suc, _+_, _-_, _*_, _≤_, _<_}
 use native.Mathlib.Omega.{arith}
@@ -10,13 +9,16 @@ use lib.ListN.{length, take, drop, length-append}
 use lib.Seq.{take-take, drop-drop, take-all, length-paste, paste}
 use lib.IntN.{ℤ}
 use Rattle.frames.specs.Framing.{Frame, framesOf, Behind, NoRoom}
-use Rattle.frames.proofs.Framing.{framesOf-add, framesOf-cong, drop-take, length-framesOf}
+use Rattle.frames.proofs.Framing.{framesOf-add, framesOf-cong, drop-framesOf, drop-take, length-framesOf}
 use Rattle.frames.proofs.Pasted.{paste-front, paste-part}
 use Rattle.frames.proofs.Behind.{behind-length, behind-none}
+use Rattle.sinc.specs.Sinc.{sincFilterPoints}
 use Rattle.rate.specs.declared.Rates.{Rates}
 use Rattle.rate.specs.declared.Position.{Position}
+use Rattle.rate.specs.declared.Adjustment.{Adjustment}
 use Rattle.rate.specs.Tail.{due, next, steps, interpolated, emit, scan, consumable}
-use Rattle.rate.specs.Adjusting.{ScannedAs}
+use Rattle.rate.specs.Conversion.{convert}
+use Rattle.rate.specs.Adjusting.{ScanEnsures}
 use Rattle.rate.proofs.Positions.{steps-snoc}
 use Rattle.rate.proofs.Chunks.{length-emit, emit-snoc, scan-add, scan-snoc}
 
@@ -98,7 +100,7 @@ module _ {ch w : ℕ} {r : Rates} {t : Position} {x : List Frame} {entry out : L
 -- ---- an inner loop that began at the outer loop's area out₁
 
 module _ {ch w : ℕ} {r : Rates} {s t : Position} {l x : List Frame} {entry out₁ out : List ℤ} {j m₁ m n : ℕ} (a : Scanning ch w r s l entry out₁ j m₁ t)
-    (b : Emitting ch w r t x out₁ out (framesOf ch m₁ (drop (w * ch) out₁)) m n) (window : take 12 (drop j l) ≡ x) where
+    (b : Emitting ch w r t x out₁ out (framesOf ch m₁ (drop (w * ch) out₁)) m n) (window : take sincFilterPoints (drop j l) ≡ x) where
   -- as the outer loop sees it
   emitted : Behind ch w m entry out (scan r j s l ++ emit r (b .i) t x)
   emitted = record {
@@ -111,7 +113,7 @@ module _ {ch w : ℕ} {r : Rates} {s t : Position} {l x : List Frame} {entry out
   -- all frames due make one tail frame more
   all-due : scan r (suc j) s l ≡ scan r j s l ++ emit r (due r t) t x
   all-due =
-      scan-snoc r j s l ∙ ap (λ (z : Position). scan r j s l ++ emit r (due r z) z (take 12 (drop j l))) (sym (a .at))
+      scan-snoc r j s l ∙ ap (λ (z : Position). scan r j s l ++ emit r (due r z) z (take sincFilterPoints (drop j l))) (sym (a .at))
       ∙ ap (λ (z : List Frame). scan r j s l ++ emit r (due r t) t z) window
 
   -- the outer loop's turn
@@ -138,12 +140,16 @@ module _ {ch w : ℕ} {r : Rates} {s t : Position} {l x : List Frame} {entry out
 -- ---- the ends, as the contract says them
 
 module _ {ch w : ℕ} {r : Rates} {s t : Position} {entry out : List ℤ} {j m : ℕ} (tail : ℕ) (stage : List ℤ) where
-  pub scanned-all : Scanning ch w r s (framesOf ch tail stage) entry out j m t → j ≡ tail - 12
-      → ScannedAs ch w r s (framesOf ch tail stage) entry out (record { full = false; made = record { 0 = m }; consumed = record { 0 = j }; at = t })
-  scanned-all a e =
-      let k : j ≡ consumable (framesOf ch tail stage) = e ∙ ap (λ (i : ℕ). i - 12) (sym (length-framesOf ch tail stage)) in
+  pub scan-done : Scanning ch w r s (framesOf ch tail stage) entry out j m t → j ≡ tail - sincFilterPoints
+      → ScanEnsures ch r tail w s stage entry out
+      (Adjustment.Done (record { made = record { 0 = m }; from = record { 0 = j }; left = record { 0 = tail - j }; at = t }))
+  unfolding convert
+  scan-done a e =
+      let l : List Frame = framesOf ch tail stage in
+      let k : j ≡ consumable l = e ∙ ap (λ (i : ℕ). i - sincFilterPoints) (sym (length-framesOf ch tail stage)) in
       record {
-        behind = subst (λ (i : ℕ). Behind ch w m entry out (scan r i s (framesOf ch tail stage))) k (a .behind);
-        consumed = k;
+        behind = subst (λ (i : ℕ). Behind ch w m entry out (scan r i s l)) k (a .behind);
+        rest = sym (drop-framesOf ch j tail stage (omega arith)) ∙ ap (λ (i : ℕ). drop i l) k;
         at = a .at ∙ ap (λ (i : ℕ). steps r i s) k;
+        within = omega arith;
       }

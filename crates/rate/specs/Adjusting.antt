@@ -1,6 +1,5 @@
 -- What the functions require and ensure of their areas: ch channels, w frames waiting in the output. Definitions only.
 use mathlib.Core.Path.{_≡_}
-use mathlib.Core.Bool.{Bool, true, false}
 use mathlib.Core.List.{List}
 use Prim.Native.Nat.{ℕ, _+_, _*_, _^_, _≤_}
 use lib.IntN.{ℤ}
@@ -11,9 +10,8 @@ use Rattle.rate.specs.declared.Rates.{Rates}
 use Rattle.rate.specs.declared.Position.{Position}
 use Rattle.rate.specs.declared.Adjusted.{Adjusted}
 use Rattle.rate.specs.declared.Adjustment.{Adjustment}
-use Rattle.rate.specs.declared.scan.ScanEnd.{ScanEnd}
 use Rattle.rate.specs.Halving.{maxHalvedRate, ratesOf}
-use Rattle.rate.specs.Tail.{PositionInOrder, scan, steps, consumable}
+use Rattle.rate.specs.Tail.{PositionInOrder}
 use Rattle.rate.specs.Conversion.{Conversion, convert, adjustRate}
 
 -- ---- required
@@ -38,20 +36,6 @@ pub record AdjustReady (ch rate : ℕ) (pitch : Float) (at : Position) (tail new
 
 -- ---- ensured
 
--- how a scan of the tail l ended
-pub record ScannedAs (ch w : ℕ) (r : Rates) (s : Position) (l : List Frame) (entry exit : List ℤ) (e : ScanEnd) : Type 0 where
-  pub behind : Behind ch w (e .made .0) entry exit (scan r (consumable l) s l)
-  pub consumed : e .consumed .0 ≡ consumable l
-  pub at : e .at ≡ steps r (consumable l) s
-
--- by whether it was full
-abbrev pub ScannedBy : Bool → ℕ → ℕ → Rates → Position → List Frame → List ℤ → List ℤ → ScanEnd → Type 0
-ScannedBy true ch w r s l entry exit e = NoRoom ch w entry exit (scan r (consumable l) s l)
-ScannedBy false ch w r s l entry exit e = ScannedAs ch w r s l entry exit e
-
-abbrev pub ScanEnsures : ℕ → ℕ → Rates → Position → List Frame → List ℤ → List ℤ → ScanEnd → Type 0
-ScanEnsures ch w r s l entry exit e = ScannedBy (e .full) ch w r s l entry exit e
-
 -- a conversion was done: its frames stand behind those that wait, and what is left of the tail lies within the stage's first frames
 pub record AdjustedAs (ch w staged : ℕ) (c : Conversion) (stage entry exit : List ℤ) (a : Adjusted) : Type 0 where
   pub behind : Behind ch w (a .made .0) entry exit (c .made)
@@ -68,13 +52,13 @@ AdjustedBy ch w staged c stage entry exit (Adjustment.Done a) = AdjustedAs ch w 
 abbrev pub newFrames : ℕ → ℕ → ℕ → List ℤ → List Frame
 newFrames ch tail new stage = framesOf ch new (drop (tail * ch) stage)
 
--- what each function ensures: the frames went straight out, the tail was converted, or one of the two by the pitch
+-- what each function ensures: the frames went straight out, the tail was scanned, or one of the two by the pitch
 abbrev pub StraightOutEnsures : ℕ → ℕ → ℕ → ℕ → Position → List ℤ → List ℤ → List ℤ → Adjustment → Type 0
 StraightOutEnsures ch tail new w at stage entry exit a =
     AdjustedBy ch w (tail + new) (record { made = newFrames ch tail new stage; rest = framesOf ch tail stage; at = at }) stage entry exit a
 
-abbrev pub ConvertEnsures : ℕ → Rates → ℕ → ℕ → Position → List ℤ → List ℤ → List ℤ → Adjustment → Type 0
-ConvertEnsures ch r tail w at stage entry exit a = AdjustedBy ch w tail (convert r at (framesOf ch tail stage)) stage entry exit a
+abbrev pub ScanEnsures : ℕ → Rates → ℕ → ℕ → Position → List ℤ → List ℤ → List ℤ → Adjustment → Type 0
+ScanEnsures ch r tail w at stage entry exit a = AdjustedBy ch w tail (convert r at (framesOf ch tail stage)) stage entry exit a
 
 abbrev pub AdjustEnsures : ℕ → ℕ → Float → Position → ℕ → ℕ → ℕ → List ℤ → List ℤ → List ℤ → Adjustment → Type 0
 AdjustEnsures ch rate pitch at tail new w stage entry exit a =

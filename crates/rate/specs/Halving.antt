@@ -4,11 +4,12 @@ use Prim.Native.Nat.{ℕ, zero, suc, _/_}
 use lib.Dec.{ltb}
 use lib.Ieee.{Float}
 use Rattle.floats.specs.Scales.{newRate}
+use Rattle.sinc.specs.Sinc.{maxWidth}
 use Rattle.rate.specs.declared.Rates.{Rates}
 
--- the most that either may be
+-- the most that either may be: an interpolation's widest step, 16,384
 abbrev pub maxHalvedRate : ℕ
-maxHalvedRate = 16384
+maxHalvedRate = maxWidth
 
 -- both halved until neither exceeds 16,384; 64 halvings are enough for any usize
 unfoldable pub halved : ℕ → Rates → Rates

@@ -8,7 +8,7 @@ use lib.Dec.{eqb}
 use lib.IntN.{pos}
 use lib.ListN.{length, take, drop, getD}
 use Rattle.frames.specs.Framing.{Frame}
-use Rattle.sinc.specs.Sinc.{tabulate, interpolate}
+use Rattle.sinc.specs.Sinc.{sincFilterPoints, tabulate, interpolate}
 use Rattle.rate.specs.declared.Rates.{Rates}
 use Rattle.rate.specs.declared.Position.{Position}
 
@@ -58,8 +58,8 @@ emit r (suc k) s window = interpolated r s window ∷ emit r k (record { old = s
 -- what the first k frames of the tail l make
 unfoldable pub scan : Rates → ℕ → Position → List Frame → List Frame
 scan r zero s l = []
-scan r (suc k) s l = emit r (due r s) s (take 12 l) ++ scan r k (next r s) (drop 1 l)
+scan r (suc k) s l = emit r (due r s) s (take sincFilterPoints l) ++ scan r k (next r s) (drop 1 l)
 
 -- how many frames of the tail l are consumed: one while more than 12 lie ahead
 abbrev pub consumable : List Frame → ℕ
-consumable l = length l - 12
+consumable l = length l - sincFilterPoints

@@ -2,10 +2,11 @@
 mod scan;
 
 use frames::Frames;
+use frames::Samples;
 ghost use mathlib.Core.Path.{_≡_};
 ghost use Prim.Native.Nat.{_+_, _^_, _≤_, _<_};
 ghost use Rattle.rate.specs.Halving.{ratesOf};
-ghost use Rattle.rate.specs.Adjusting.{AreasHold, Placed, AdjustReady, StraightOutEnsures, ConvertEnsures, AdjustEnsures};
+ghost use Rattle.rate.specs.Adjusting.{AreasHold, AdjustReady, StraightOutEnsures, AdjustEnsures};
 
 // The most that either of the two rates may be.
 const MAX_HALVED_RATE: usize = 16384;
@@ -65,7 +66,7 @@ fn straight_out(
 {
     let n = new.0;
     let w = waiting.0;
-    if output.len() / channels - w < n {
+    if Samples(output.len()).frames(channels).0 - w < n {
         return Adjustment::Full;
     }
     frames::copy(
@@ -80,36 +81,6 @@ fn straight_out(
         from: Frames(0),
         left: tail,
         at,
-    })
-}
-
-// At another pitch all but the last 12 tail frames of the stage are consumed.
-fn convert(
-    stage: &[i16],
-    tail: Frames,
-    channels: usize,
-    rates: Rates,
-    at: Position,
-    output: &mut [i16],
-    waiting: Frames,
-) -> Adjustment
-    requires { ⌜ AreasHold channels (tail .0) (waiting .0) (now stage) (now output) × Placed rates at ⌝ }
-    ensures { λ r. ⌜ ConvertEnsures channels rates (tail .0) (waiting .0) at (now (stage .entry)) (now (output .entry)) (now (output .exit)) r ⌝ }
-{
-    let table = sinc::sinc_table();
-    let end = scan::scan_tail(&table, stage, tail, channels, rates, at, output, waiting);
-    if end.full {
-        return Adjustment::Full;
-    }
-    let total = tail.0;
-    let consumed = end.consumed.0;
-    let made = end.made;
-    let position = end.at;
-    Adjustment::Done(Adjusted {
-        made,
-        from: Frames(consumed),
-        left: Frames(total - consumed),
-        at: position,
     })
 }
 
@@ -141,7 +112,9 @@ pub fn adjust_rate(
             at,
         });
     }
-    convert(
+    let table = sinc::sinc_table();
+    scan::scan_tail(
+        &table,
         stage,
         Frames(t + n),
         channels,

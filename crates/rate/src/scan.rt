@@ -1,27 +1,21 @@
 // The scan of the tail: the frames that it makes, until one does not fit.
+use crate::Adjusted;
+use crate::Adjustment;
 use crate::Position;
 use crate::Rates;
 use frames::Frames;
+use frames::Samples;
+use sinc::SINC_FILTER_POINTS;
 ghost use mathlib.Core.Path.{_≡_};
 ghost use Prim.Native.Nat.{_+_, _*_, _≤_, _<_};
 ghost use lib.ListN.{length, drop};
 ghost use lib.Seq.{paste};
 ghost use Rattle.frames.specs.Framing.{framesOf};
+ghost use Rattle.sinc.specs.Sinc.{sincFilterPoints};
 ghost use Rattle.sinc.specs.SincTable.{sincTable};
 ghost use Rattle.rate.specs.Halving.{maxHalvedRate};
 ghost use Rattle.rate.specs.Tail.{interpolateWindow};
 ghost use Rattle.rate.specs.Adjusting.{AreasHold, Placed, ScanEnsures};
-
-// The taps of the interpolation: the tail frames that a frame is made of.
-const SINC_FILTER_POINTS: usize = 12;
-
-// How a scan ended: full if a frame did not fit; else the frames made and consumed, and the positions.
-pub struct ScanEnd {
-    pub full: bool,
-    pub made: Frames,
-    pub consumed: Frames,
-    pub at: Position,
-}
 
 // Makes one frame of the 12 tail frames from `first` on, behind the first `to` frames of the output.
 fn make_frame(
@@ -35,9 +29,9 @@ fn make_frame(
     to: Frames,
 )
     requires { ⌜ (now table ≡ sincTable) × (ratio < width) × (width ≤ maxHalvedRate) ⌝ }
-    requires { ⌜ ((first .0 + 12) * channels ≤ length (now stage)) × ((to .0 + 1) * channels ≤ length (now output)) ⌝ }
+    requires { ⌜ ((first .0 + sincFilterPoints) * channels ≤ length (now stage)) × ((to .0 + 1) * channels ≤ length (now output)) ⌝ }
     ensures { λ _. ⌜ now (output .exit) ≡ paste (now (output .entry)) (to .0 * channels)
-        (interpolateWindow (framesOf channels 12 (drop (first .0 * channels) (now (stage .entry)))) ratio width) channels ⌝ }
+        (interpolateWindow (framesOf channels sincFilterPoints (drop (first .0 * channels) (now (stage .entry)))) ratio width) channels ⌝ }
 {
     sinc::interpolate_frame(
         table,
@@ -61,12 +55,13 @@ pub(crate) fn scan_tail(
     at: Position,
     output: &mut [i16],
     waiting: Frames,
-) -> ScanEnd
+) -> Adjustment
     requires { ⌜ (now table ≡ sincTable) × AreasHold channels (tail .0) (waiting .0) (now stage) (now output) × Placed rates at ⌝ }
-    ensures { λ r. ⌜ ScanEnsures channels (waiting .0) rates at (framesOf channels (tail .0) (now (stage .entry))) (now (output .entry)) (now (output .exit)) r ⌝ }
+    ensures { λ r. ⌜ ScanEnsures channels rates (tail .0) (waiting .0) at (now (stage .entry)) (now (output .entry)) (now (output .exit)) r ⌝ }
 {
     let t = tail.0;
     let w = waiting.0;
+    let room = Samples(output.len()).frames(channels).0 - w;
     let new_rate = rates.new;
     let old_rate = rates.old;
     let mut p = at.old;
@@ -76,11 +71,11 @@ pub(crate) fn scan_tail(
     'scan: while j + SINC_FILTER_POINTS < t {
         let right = (p + 1) * new_rate;
         while n * old_rate < right {
-            let to = Frames(w + made);
-            if output.len() - to.0 * channels < channels {
+            if made == room {
                 break 'scan;
             }
             let first = Frames(j);
+            let to = Frames(w + made);
             let ratio = right - n * old_rate - 1;
             make_frame(table, stage, first, channels, ratio, new_rate, output, to);
             made += 1;
@@ -93,11 +88,13 @@ pub(crate) fn scan_tail(
         }
         j += 1;
     }
-    let full = j + SINC_FILTER_POINTS < t;
-    ScanEnd {
-        full,
-        made: Frames(made),
-        consumed: Frames(j),
-        at: Position { old: p, new: n },
+    if j + SINC_FILTER_POINTS < t {
+        return Adjustment::Full;
     }
+    Adjustment::Done(Adjusted {
+        made: Frames(made),
+        from: Frames(j),
+        left: Frames(t - j),
+        at: Position { old: p, new: n },
+    })
 }

@@ -23,20 +23,21 @@ use lib.Signed.{quotZ}
 use mir.Syntax.{w16, w32, w64}
 use mir.Val.{SFits, toZ}
 use mir.Facts.{toZ-ofZ, toZ-pos}
+use Rattle.laws.specs.Reciprocal.{reciprocalParts, reciprocalOf}
 use Rattle.laws.proofs.Integers.{sfits-of-natAbs, natAbs-add-le, natAbs-mul, natAbs-quot, pos-sub}
 use Rattle.laws.proofs.Reciprocal.{reciprocal-divides, product-le, quot-by-reciprocal}
 use Rattle.laws.proofs.Widening.{i16, i32, widened-reads}
-use Rattle.sinc.specs.SincTable.{sincTable}
-use Rattle.sinc.specs.Sinc.{tablePlace, remainder, tableValue, sincCoefficient}
+use Rattle.sinc.specs.SincTable.{sincTable, sincTableSize}
+use Rattle.sinc.specs.Sinc.{sincFilterPoints, lobePoints, maxWidth, tablePlace, remainder, tableValue, sincCoefficient}
 use Rattle.sinc.proofs.TableRule.{entry-abs}
 
 -- ---- the reciprocal of N
 
-pub reciprocal-lt : (N : ℕ) → 2 ^ 44 / N + 1 < 2 ^ 45
-reciprocal-lt N = omega (arith, div-le-self (2 ^ 44) N)
+pub reciprocal-lt : (N : ℕ) → reciprocalOf N < 2 * reciprocalParts
+reciprocal-lt N = omega (arith, div-le-self reciprocalParts N)
 
 -- it divides whatever is at most 65,534·N
-reciprocal-serves : (n N : ℕ) → N ≤ 16384 → n ≤ 65534 * N → (n + N) * N ≤ 2 ^ 44
+reciprocal-serves : (n N : ℕ) → N ≤ maxWidth → n ≤ 65534 * N → (n + N) * N ≤ reciprocalParts
 reciprocal-serves n N narrow size =
     let sum : n + N ≤ 1073725440 = omega arith in
     le-trans (mul-le-mul sum narrow) (omega arith)
@@ -44,36 +45,36 @@ reciprocal-serves n N narrow size =
 -- ---- place and remainder
 
 -- the place within a lobe
-pub place-lt : (r N : ℕ) → r < N → 50 * r / N < 50
-place-lt r N h = div-lt-iff-lt-mul {k = N} {x = 50 * r} {y = 50} (omega arith) .1 (omega arith)
+pub place-lt : (r N : ℕ) → r < N → lobePoints * r / N < lobePoints
+place-lt r N h = div-lt-iff-lt-mul {k = N} {x = lobePoints * r} {y = lobePoints} (omega arith) .1 (omega arith)
 
 -- the code's place and remainder
-module _ (r N : ℕ) (h : r < N) (narrow : N ≤ 16384) where
-  pub place-product-lt : 50 * r * (2 ^ 44 / N + 1) < 2 ^ 64
+module _ (r N : ℕ) (h : r < N) (narrow : N ≤ maxWidth) where
+  pub place-product-lt : lobePoints * r * reciprocalOf N < 2 ^ 64
   place-product-lt =
-      let small : 50 * r ≤ 50 * N = omega arith in
-      omega (arith, product-le (50 * r) N 50 small)
+      let small : lobePoints * r ≤ lobePoints * N = omega arith in
+      omega (arith, product-le (lobePoints * r) N lobePoints small)
 
-  pub place-is : 50 * r * (2 ^ 44 / N + 1) / 2 ^ 44 ≡ 50 * r / N
-  place-is = reciprocal-divides (50 * r) N (omega arith) (reciprocal-serves (50 * r) N narrow (omega arith))
+  pub place-is : lobePoints * r * reciprocalOf N / reciprocalParts ≡ lobePoints * r / N
+  place-is = reciprocal-divides (lobePoints * r) N (omega arith) (reciprocal-serves (lobePoints * r) N narrow (omega arith))
 
-  pub place-reaches : 50 * r * (2 ^ 44 / N + 1) / 2 ^ 44 * N ≤ 50 * r
-  place-reaches = rw place-is (div-mul-le-self (50 * r) N)
+  pub place-reaches : lobePoints * r * reciprocalOf N / reciprocalParts * N ≤ lobePoints * r
+  place-reaches = rw place-is (div-mul-le-self (lobePoints * r) N)
 
-  pub behind-is : 50 * r - 50 * r * (2 ^ 44 / N + 1) / 2 ^ 44 * N ≡ 50 * r % N
-  behind-is = rw place-is (omega (arith, div-add-mod' (50 * r) N))
+  pub behind-is : lobePoints * r - lobePoints * r * reciprocalOf N / reciprocalParts * N ≡ lobePoints * r % N
+  behind-is = rw place-is (omega (arith, div-add-mod' (lobePoints * r) N))
 
-pub tablePlace-lt : (i r N : ℕ) → i < 12 → r < N → tablePlace i r N < 600
+pub tablePlace-lt : (i r N : ℕ) → i < sincFilterPoints → r < N → tablePlace i r N + 1 < sincTableSize
 unfolding tablePlace
 tablePlace-lt i r N k h = omega (arith, place-lt r N h)
 
 -- the remainder of each tap is 50r mod N
-pub remainder-is : (i r N : ℕ) → remainder i r N ≡ 50 * r % N
+pub remainder-is : (i r N : ℕ) → remainder i r N ≡ lobePoints * r % N
 unfolding remainder tablePlace
-remainder-is i r N = omega (arith, add-mul (50 * i) (50 * r / N) N, div-add-mod' (50 * r) N)
+remainder-is i r N = omega (arith, add-mul (lobePoints * i) (lobePoints * r / N) N, div-add-mod' (lobePoints * r) N)
 
 -- one division serves all taps
-pub sincCoefficient-is : (i r N : ℕ) → sincCoefficient i r N ≡ tableValue (50 * i + 50 * r / N) (50 * r % N) N
+pub sincCoefficient-is : (i r N : ℕ) → sincCoefficient i r N ≡ tableValue (lobePoints * i + lobePoints * r / N) (lobePoints * r % N) N
 unfolding sincCoefficient tablePlace
 sincCoefficient-is i r N = rw (remainder-is i r N)
 
@@ -114,7 +115,7 @@ module _ {x y : ℤ} {N e : ℕ} (b : Blend x y N e) where
 
 -- ---- the steps of the code: `-fits` says that a step fits, `-reads` what it reads back as
 
-module _ {x y : ℤ} {N e : ℕ} (b : Blend x y N e) (narrow : N ≤ 16384) where
+module _ {x y : ℤ} {N e : ℕ} (b : Blend x y N e) (narrow : N ≤ maxWidth) where
   width-reads : toZ w32 N ≡ pos N
   width-reads = toZ-pos w32 (omega arith)
 
@@ -160,14 +161,14 @@ module _ {x y : ℤ} {N e : ℕ} (b : Blend x y N e) (narrow : N ≤ 16384) wher
   double-fits = sfits-of-natAbs (double x y N e) (omega (arith, double-abs b))
 
   -- times the reciprocal
-  product-abs : natAbs (double x y N e *ℤ pos (2 ^ 44 / N + 1)) ≤ 65534 * (2 ^ 44 + N)
+  product-abs : natAbs (double x y N e *ℤ pos (reciprocalOf N)) ≤ 65534 * (reciprocalParts + N)
   product-abs = rw natAbs-mul (product-le (natAbs (double x y N e)) N 65534 (double-abs b))
 
-  pub product-fits : SFits w64 (double x y N e *ℤ pos (2 ^ 44 / N + 1))
-  product-fits = sfits-of-natAbs (double x y N e *ℤ pos (2 ^ 44 / N + 1)) (omega (arith, product-abs))
+  pub product-fits : SFits w64 (double x y N e *ℤ pos (reciprocalOf N))
+  product-fits = sfits-of-natAbs (double x y N e *ℤ pos (reciprocalOf N)) (omega (arith, product-abs))
 
   -- the quotient
-  pub mean-is : quotZ (double x y N e *ℤ pos (2 ^ 44 / N + 1)) (pos (2 ^ 44)) ≡ quotZ (double x y N e) (pos N)
+  pub mean-is : quotZ (double x y N e *ℤ pos (reciprocalOf N)) (pos reciprocalParts) ≡ quotZ (double x y N e) (pos N)
   mean-is = quot-by-reciprocal (double x y N e) N (omega (arith, b .inside)) (reciprocal-serves (natAbs (double x y N e)) N narrow (double-abs b))
 
   pub mean-fits : SFits w32 (quotZ (double x y N e) (pos N))
@@ -176,13 +177,13 @@ module _ {x y : ℤ} {N e : ℕ} (b : Blend x y N e) (narrow : N ≤ 16384) wher
 -- ---- the size of a coefficient
 
 -- two neighbours of the table
-pub entries : (L e N : ℕ) → L < 600 → e < N → Blend (getD sincTable L (pos 0)) (getD sincTable (L + 1) (pos 0)) N e
+pub entries : (L e N : ℕ) → L + 1 < sincTableSize → e < N → Blend (getD sincTable L (pos 0)) (getD sincTable (L + 1) (pos 0)) N e
 entries L e N h k = record { left-small = entry-abs L (omega arith); right-small = entry-abs (L + 1) (omega arith); inside = k }
 
 pub remainder-lt : (i r N : ℕ) → r < N → remainder i r N < N
-remainder-lt i r N h = rw (remainder-is i r N) (mod-lt (50 * r) (omega arith))
+remainder-lt i r N h = rw (remainder-is i r N) (mod-lt (lobePoints * r) (omega arith))
 
 -- no coefficient exceeds 65,534 in size
-pub sincCoefficient-abs : (i r N : ℕ) → i < 12 → r < N → natAbs (sincCoefficient i r N) ≤ 65534
+pub sincCoefficient-abs : (i r N : ℕ) → i < sincFilterPoints → r < N → natAbs (sincCoefficient i r N) ≤ 65534
 unfolding sincCoefficient tableValue
 sincCoefficient-abs i r N k h = mean-abs (entries (tablePlace i r N) (remainder i r N) N (tablePlace-lt i r N k h) (remainder-lt i r N h))

@@ -11,7 +11,7 @@ use mir.Val.{SFits, toZ}
 use mir.Facts.{toZ-ofZ}
 use Rattle.laws.proofs.Integers.{sfits-of-natAbs, mag-le-natAbs, natAbs-add-le, natAbs-mul}
 use Rattle.laws.proofs.Widening.{i16, i32, i64, widened-fits, widened-reads}
-use Rattle.sinc.specs.Sinc.{weightedSum, heldSample}
+use Rattle.sinc.specs.Sinc.{sincFilterPoints, weightedSum, heldSample}
 
 -- k products of a sample and a coefficient: 32768·65534 each
 abbrev pub limit : ℕ → ℕ
@@ -22,7 +22,7 @@ pub record Tap (taps weights : ℕ → ℤ) (i : ℕ) : Type 0 where
   pub sample : SFits w16 (taps i)
   pub weight : SFits w32 (weights i)
   pub small : natAbs (weights i) ≤ 65534
-  pub early : i < 12
+  pub early : i < sincFilterPoints
   pub before : natAbs (weightedSum taps weights i) ≤ limit i
 
 module _ {taps weights : ℕ → ℤ} {i : ℕ} (t : Tap taps weights i) where
@@ -58,11 +58,11 @@ module _ {taps weights : ℕ → ℤ} {i : ℕ} (t : Tap taps weights i) where
   sum-reads = toZ-ofZ sum-fits ∙ sum-is
 
 -- the whole sum, shifted
-shifted-fits : (z : ℤ) (m : ℕ) → natAbs z ≤ limit 12 → SFits w64 (shrZ z m)
+shifted-fits : (z : ℤ) (m : ℕ) → natAbs z ≤ limit sincFilterPoints → SFits w64 (shrZ z m)
 shifted-fits z m h = record { sfits = lt-of-le-of-lt (mag-shr z m) (omega (arith, mag-le-natAbs z)) }
 
 -- what the code holds: z, read back from `sum`, and shifted
-pub held-is : {value : ℤ} (sum : ℕ) (z : ℤ) (m : ℕ) → toZ w64 sum ≡ z → natAbs z ≤ limit 12 → value ≡ heldSample (i64 (shrZ (toZ w64 sum) m))
+pub held-is : {value : ℤ} (sum : ℕ) (z : ℤ) (m : ℕ) → toZ w64 sum ≡ z → natAbs z ≤ limit sincFilterPoints → value ≡ heldSample (i64 (shrZ (toZ w64 sum) m))
     → value ≡ heldSample (shrZ z m)
 held-is sum z m e small v = v ∙ ap heldSample (rw e (toZ-ofZ (shifted-fits z m small)))
 

@@ -8,15 +8,29 @@ use lib.Signed.{quotZ, shrZ}
 use Rattle.frames.specs.Clamp.{clampZ}
 use Rattle.sinc.specs.SincTable.{sincTable}
 
+-- ---- numbers
+
+-- `SINC_FILTER_POINTS`: the taps of a sample
+abbrev pub sincFilterPoints : ℕ
+sincFilterPoints = 12
+
+-- the points of the table from one tap to the next
+abbrev pub lobePoints : ℕ
+lobePoints = 50
+
+-- the most that N may be
+abbrev pub maxWidth : ℕ
+maxWidth = 16384
+
 -- ---- coefficients
 
 -- L = 50i + 50r/N
 unfoldable pub tablePlace : ℕ → ℕ → ℕ → ℕ
-tablePlace i r N = 50 * i + 50 * r / N
+tablePlace i r N = lobePoints * i + lobePoints * r / N
 
 -- e = 50·i·N + 50r − L·N
 unfoldable pub remainder : ℕ → ℕ → ℕ → ℕ
-remainder i r N = 50 * i * N + 50 * r - tablePlace i r N * N
+remainder i r N = lobePoints * i * N + lobePoints * r - tablePlace i r N * N
 
 -- 2·(S[L]·(N − e) + S[L+1]·e)/N, toward zero
 unfoldable pub tableValue : ℕ → ℕ → ℕ → ℤ
@@ -33,7 +47,7 @@ tabulate (suc n) f = f 0 ∷ tabulate n (λ i. f (suc i))
 
 -- the coefficients of the 12 taps
 unfoldable pub sincCoefficients : ℕ → ℕ → List ℤ
-sincCoefficients r N = tabulate 12 (λ i. sincCoefficient i r N)
+sincCoefficients r N = tabulate sincFilterPoints (λ i. sincCoefficient i r N)
 
 -- ---- sample
 
@@ -52,7 +66,7 @@ heldSample z = clampZ (negsuc 32767) (pos 32767) z
 
 -- `interpolate`: the sum of the 12 taps, shifted right by 16 and held
 unfoldable pub interpolate : (ℕ → ℤ) → ℕ → ℕ → ℤ
-interpolate taps r N = heldSample (shrZ (tapSum taps r N 12) 65536)
+interpolate taps r N = heldSample (shrZ (tapSum taps r N sincFilterPoints) 65536)
 
 -- ---- frame
 

@@ -1,6 +1,11 @@
 -- S, `SINC_TABLE` of the Rust original: 601 entries, ten to a line. `negsuc n` is −(n + 1). Definitions only. Assumes nothing.
 use mathlib.Core.List.{List, [], _∷_}
+use Prim.Native.Nat.{ℕ}
 use lib.IntN.{ℤ, pos, negsuc}
+
+-- its entries: 12 lobes of 50 points, and the end
+abbrev pub sincTableSize : ℕ
+sincTableSize = 601
 
 unfoldable pub sincTable : List ℤ
 sincTable =

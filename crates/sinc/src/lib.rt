@@ -3,22 +3,26 @@ pub mod table;
 
 use frames::Samples;
 ghost use mathlib.Core.Path.{_≡_};
-ghost use Prim.Native.Nat.{ℕ, _+_, _*_, _/_, _^_, _≤_, _<_};
+ghost use Prim.Native.Nat.{ℕ, _+_, _-_, _*_, _≤_, _<_};
 ghost use lib.IntN.{pos, natAbs};
 ghost use lib.ListN.{length, drop, getD};
 ghost use lib.Seq.{paste};
 ghost use lib.Signed.{shrZ};
-ghost use Rattle.sinc.specs.SincTable.{sincTable};
-ghost use Rattle.sinc.specs.Sinc.{tableValue, sincCoefficients, weightedSum, heldSample, interpolateFrame};
+ghost use Rattle.laws.specs.Reciprocal.{reciprocalOf};
+ghost use Rattle.sinc.specs.SincTable.{sincTable, sincTableSize};
+ghost use Rattle.sinc.specs.Sinc.{sincFilterPoints, maxWidth, tableValue, sincCoefficients, weightedSum, heldSample, interpolateFrame};
 
-// The taps of a sample.
-const SINC_FILTER_POINTS: usize = 12;
+// The taps of a sample, and so the tail frames that a frame is made of.
+pub const SINC_FILTER_POINTS: usize = 12;
 
 // The points of the table from one tap to the next.
 const LOBE_POINTS: usize = 50;
 
+// The parts of 1 in which a reciprocal is counted.
+const RECIPROCAL_PARTS: u64 = 0x1000_0000_0000;
+
 // The table, for a caller to keep and to lend.
-pub fn sinc_table() -> [i16; 601]
+pub fn sinc_table() -> [i16; table::SINC_TABLE_SIZE]
     ensures { λ r. ⌜ r ≡ sincTable ⌝ }
 {
     table::SINC_TABLE
@@ -32,7 +36,7 @@ fn find_sinc_coefficient(
     width: usize,
     reciprocal: u64,
 ) -> i32
-    requires { ⌜ (now table ≡ sincTable) × (left < 600) × (remainder < width) × (width ≤ 16384) × (reciprocal ≡ 2 ^ 44 / width + 1) ⌝ }
+    requires { ⌜ (now table ≡ sincTable) × (left + 1 < sincTableSize) × (remainder < width) × (width ≤ maxWidth) × (reciprocal ≡ reciprocalOf width) ⌝ }
     ensures { λ r. ⌜ r ≡ tableValue left remainder width ⌝ }
 {
     let right = left + 1;
@@ -43,18 +47,18 @@ fn find_sinc_coefficient(
     let sum = left_value * (n - e) + right_value * e;
     let double = (2 * sum) as i64;
     let parts = reciprocal as i64;
-    (double * parts / 0x1000_0000_0000) as i32
+    (double * parts / (RECIPROCAL_PARTS as i64)) as i32
 }
 
 // The coefficients of the 12 taps. All of them, their place and their remainder come from one division, which gives the reciprocal of `width`.
 fn coefficients(table: &[i16], ratio: usize, width: usize) -> [i32; SINC_FILTER_POINTS]
-    requires { ⌜ (now table ≡ sincTable) × (ratio < width) × (width ≤ 16384) ⌝ }
+    requires { ⌜ (now table ≡ sincTable) × (ratio < width) × (width ≤ maxWidth) ⌝ }
     ensures { λ r. ⌜ r ≡ sincCoefficients ratio width ⌝ }
 {
     let n = width as u64;
-    let reciprocal = 0x1000_0000_0000 / n + 1;
+    let reciprocal = RECIPROCAL_PARTS / n + 1;
     let points = LOBE_POINTS * ratio;
-    let place = (points as u64 * reciprocal / 0x1000_0000_0000) as usize;
+    let place = (points as u64 * reciprocal / RECIPROCAL_PARTS) as usize;
     let remainder = points - place * width;
     let mut weights = [0i32; SINC_FILTER_POINTS];
     let mut i: usize = 0;
@@ -92,11 +96,11 @@ fn interpolate(
     channels: usize,
     weights: &[i32; SINC_FILTER_POINTS],
 ) -> i16
-    requires { ⌜ from .0 + 11 * channels < length (now stage) ⌝ }
-    requires { ⌜ ((i : ℕ) → i < 12 → natAbs (getD (now weights) i (pos 0)) ≤ 65534) ⌝ }
+    requires { ⌜ from .0 + (sincFilterPoints - 1) * channels < length (now stage) ⌝ }
+    requires { ⌜ ((i : ℕ) → i < sincFilterPoints → natAbs (getD (now weights) i (pos 0)) ≤ 65534) ⌝ }
     ensures { λ r. ⌜ r ≡ heldSample (shrZ (weightedSum
         (λ i. getD (now (stage .entry)) (from .0 + i * channels) (pos 0))
-        (λ i. getD (now (weights .entry)) i (pos 0)) 12) 65536) ⌝ }
+        (λ i. getD (now (weights .entry)) i (pos 0)) sincFilterPoints) 65536) ⌝ }
 {
     let f = from.0;
     let mut sum: i64 = 0;
@@ -121,8 +125,8 @@ pub fn interpolate_frame(
     output: &mut [i16],
     to: Samples,
 )
-    requires { ⌜ (now table ≡ sincTable) × (ratio < width) × (width ≤ 16384) ⌝ }
-    requires { ⌜ (from .0 + 12 * channels ≤ length (now stage)) × (to .0 + channels ≤ length (now output)) ⌝ }
+    requires { ⌜ (now table ≡ sincTable) × (ratio < width) × (width ≤ maxWidth) ⌝ }
+    requires { ⌜ (from .0 + sincFilterPoints * channels ≤ length (now stage)) × (to .0 + channels ≤ length (now output)) ⌝ }
     ensures { λ _. ⌜ now (output .exit) ≡ paste (now (output .entry)) (to .0)
         (interpolateFrame (drop (from .0) (now (stage .entry))) channels ratio width) channels ⌝ }
 {

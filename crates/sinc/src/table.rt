@@ -1,7 +1,10 @@
 // The filter of the interpolation: 12 lobes of 50 points and the end. `specs/SincTable.antt` has the same list.
 
+// The entries of the table.
+pub const SINC_TABLE_SIZE: usize = 601;
+
 // S of the rate conversion. A caller takes it once, by `sinc_table`, and lends it: indexed here it would be built anew at each use.
-pub const SINC_TABLE: [i16; 601] = [
+pub const SINC_TABLE: [i16; SINC_TABLE_SIZE] = [
     0,
     0,
     0,

@@ -9,19 +9,26 @@ use Rattle.rate.proofs.Adjusting.{pitch-one, some-new, none-new}
 use Rattle.rate.proofs.adjust_rate.Statement.{statement}
 use Rattle.rate.proofs.adjust_rate.Tie as tie
 
-straight-out-requires : tie.Need-straight-out-requires
-straight-out-requires c κs = search needs
+-- ---- places
 
-same-length : tie.Need-same-length
-same-length c = search needs
+-- at another pitch, with new frames: the table is made
+module _ (c : tie.After-table) where
+  abbrev some : tie.Else2
+  some = c .before .before
+
+  abbrev start : tie.Start
+  start = some .before .before
+
+-- ---- needs
 
 returns : tie.Need-returns
 unfolding ofBits
 returns c =
-    let a = c .before .before .before .before .args in
     let s = c .before .straight-out in
+    let test = c .before .before .before in
+    let a = test .before .args in
     pitch-one (a .channels) (a .rate) (a .pitch) (a .at) (a .tail .0) (a .new .0) (a .waiting .0) (a .stage .now) (a .output .now)
-    (s .last .1 .1 .1 .1 .1 .0) (s .result) (c .before .before .before .if1 .taken) (s .ensures)
+    (s .last .1 .1 .1 .1 .1 .0) (s .result) (test .if1 .taken) (s .ensures)
 
 returns-2 : tie.Need-returns-2
 unfolding ofBits
@@ -30,34 +37,55 @@ returns-2 c =
     none-new (a .channels) (a .rate) (a .pitch) (a .at) (a .tail .0) (a .new .0) (a .waiting .0) (a .stage .now) (a .output .now)
     (c .before .if1 .left) (c .if2 .taken) (c .before .before .pre .lent .waits)
 
-add-t18 : tie.Need-add-t18
-add-t18 c =
-    let s = c .before .before in
+add-t22 : tie.Need-add-t22
+add-t22 c =
+    let s = start c in
     record { fits = omega (arith, count-le (s .args .channels) (s .args .tail .0 + s .args .new .0) (s .pre .lent .some), s .pre .lent .holds) }
 
-rates-of-requires : tie.Need-rates-of-requires
-rates-of-requires c κs = search needs
-
-convert-requires : tie.Need-convert-requires
-convert-requires c κs =
-    let s = c .before .before .before .before in
-    let m = rates-most (s .args .rate) (s .args .pitch) (s .pre .exact) in
-    (s .pre .lent, rw (c .before .rates-of .ensures) (record { new-most = m .0; old-most = m .1; order = s .pre .order }))
-
-same-length-2 : tie.Need-same-length-2
-same-length-2 c = search needs
+scan-tail-requires : tie.Need-scan-tail-requires
+scan-tail-requires c κs =
+    let d = c .before .before in
+    let s = start d in
+    let m = rates-most (s .args .rate) (s .args .pitch) (s .pre .exact) in (
+      d .before .sinc-table .ensures,
+      s .pre .lent,
+      rw (c .before .rates-of .ensures) (record { new-most = m .0; old-most = m .1; order = s .pre .order }),
+    )
 
 returns-3 : tie.Need-returns-3
 unfolding ofBits
 returns-3 c =
-    let s = c .before .before .before .before .before .before in
-    let a = s .args in
-    let more : 0 < a .new .0 = omega (arith, c .before .before .before .before .if2 .left) in
-    let done = rw (c .before .before .before .rates-of .ensures) at (c .before .convert .ensures) in
+    let call = c .before .scan-tail in
+    let r = c .before .before .before in
+    let d = r .before in
+    let a = start d .args in
+    let more : 0 < a .new .0 = omega (arith, some d .if2 .left) in
+    let done = rw (r .rates-of .ensures) at (call .ensures) in
     some-new (a .channels) (a .rate) (a .pitch) (a .at) (a .tail .0) (a .new .0) (a .waiting .0) (a .stage .now) (a .output .now)
-    (c .before .convert .last .1 .1 .1 .1 .1 .0) (c .before .convert .result) (c .before .before .before .before .before .if1 .left) more done
+    (call .last .1 .1 .1 .1 .1 .1 .0) (call .result) (some d .before .if1 .left) more done
+
+-- ---- what search closes
+
+straight-out-requires : tie.Need-straight-out-requires
+straight-out-requires c κs = search needs
+
+same-length : tie.Need-same-length
+same-length c = search needs
+
+sinc-table-requires : tie.Need-sinc-table-requires
+sinc-table-requires c κs = search needs
+
+slice-aggregate-scan-tail : tie.Need-slice-aggregate-scan-tail
+slice-aggregate-scan-tail c = search needs
+
+rates-of-requires : tie.Need-rates-of-requires
+rates-of-requires c κs = search needs
+
+same-length-2 : tie.Need-same-length-2
+same-length-2 c = search needs
 
 pub adjust-rate-spec : {M : Type 1} → statement M
 adjust-rate-spec =
     tie.close
-    (tie.spec straight-out-requires same-length returns returns-2 add-t18 rates-of-requires convert-requires same-length-2 returns-3)
+    (tie.spec straight-out-requires same-length returns returns-2 sinc-table-requires slice-aggregate-scan-tail add-t22 rates-of-requires
+    scan-tail-requires same-length-2 returns-3)

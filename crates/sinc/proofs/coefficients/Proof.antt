@@ -12,7 +12,7 @@ use lib.Seq.{paste}
 use mir.Syntax.{w32}
 use mir.Val.{toZ, ofZ}
 use mir.Facts.{toZ-ofZ}
-use Rattle.sinc.specs.Sinc.{tabulate, sincCoefficient, sincCoefficients}
+use Rattle.sinc.specs.Sinc.{sincFilterPoints, lobePoints, tabulate, sincCoefficient, sincCoefficients}
 use Rattle.sinc.proofs.Coefficient.{reciprocal-lt, place-lt, place-product-lt, place-is, place-reaches, behind-is, sincCoefficient-is}
 use Rattle.sinc.proofs.Tabulated.{front-turn}
 use Rattle.sinc.proofs.coefficients.Statement.{statement}
@@ -20,10 +20,10 @@ use Rattle.sinc.proofs.coefficients.Tie as tie
 
 abbrev Inv-loop : tie.InvT-loop
 Inv-loop table ratio width n reciprocal points place remainder weights₀ i₀ weights i =
-    (i ≤ 12) × (length weights ≡ 12) × (weights ≡ paste weights₀ 0 (sincCoefficients ratio width) i)
+    (i ≤ sincFilterPoints) × (length weights ≡ sincFilterPoints) × (weights ≡ paste weights₀ 0 (sincCoefficients ratio width) i)
 
 abbrev μ-loop : tie.MeasureT-loop
-μ-loop table ratio width n reciprocal points place remainder weights₀ i₀ weights i = 12 - i
+μ-loop table ratio width n reciprocal points place remainder weights₀ i₀ weights i = sincFilterPoints - i
 
 div-reciprocal : tie.Need-div-reciprocal Inv-loop μ-loop
 div-reciprocal c = search needs
@@ -60,7 +60,7 @@ find-sinc-coefficient-requires c κs =
     let s = c .before .before in
     let a = s .args in
     rw (behind-is (a .ratio) (a .width) (s .pre .1) (s .pre .2), place-is (a .ratio) (a .width) (s .pre .1) (s .pre .2))
-    (s .pre .0, omega (arith, place-lt (a .ratio) (a .width) (s .pre .1)), mod-lt (50 * a .ratio) (omega arith), s .pre .2, refl)
+    (s .pre .0, omega (arith, place-lt (a .ratio) (a .width) (s .pre .1)), mod-lt (lobePoints * a .ratio) (omega arith), s .pre .2, refl)
 
 mul-weights : tie.Need-mul-weights Inv-loop μ-loop
 mul-weights c = search needs
@@ -82,14 +82,14 @@ loop-again c =
     let h = c .before .before .before .pre in
     let call = c .find-sinc-coefficient in
     let f : ℕ → ℤ = λ j. sincCoefficient j (a .ratio) (a .width) in
-    let zeros : List ℤ = replicate 12 (pos 0) in
+    let zeros : List ℤ = replicate sincFilterPoints (pos 0) in
     let e : toZ w32 (ofZ w32 (call .result)) ≡ f (l .i) =
     toZ-ofZ {w = w32} (record { sfits = call .ok })
     ∙ rw (behind-is (a .ratio) (a .width) (h .1) (h .2), place-is (a .ratio) (a .width) (h .1) (h .2)) at (call .ensures)
     ∙ sym (sincCoefficient-is (l .i) (a .ratio) (a .width)) in (
       omega arith,
       length-set (l .weights) (l .i) _ ∙ l .inv .1,
-      rw e (ap (λ (r : List ℤ). set r (l .i) (f (l .i))) (l .inv .2) ∙ front-turn zeros 12 f (l .i) (pos 0) (omega arith) (omega arith)),
+      rw e (ap (λ (r : List ℤ). set r (l .i) (f (l .i))) (l .inv .2) ∙ front-turn zeros sincFilterPoints f (l .i) (pos 0) (omega arith) (omega arith)),
     )
 
 returns : tie.Need-returns Inv-loop μ-loop
@@ -97,8 +97,8 @@ unfolding sincCoefficients tabulate
 returns c =
     let l = c .before .loop in
     let a = c .before .before .args in
-    let e : l .i ≡ 12 = omega arith in
-    l .inv .2 ∙ ap (paste (replicate 12 (pos 0)) 0 (sincCoefficients (a .ratio) (a .width))) e
+    let e : l .i ≡ sincFilterPoints = omega arith in
+    l .inv .2 ∙ ap (paste (replicate sincFilterPoints (pos 0)) 0 (sincCoefficients (a .ratio) (a .width))) e
 
 pub coefficients-spec : {M : Type 1} → statement M
 coefficients-spec =

@@ -1,14 +1,16 @@
 -- `sinc::find_sinc_coefficient` meets its contract: each step fits by a fact of `Coefficient`. Assumes nothing.
 use borrow.Author.Needs.{needs}
 use mathlib.Core.Path.{_≡_, ap, _∙_}
-use Prim.Native.Nat.{_+_, _/_, _^_, _<_}
+use Prim.Native.Nat.{_+_, _*_, _<_}
 use native.Mathlib.Omega.{arith}
 use lib.IntN.{pos}
 use lib.ListN.{length, getD}
 use mir.Syntax.{w64}
 use mir.Val.{toZ}
 use mir.Facts.{toZ-ofZ, toZ-pos, sfits-widen}
+use Rattle.laws.specs.Reciprocal.{reciprocalParts, reciprocalOf}
 use Rattle.laws.proofs.Widening.{widened-fits, widened-reads}
+use Rattle.sinc.specs.SincTable.{sincTableSize}
 use Rattle.sinc.specs.Sinc.{tableValue}
 use Rattle.sinc.proofs.TableRule.{sincTable-length}
 use Rattle.sinc.proofs.Coefficient.{reciprocal-lt, Blend, entries, left-sample, right-sample}
@@ -20,13 +22,13 @@ blended : (c : tie.Start)
     → let a = c .args in Blend (getD (a .table .now) (a .left) (pos 0)) (getD (a .table .now) (a .left + 1) (pos 0)) (a .width) (a .remainder)
 blended c = rw (c .pre .0) (entries (c .args .left) (c .args .remainder) (c .args .width) (c .pre .1) (c .pre .2))
 
-long : (c : tie.Start) → length (c .args .table .now) ≡ 601
+long : (c : tie.Start) → length (c .args .table .now) ≡ sincTableSize
 long c = rw (c .pre .0) sincTable-length
 
-parts-lt : (c : tie.Start) → c .args .reciprocal < 2 ^ 45
+parts-lt : (c : tie.Start) → c .args .reciprocal < 2 * reciprocalParts
 parts-lt c = rw (c .pre .4) (reciprocal-lt (c .args .width))
 
-parts-reads : (c : tie.Start) → toZ w64 (c .args .reciprocal) ≡ pos (2 ^ 44 / c .args .width + 1)
+parts-reads : (c : tie.Start) → toZ w64 (c .args .reciprocal) ≡ pos (reciprocalOf (c .args .width))
 parts-reads c = toZ-pos w64 (omega (arith, parts-lt c)) ∙ ap pos (c .pre .4)
 
 add-right : tie.Need-add-right
@@ -88,6 +90,9 @@ mul-result c =
     let n = s .pre .3 in
     rw (sum-reads b n, widened-reads w64 tt (double-fits b n), parts-reads s) (product-fits b n)
 
+cast-result : tie.Need-cast-result
+cast-result c = search needs
+
 div-result : tie.Need-div-result
 div-result c =
     let s = c .before .before in
@@ -98,8 +103,8 @@ div-result c =
           (sfits-widen tt (mean-fits b n)),
     )
 
-cast-result : tie.Need-cast-result
-cast-result c =
+cast-result-2 : tie.Need-cast-result-2
+cast-result-2 c =
     let s = c .before .before in
     let b = blended s in
     let n = s .pre .3 in
@@ -151,6 +156,7 @@ find-sinc-coefficient-spec =
     cast-double
     cast-parts
     mul-result
-    div-result
     cast-result
+    div-result
+    cast-result-2
     returns)

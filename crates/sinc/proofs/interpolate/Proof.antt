@@ -12,7 +12,7 @@ use mir.Syntax.{w16, w64}
 use mir.Val.{SFits, toZ}
 use mir.Facts.{toZ-ofZ}
 use Rattle.laws.proofs.Widening.{widened-fits}
-use Rattle.sinc.specs.Sinc.{weightedSum}
+use Rattle.sinc.specs.Sinc.{sincFilterPoints, weightedSum}
 use Rattle.sinc.proofs.Taps.{limit, Tap, weight-fits, product-fits, next-abs, sum-fits, sum-reads, held-is}
 use Rattle.sinc.proofs.interpolate.Statement.{statement}
 use Rattle.sinc.proofs.interpolate.Tie as tie
@@ -26,19 +26,19 @@ values weights i = getD weights i (pos 0)
 
 abbrev Inv-loop : tie.InvT-loop
 Inv-loop stage channels weights f sum₀ i₀ sum i =
-    (i ≤ 12) × (toZ w64 sum ≡ weightedSum (taps stage f channels) (values weights) i)
+    (i ≤ sincFilterPoints) × (toZ w64 sum ≡ weightedSum (taps stage f channels) (values weights) i)
     × (natAbs (weightedSum (taps stage f channels) (values weights) i) ≤ limit i)
 
 abbrev μ-loop : tie.MeasureT-loop
-μ-loop stage channels weights f sum₀ i₀ sum i = 12 - i
+μ-loop stage channels weights f sum₀ i₀ sum i = sincFilterPoints - i
 
 -- the tap at i lies in the stage
 inside : (c : tie.In-loop Inv-loop μ-loop)
     → c .before .before .args .from .0 + c .before .loop .i * c .before .before .args .channels < length (c .before .before .args .stage .now)
 inside c =
     let a = c .before .before .args in
-    let h : c .before .loop .i ≤ 11 = omega arith in
-    omega (arith, c .before .before .pre .0, mul-le-mul-right (a .channels) h)
+    let most : c .before .loop .i < sincFilterPoints = omega arith in
+    omega (arith, c .before .before .pre .0, mul-le-mul-right (a .channels) most)
 
 -- tap and weight, as the loop has read them
 sample-read : (c : tie.After-tap Inv-loop μ-loop)
@@ -109,9 +109,9 @@ returns c =
     let l = c .before .before .loop in
     let a = c .before .before .before .args in
     let total : ℕ → ℤ = weightedSum (taps (a .stage .now) (a .from .0) (a .channels)) (values (a .weights .now)) in
-    let e : l .i ≡ 12 = omega arith in
-    let small : natAbs (total 12) ≤ limit 12 = rw e at (l .inv .2) in
-    toZ-ofZ {w = w16} (record { sfits = c .hold .ok }) ∙ held-is (l .sum) (total 12) 65536 (l .inv .1 ∙ ap total e) small (c .hold .ensures)
+    let e : l .i ≡ sincFilterPoints = omega arith in
+    let small : natAbs (total sincFilterPoints) ≤ limit sincFilterPoints = rw e at (l .inv .2) in
+    toZ-ofZ {w = w16} (record { sfits = c .hold .ok }) ∙ held-is (l .sum) (total sincFilterPoints) 65536 (l .inv .1 ∙ ap total e) small (c .hold .ensures)
 
 pub interpolate-spec : {M : Type 1} → statement M
 interpolate-spec =
