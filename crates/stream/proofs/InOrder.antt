@@ -1,112 +1,103 @@
--- What the tests of refusals 3 and 4 show, as facts on numbers: a stream in order, then the areas lent to a call. Here:
---   both, neither, holds             tests joined by `&&` and `||`, and a test as a fact
---   Tests, tests-of, in-order-of     the four tests of a stream in order, from it and to it
---   opened-range, opened-of          rate and channels
---   within-range, Ranges, ranges-of, settings-of     a setting in its range; the three of them, from their test and to it
---   period-in, found-order, position-order           the period record and the positions
---   ready-of                         what a call's work requires
---   AreasGood, areas-of, output-of   the lengths of the areas; area-short, area-fits: of one area
+-- What the tests of refusal 3 show, as facts on numbers. Here:
+--   Tests, tests-of, in-order-of             the five tests of a stream in order, from it and to it
+--   limits-in, limits-range, limits-of       rate and channels
+--   within-range                             a setting in its range
+--   Ranges, ranges-of, settings-of, ranges-same      the three of them, from their test and to it, and of equal settings
+--   period-in, prev-order, position-order    the period record and the positions
+--   state-ready, ready-of                    what a call's work goes by, in any areas and in none
+--   good-of, bad-of                          the two answers of `ordered`
+-- Passed on: both, neither, holds (`Testing`); AreasGood, areas-of, output-of, area-short, area-fits, over-same, room-same (`AreaTests`).
 -- Assumes nothing.
-use mathlib.Core.Path.{_≡_, refl, sym, subst}
-use mathlib.Core.Bool.{Bool, true, false, not, _&&_, _||_, true≢false, false≢true}
+use mathlib.Core.Path.{_≡_, refl}
+use mathlib.Core.Bool.{Bool, true, false, not, cond, _&&_, _||_, true≢false}
 use mathlib.Core.Logic.{_⊎_, inl, inr}
-use mathlib.Core.List.{List}
-use Prim.Native.Nat.{ℕ, _*_, _^_, _≤_}
-use native.Mathlib.Omega.{arith}
+use mathlib.Core.List.{List, []}
+use Prim.Native.Nat.{ℕ, _*_}
 use borrow.Author.Tests.{leb-true, ltb-true, ltb-false, eqb-true, not-true}
 use lib.Dec.{T, leb, ltb, eqb}
 use lib.IntN.{ℤ}
-use lib.Ieee.{Float, le, eq}
-use lib.ListN.{length}
-use Rattle.floats.specs.Settings.{samplePeriod, minPitch, maxPitch, minVolume, maxVolume}
-use Rattle.period.specs.Rates.{minPeriod, maxPeriod, maxRequired, InLimits}
+use lib.Ieee.{Float, le}
+use Rattle.floats.specs.Settings.{samplePeriod, minSpeed, maxSpeed, minPitch, maxPitch, minVolume, maxVolume}
+use Rattle.period.specs.Rates.{minPeriod, maxPeriod, InLimits}
 use Rattle.period.specs.Search.{widestGap}
-use Rattle.period.specs.Pitch as Pitch
+use Rattle.period.specs.Pitch.{InRange, PrevInOrder}
 use Rattle.rate.specs.declared.Rates.{Rates}
 use Rattle.rate.specs.Halving.{ratesOf}
-use Rattle.rate.specs.Tail.{ceilDiv}
-use Rattle.rate.specs.Tail as Tail
-use Rattle.process.specs.Filling.{Ready}
-use Rattle.sonic.specs.declared.SonicStream.{SonicStream}
-use Rattle.sonic.specs.Stream.{Areas, setupOf, keptIn}
-use Rattle.sonic.specs.Refusals.{
+use Rattle.rate.specs.Tail.{ceilDiv, PositionInOrder}
+use Rattle.stream.specs.declared.SonicStream.{SonicStream}
+use Rattle.stream.specs.declared.order.Order.{Order}
+use Rattle.stream.specs.Stream.{stateOf, unlent}
+use Rattle.stream.specs.Refusals.{
   rateBad,
   channelsBad,
   within,
-  openedInOrder,
+  limitsInOrder,
+  periodInOrder,
   settingsInOrder,
   prevInOrder,
   positionsInOrder,
   inOrder,
-  maxArea,
-  tooLong,
-  tooShort,
-  sizesBad,
-  partsBad,
-  areasBad,
-  outputBad,
 }
+use Rattle.stream.specs.Order.{orderOf, StateReady}
+pub use Rattle.stream.proofs.Testing.{both, neither, holds}
+pub use Rattle.stream.proofs.AreaTests.{AreasGood, areas-of, output-of, area-short, area-fits, over-same, room-same}
 
--- ---- tests joined
+-- ---- the tests
 
-pub both : (a b : Bool) → (a && b) ≡ true → (a ≡ true) × (b ≡ true)
-both true b e = (refl, e)
-both false b e = absurd (false≢true e)
-
-pub neither : (a b : Bool) → (a || b) ≡ false → (a ≡ false) × (b ≡ false)
-neither true b e = absurd (true≢false e)
-neither false b e = (refl, e)
-
-pub holds : {b : Bool} → b ≡ true → T b
-holds e = subst T (sym e) tt
-
--- ---- a stream in order
-
--- the four tests
+-- the five tests
 pub record Tests (s : SonicStream) : Type 0 where
-  pub opened : openedInOrder s ≡ true
+  pub limits : limitsInOrder s ≡ true
+  pub period : periodInOrder s ≡ true
   pub settings : settingsInOrder s ≡ true
-  pub found : prevInOrder s ≡ true
+  pub prev : prevInOrder s ≡ true
   pub positions : positionsInOrder (ratesOf (s .rate) (s .pitch)) s ≡ true
 
 pub tests-of : (s : SonicStream) → inOrder s ≡ true → Tests s
 unfolding inOrder
 tests-of s e =
     let positions : Bool = positionsInOrder (ratesOf (s .rate) (s .pitch)) s in
-    let a = both (openedInOrder s) (settingsInOrder s && (prevInOrder s && positions)) e in
-    let b = both (settingsInOrder s) (prevInOrder s && positions) (a .1) in
-    let c = both (prevInOrder s) positions (b .1) in
-    record { opened = a .0; settings = b .0; found = c .0; positions = c .1 }
+    let a = both (limitsInOrder s) (periodInOrder s && (settingsInOrder s && (prevInOrder s && positions))) e in
+    let b = both (periodInOrder s) (settingsInOrder s && (prevInOrder s && positions)) (a .1) in
+    let c = both (settingsInOrder s) (prevInOrder s && positions) (b .1) in
+    let d = both (prevInOrder s) positions (c .1) in
+    record { limits = a .0; period = b .0; settings = c .0; prev = d .0; positions = d .1 }
 
 pub in-order-of : (s : SonicStream) → Tests s → inOrder s ≡ true
 unfolding inOrder
-in-order-of s t = rw (t .opened, t .settings, t .found, t .positions)
+in-order-of s t = rw (t .limits, t .period, t .settings, t .prev, t .positions)
 
-pub opened-range : (s : SonicStream) → openedInOrder s ≡ true → InLimits (s .rate) (s .channels)
-unfolding openedInOrder rateBad channelsBad
-opened-range s e =
-    let same : Bool = eq (s .«sample_period») (samplePeriod (s .rate)) in
-    let a = both (not (rateBad (s .rate))) (not (channelsBad (s .channels)) && same) e in
-    let b = both (not (channelsBad (s .channels))) same (a .1) in
-    let r = neither (ltb (s .rate) 1000) (ltb 500000 (s .rate)) (not-true (rateBad (s .rate)) (a .0)) in
-    let c = neither (ltb (s .channels) 1) (ltb 32 (s .channels)) (not-true (channelsBad (s .channels)) (b .0)) in
+-- ---- rate and channels
+
+pub limits-in : (rate channels : ℕ) → rateBad rate ≡ false → channelsBad channels ≡ false → InLimits rate channels
+unfolding rateBad channelsBad
+limits-in rate channels r c =
+    let p = neither (ltb rate 1000) (ltb 500000 rate) r in
+    let q = neither (ltb channels 1) (ltb 32 channels) c in
     record {
-      rate-low = ltb-false (s .rate) 1000 (r .0);
-      rate-high = ltb-false 500000 (s .rate) (r .1);
-      channels-low = ltb-false (s .channels) 1 (c .0);
-      channels-high = ltb-false 32 (s .channels) (c .1);
+      rate-low = ltb-false rate 1000 (p .0);
+      rate-high = ltb-false 500000 rate (p .1);
+      channels-low = ltb-false channels 1 (q .0);
+      channels-high = ltb-false 32 channels (q .1);
     }
 
-pub opened-of : (s : SonicStream) → inOrder s ≡ true → InLimits (s .rate) (s .channels)
-opened-of s e = opened-range s (tests-of s e .opened)
+pub limits-range : (s : SonicStream) → limitsInOrder s ≡ true → InLimits (s .rate) (s .channels)
+unfolding limitsInOrder
+limits-range s e =
+    let a = both (not (rateBad (s .rate))) (not (channelsBad (s .channels))) e in
+    limits-in (s .rate) (s .channels) (not-true (rateBad (s .rate)) (a .0)) (not-true (channelsBad (s .channels)) (a .1))
 
--- a setting in its range
+pub limits-of : (s : SonicStream) → inOrder s ≡ true → InLimits (s .rate) (s .channels)
+limits-of s e = limits-range s (tests-of s e .limits)
+
+-- ---- settings
+
+-- one of them in its range
 pub within-range : (low high x : Float) → within low high x ≡ true → T (le low x) × T (le x high)
 within-range low high x e = let b = both (le low x) (le x high) e in (holds (b .0), holds (b .1))
 
 -- the three of them
 pub record Ranges (s : SonicStream) : Type 0 where
-  pub speed : within minPitch maxPitch (s .speed) ≡ true
+  pub speed : within minSpeed maxSpeed (s .speed) ≡ true
   pub pitch : within minPitch maxPitch (s .pitch) ≡ true
   pub volume : within minVolume maxVolume (s .volume) ≡ true
 
@@ -114,7 +105,7 @@ pub ranges-of : (s : SonicStream) → settingsInOrder s ≡ true → Ranges s
 unfolding settingsInOrder
 ranges-of s e =
     let volume : Bool = within minVolume maxVolume (s .volume) in
-    let a = both (within minPitch maxPitch (s .speed)) (within minPitch maxPitch (s .pitch) && volume) e in
+    let a = both (within minSpeed maxSpeed (s .speed)) (within minPitch maxPitch (s .pitch) && volume) e in
     let b = both (within minPitch maxPitch (s .pitch)) volume (a .1) in
     record { speed = a .0; pitch = b .0; volume = b .1 }
 
@@ -122,94 +113,71 @@ pub settings-of : (s : SonicStream) → Ranges s → settingsInOrder s ≡ true
 unfolding settingsInOrder
 settings-of s r = rw (r .speed, r .pitch, r .volume)
 
-period-in : (rate q : ℕ) → (eqb q 0 || (leb (minPeriod rate) q && leb q (maxPeriod rate))) ≡ true → (q ≡ 0) ⊎ Pitch.InRange rate q
+pub ranges-same : (s t : SonicStream) → t .speed ≡ s .speed → t .pitch ≡ s .pitch → t .volume ≡ s .volume → Ranges s → Ranges t
+ranges-same s t speed pitch volume r =
+    record { speed = rw speed (r .speed); pitch = rw pitch (r .pitch); volume = rw volume (r .volume) }
+
+-- ---- the period record and the positions
+
+pub period-in : (rate q : ℕ) → (eqb q 0 || (leb (minPeriod rate) q && leb q (maxPeriod rate))) ≡ true → (q ≡ 0) ⊎ InRange rate q
 period-in rate q e = go (eqb q 0) refl e
   where
-    go : (b : Bool) → eqb q 0 ≡ b → (b || (leb (minPeriod rate) q && leb q (maxPeriod rate))) ≡ true → (q ≡ 0) ⊎ Pitch.InRange rate q
+    go : (b : Bool) → eqb q 0 ≡ b → (b || (leb (minPeriod rate) q && leb q (maxPeriod rate))) ≡ true → (q ≡ 0) ⊎ InRange rate q
     go true z h = inl (eqb-true q 0 z)
     go false z h =
         let r = both (leb (minPeriod rate) q) (leb q (maxPeriod rate)) h in
         inr (record { low = leb-true (minPeriod rate) q (r .0); high = leb-true q (maxPeriod rate) (r .1) })
 
-found-order : (s : SonicStream) → prevInOrder s ≡ true → Pitch.PrevInOrder (s .rate) (keptIn s .found)
-unfolding prevInOrder keptIn
-found-order s e =
+pub prev-order : (s : SonicStream) → prevInOrder s ≡ true → PrevInOrder (s .rate) (unlent s .prev)
+unfolding prevInOrder stateOf
+prev-order s e =
     let q = s .«prev_period» in
     let r = both (eqb q 0 || (leb (minPeriod (s .rate)) q && leb q (maxPeriod (s .rate)))) (leb (s .«prev_min_diff») widestGap) e in
     record { period-in = period-in (s .rate) q (r .0); min-diff-in = leb-true (s .«prev_min_diff») widestGap (r .1) }
 
-position-order : (r : Rates) (s : SonicStream) → positionsInOrder r s ≡ true → Tail.PositionInOrder r (keptIn s .at)
-unfolding positionsInOrder keptIn
+pub position-order : (r : Rates) (s : SonicStream) → positionsInOrder r s ≡ true → PositionInOrder r (unlent s .at)
+unfolding positionsInOrder stateOf
 position-order r s e =
     let least : ℕ = ceilDiv (s .«old_rate_position» * r .new) (r .old) in
     let b = both (ltb (s .«old_rate_position») (r .old)) (eqb (s .«new_rate_position») least) e in
     record { below = ltb-true (s .«old_rate_position») (r .old) (b .0); least = eqb-true (s .«new_rate_position») least (b .1) }
 
-pub ready-of : (s : SonicStream) → inOrder s ≡ true → Ready (setupOf s) (keptIn s)
-unfolding keptIn
-ready-of s e =
+-- ---- what a call's work goes by
+
+-- whatever its areas hold
+pub state-ready : (s : SonicStream) → inOrder s ≡ true → (input stage : List ℤ) → StateReady (stateOf s input stage)
+unfolding stateOf
+state-ready s e input stage =
     let t = tests-of s e in
     let v = within-range minVolume maxVolume (s .volume) (ranges-of s (t .settings) .volume) in
     record {
-      opened = opened-of s e;
-      period-is = refl;
+      limits = limits-of s e;
       volume-low = v .0;
       volume-high = v .1;
       position = position-order (ratesOf (s .rate) (s .pitch)) s (t .positions);
-      found = found-order s (t .found);
+      prev = prev-order s (t .prev);
     }
 
--- ---- the areas
+pub ready-of : (s : SonicStream) → inOrder s ≡ true → StateReady (unlent s)
+ready-of s e = state-ready s e [] []
 
--- refusal 4 is not met
-pub record AreasGood (s : SonicStream) (a : Areas) : Type 0 where
-  pub input-short : length (a .input) ≤ 2 ^ 24
-  pub stage-short : length (a .stage) ≤ 2 ^ 24
-  pub output-short : length (a .output) ≤ 2 ^ 24
-  pub scratch-short : length (a .scratch) ≤ 2 ^ 24
-  pub scratch-fits : maxRequired (s .rate) ≤ length (a .scratch)
-  pub held : s .held .0 * s .channels ≤ length (a .input)
-  pub tail : s .tail .0 * s .channels ≤ length (a .stage)
-  pub waiting : s .waiting .0 * s .channels ≤ length (a .output)
+-- ---- what `ordered` answers
 
-area-short : (area : List ℤ) → tooLong area ≡ false → length area ≤ 2 ^ 24
-area-short area e = let h : length area ≤ maxArea = ltb-false maxArea (length area) e in omega arith
+abbrev orderBy : SonicStream → Bool → Order
+orderBy s b = cond b (Order.Good (samplePeriod (s .rate))) Order.Bad
 
-area-fits : (channels k : ℕ) (area : List ℤ) → tooShort channels k area ≡ false → k * channels ≤ length area
-area-fits channels k area e = ltb-false (length area) (k * channels) e
+pub good-of : (s : SonicStream) (period : Float) → orderOf s ≡ Order.Good period → (inOrder s ≡ true) × (period ≡ samplePeriod (s .rate))
+unfolding orderOf
+good-of s period e = go (inOrder s) refl e
+  where
+    go : (b : Bool) → inOrder s ≡ b → orderBy s b ≡ Order.Good period → (inOrder s ≡ true) × (period ≡ samplePeriod (s .rate))
+    go true p h = (p, cc)
+    go false p h = let z : true ≡ false = cc in absurd (true≢false z)
 
-pub areas-of : (s : SonicStream) (a : Areas) → areasBad s a ≡ false → AreasGood s a
-unfolding areasBad sizesBad partsBad
-areas-of s a e =
-    let input : Bool = tooLong (a .input) in
-    let stage : Bool = tooLong (a .stage) in
-    let output : Bool = tooLong (a .output) in
-    let scratch : Bool = tooLong (a .scratch) in
-    let few : Bool = ltb (length (a .scratch)) (maxRequired (s .rate)) in
-    let held : Bool = tooShort (s .channels) (s .held .0) (a .input) in
-    let tail : Bool = tooShort (s .channels) (s .tail .0) (a .stage) in
-    let waiting : Bool = tooShort (s .channels) (s .waiting .0) (a .output) in
-    let p = neither (sizesBad s a) (partsBad s (a .input) (a .stage) (a .output)) e in
-    let i = neither input (stage || (output || (scratch || few))) (p .0) in
-    let t = neither stage (output || (scratch || few)) (i .1) in
-    let o = neither output (scratch || few) (t .1) in
-    let x = neither scratch few (o .1) in
-    let h = neither held (tail || waiting) (p .1) in
-    let w = neither tail waiting (h .1) in
-    record {
-      input-short = area-short (a .input) (i .0);
-      stage-short = area-short (a .stage) (t .0);
-      output-short = area-short (a .output) (o .0);
-      scratch-short = area-short (a .scratch) (x .0);
-      scratch-fits = ltb-false (length (a .scratch)) (maxRequired (s .rate)) (x .1);
-      held = area-fits (s .channels) (s .held .0) (a .input) (h .0);
-      tail = area-fits (s .channels) (s .tail .0) (a .stage) (w .0);
-      waiting = area-fits (s .channels) (s .waiting .0) (a .output) (w .1);
-    }
-
-pub output-of : (s : SonicStream) (output : List ℤ) → outputBad s output ≡ false
-    → (s .waiting .0 * s .channels ≤ length output) × (length output ≤ 2 ^ 24)
-unfolding outputBad
-output-of s output e =
-    let p = neither (tooLong output) (tooShort (s .channels) (s .waiting .0) output) e in
-    (area-fits (s .channels) (s .waiting .0) output (p .1), area-short output (p .0))
+pub bad-of : (s : SonicStream) → orderOf s ≡ Order.Bad → inOrder s ≡ false
+unfolding orderOf
+bad-of s e = go (inOrder s) refl e
+  where
+    go : (b : Bool) → inOrder s ≡ b → orderBy s b ≡ Order.Bad → inOrder s ≡ false
+    go true p h = let z : true ≡ false = cc in absurd (true≢false z)
+    go false p h = p

@@ -1,3 +1,5 @@
+pub mod Testing
+pub mod AreaTests
 pub mod InOrder
+pub mod Streams
 pub mod Stays
-mod Testing

@@ -1,54 +1,67 @@
 -- A stream in order stays so. Theorems over the definitions of `specs/`, for the crates above:
---   open-in-order    the stream of an accepted opening is in order
---   set-in-order     a setting keeps it so
---   read-in-order    and so does a read
--- Before them: clamped settings, the equality of a float with itself, positions of 0, the fresh stream. Assumes nothing.
+--   ready-in-order      a stream that a call's work goes by, with its settings in range, is in order
+--   state-in-order      so is the stream of such a state
+--   open-in-order       the stream of an accepted opening is in order
+--   setting-in-order, set-in-order     a setting keeps it so; the stream of an accepted one is in order
+--   waiting-in-order    a stream in order stays so with other frames waiting and the sample period of its rate
+-- Before them: the five tests from the facts, of these period-same (T is equal to itself) and positions-of; clamped settings.
+-- Assumes nothing.
 use mathlib.Core.Path.{_≡_, refl, subst}
-use mathlib.Core.Bool.{Bool, true, false, not, cond}
+use mathlib.Core.Bool.{Bool, true, false, not, cond, _&&_, _||_, or-true, true≢false}
+use mathlib.Core.Logic.{inl, ⊎-elim}
 use Prim.Native.Nat.{ℕ, _*_, _≤_}
 use native.Mathlib.Omega.{arith}
-use borrow.Author.Tests.{ltb-false, lt-ltb, eq-eqb}
-use lib.Dec.{T, ltb}
+use borrow.Author.Tests.{le-leb, lt-ltb, le-ltb, eq-eqb}
+use lib.Dec.{T, leb, eqb}
 use lib.Ieee.Bits.{is-true}
 use lib.Ieee.{Float, nan, inf, fin, le, lt, eq, isNan, ofBits, up, down}
 use Rattle.floats.specs.Numbers.{one}
-use Rattle.floats.specs.Settings.{samplePeriod, clamped, minPitch, maxPitch, minVolume, maxVolume}
+use Rattle.floats.specs.Settings.{samplePeriod, clamped, minSpeed, maxSpeed, minPitch, maxPitch, minVolume, maxVolume}
 use Rattle.floats.proofs.Signs.{le-no-nan}
 use Rattle.floats.proofs.Facts.{clamped-in, longest, period-range}
+use Rattle.period.specs.declared.PeriodRecord.{PeriodRecord}
+use Rattle.period.specs.Rates.{minPeriod, maxPeriod, InLimits}
+use Rattle.period.specs.Search.{widestGap}
+use Rattle.period.specs.Pitch.{PeriodIn, PrevInOrder}
 use Rattle.rate.specs.declared.Rates.{Rates}
+use Rattle.rate.specs.declared.Position.{Position}
 use Rattle.rate.specs.Halving.{ratesOf}
-use Rattle.rate.specs.Tail.{start, ceilDiv}
-use Rattle.rate.specs.Tail as Tail
+use Rattle.rate.specs.Tail.{start, ceilDiv, PositionInOrder}
 use Rattle.rate.proofs.Halving.{rates-within}
 use Rattle.rate.proofs.Positions.{start-order}
-use Rattle.process.specs.State.{setupFor}
-use Rattle.process.specs.Kept.{keptOf}
-use Rattle.sonic.specs.declared.SonicStream.{SonicStream}
-use Rattle.sonic.specs.declared.Setting.{Setting}
-use Rattle.sonic.specs.declared.Setting.the-variants.{Speed, Pitch, Volume}
-use Rattle.sonic.specs.declared.Opened.{Opened}
-use Rattle.sonic.specs.Settings.{fresh, settingsWith, positionWith}
-use Rattle.sonic.specs.Stream.{keptIn, keeping, streamOf, streamWith, zeroStream}
-use Rattle.sonic.specs.Refusals.{rateBad, channelsBad, within, openedInOrder, settingsInOrder, prevInOrder, positionsInOrder, inOrder}
-use Rattle.sonic.specs.Calls.{openCall, changed}
-use Rattle.sonic.specs.Reading.{fewer}
-use Rattle.sonic.proofs.InOrder.{neither, tests-of, in-order-of, opened-of, within-range, Ranges, ranges-of, settings-of, ready-of}
+use Rattle.stream.specs.declared.SonicStream.{SonicStream}
+use Rattle.stream.specs.declared.Setting.{Setting}
+use Rattle.stream.specs.declared.Setting.the-variants.{Speed, Pitch, Volume}
+use Rattle.stream.specs.declared.Opened.{Opened}
+use Rattle.stream.specs.declared.Changed.{Changed}
+use Rattle.stream.specs.State.{State, withSettings}
+use Rattle.stream.specs.Stream.{stateOf, streamOf, unlent, zeroStream}
+use Rattle.stream.specs.Refusals.{
+  badRate,
+  badChannels,
+  badStream,
+  rateBad,
+  channelsBad,
+  within,
+  limitsInOrder,
+  periodInOrder,
+  prevInOrder,
+  positionsInOrder,
+  inOrder,
+}
+use Rattle.stream.specs.Order.{StateReady, StreamReady}
+use Rattle.stream.specs.Settings.{fresh, openCall, withSetting, setCall}
+use Rattle.stream.proofs.InOrder.{tests-of, in-order-of, limits-in, limits-of, within-range, Ranges, ranges-of, settings-of, ready-of}
+use Rattle.stream.proofs.Streams.{ready-stream}
 
 -- ---- the tests, from the facts
 
-clamped-within : (x low high : Float) → T (le low high) → within low high (clamped x low high) ≡ true
-clamped-within x low high h =
-    let y = clamped x low high in
-    let r = clamped-in x low high h in
-    rw (is-true (le low y) (r .0), is-true (le y high) (r .1))
-
-pitch-range : T (le minPitch maxPitch)
-unfolding ofBits le lt eq
-pitch-range = tt
-
-volume-range : T (le minVolume maxVolume)
-unfolding ofBits le lt eq
-volume-range = tt
+limits-test : (s : SonicStream) → InLimits (s .rate) (s .channels) → limitsInOrder s ≡ true
+unfolding limitsInOrder rateBad channelsBad
+limits-test s l =
+    let rate = le-ltb (s .rate) 1000 (l .rate-low) in
+    let channels = le-ltb (s .channels) 1 (l .channels-low) in
+    rw (rate, le-ltb 500000 (s .rate) (l .rate-high), channels, le-ltb 32 (s .channels) (l .channels-high))
 
 eq-self : (x : Float) → T (not (isNan x)) → eq x x ≡ true
 unfolding eq isNan
@@ -58,13 +71,79 @@ eq-self (inf false) h = refl
 eq-self (fin true m e) h = rw (eq-eqb (m * up e * down e) (m * up e * down e) refl)
 eq-self (fin false m e) h = rw (eq-eqb (m * up e * down e) (m * up e * down e) refl)
 
-pub positions-of : (r : Rates) (s : SonicStream) → Tail.PositionInOrder r (keptIn s .at) → positionsInOrder r s ≡ true
-unfolding positionsInOrder keptIn
+pub period-same : (rate : ℕ) → 1000 ≤ rate → rate ≤ 500000 → eq (samplePeriod rate) (samplePeriod rate) ≡ true
+period-same rate low high = eq-self (samplePeriod rate) (le-no-nan (samplePeriod rate) longest (period-range rate low high .3) .0)
+
+period-test : (s : SonicStream) → InLimits (s .rate) (s .channels) → s .«sample_period» ≡ samplePeriod (s .rate) → periodInOrder s ≡ true
+unfolding periodInOrder
+period-test s l e = rw e (period-same (s .rate) (l .rate-low) (l .rate-high))
+
+period-of : (rate : ℕ) (prev : PeriodRecord) → PeriodIn rate prev
+    → (eqb (prev .period) 0 || (leb (minPeriod rate) (prev .period) && leb (prev .period) (maxPeriod rate))) ≡ true
+period-of rate prev p =
+    ⊎-elim (λ z. rw (eq-eqb (prev .period) 0 z))
+    (λ r. rw (le-leb (minPeriod rate) (prev .period) (r .low), le-leb (prev .period) (maxPeriod rate) (r .high)) (or-true (eqb (prev .period) 0))) p
+
+prev-test : (s : SonicStream) → PrevInOrder (s .rate) (unlent s .prev) → prevInOrder s ≡ true
+unfolding prevInOrder stateOf
+prev-test s p = rw (period-of (s .rate) (unlent s .prev) (p .period-in), le-leb (s .«prev_min_diff») widestGap (p .min-diff-in))
+
+pub positions-of : (r : Rates) (s : SonicStream) → PositionInOrder r (unlent s .at) → positionsInOrder r s ≡ true
+unfolding positionsInOrder stateOf
 positions-of r s h =
-    rw (lt-ltb (s .«old_rate_position») (r .old) (h .below), eq-eqb (s .«new_rate_position») (ceilDiv (s .«old_rate_position» * r .new) (r .old)) (h .least))
+    let least : ℕ = ceilDiv (s .«old_rate_position» * r .new) (r .old) in
+    rw (lt-ltb (s .«old_rate_position») (r .old) (h .below), eq-eqb (s .«new_rate_position») least (h .least))
+
+-- ---- in order, from the facts
+
+pub ready-in-order : (s : SonicStream) → StreamReady s → Ranges s → inOrder s ≡ true
+unfolding stateOf
+ready-in-order s r g =
+    in-order-of s
+    (record {
+      limits = limits-test s (r .state .limits);
+      period = period-test s (r .state .limits) (r .period-is);
+      settings = settings-of s g;
+      prev = prev-test s (r .state .prev);
+      positions = positions-of (ratesOf (s .rate) (s .pitch)) s (r .state .position);
+    })
+
+pub state-in-order : (x : State) (w : ℕ) → StateReady x → Ranges (streamOf x w) → inOrder (streamOf x w) ≡ true
+state-in-order x w r g = ready-in-order (streamOf x w) (ready-stream r w) g
+
+pub waiting-in-order : (s : SonicStream) (w : ℕ) → inOrder s ≡ true → inOrder (streamOf (unlent s) w) ≡ true
+unfolding stateOf streamOf
+waiting-in-order s w e =
+    let g = ranges-of s (tests-of s e .settings) in
+    state-in-order (unlent s) w (ready-of s e) (record { speed = g .speed; pitch = g .pitch; volume = g .volume })
+
+-- ---- settings in range
+
+clamped-within : (x low high : Float) → T (le low high) → within low high (clamped x low high) ≡ true
+clamped-within x low high h =
+    let y = clamped x low high in
+    let r = clamped-in x low high h in
+    rw (is-true (le low y) (r .0), is-true (le y high) (r .1))
+
+speed-range : T (le minSpeed maxSpeed)
+unfolding ofBits le lt eq
+speed-range = tt
+
+pitch-range : T (le minPitch maxPitch)
+unfolding ofBits le lt eq
+pitch-range = tt
+
+volume-range : T (le minVolume maxVolume)
+unfolding ofBits le lt eq
+volume-range = tt
+
+one-within : (within minSpeed maxSpeed one ≡ true) × (within minPitch maxPitch one ≡ true) × (within minVolume maxVolume one ≡ true)
+unfolding ofBits le lt eq
+one-within = (refl, refl, refl)
 
 -- positions of 0 are in order for every pitch
-start-in : (rate : ℕ) (pitch : Float) → 1000 ≤ rate → rate ≤ 500000 → within minPitch maxPitch pitch ≡ true → Tail.PositionInOrder (ratesOf rate pitch) start
+start-in : (rate : ℕ) (pitch : Float) → 1000 ≤ rate → rate ≤ 500000 → within minPitch maxPitch pitch ≡ true
+    → PositionInOrder (ratesOf rate pitch) start
 start-in rate pitch low high e =
     let p = within-range minPitch maxPitch pitch e in
     let w = rates-within rate pitch low high (p .0) (p .1) in
@@ -72,31 +151,14 @@ start-in rate pitch low high e =
 
 -- ---- an opening
 
-pub period-same : (rate : ℕ) → 1000 ≤ rate → rate ≤ 500000 → eq (samplePeriod rate) (samplePeriod rate) ≡ true
-period-same rate low high = eq-self (samplePeriod rate) (le-no-nan (samplePeriod rate) longest (period-range rate low high .3) .0)
-
-rate-in : (rate : ℕ) → rateBad rate ≡ false → (1000 ≤ rate) × (rate ≤ 500000)
-unfolding rateBad
-rate-in rate e = let r = neither (ltb rate 1000) (ltb 500000 rate) e in (ltb-false rate 1000 (r .0), ltb-false 500000 rate (r .1))
-
-one-within : (within minPitch maxPitch one ≡ true) × (within minVolume maxVolume one ≡ true)
-unfolding ofBits le lt eq
-one-within = (refl, refl)
-
-fresh-in-order : (rate channels : ℕ) → rateBad rate ≡ false → channelsBad channels ≡ false → inOrder (streamOf (setupFor rate channels) fresh 0) ≡ true
-unfolding streamOf streamWith keptOf keptIn fresh
-fresh-in-order rate channels r c =
-    let s : SonicStream = streamOf (setupFor rate channels) fresh 0 in
-    let h = rate-in rate r in
-    let opened : openedInOrder s ≡ true = unfold openedInOrder in rw (r, c, period-same rate (h .0) (h .1)) in
-    let found : prevInOrder s ≡ true = unfold prevInOrder in refl in
-    in-order-of s
-    (record {
-      opened = opened;
-      settings = settings-of s (record { speed = one-within .0; pitch = one-within .0; volume = one-within .1 });
-      found = found;
-      positions = positions-of (ratesOf rate one) s (start-in rate one (h .0) (h .1) (one-within .0));
-    })
+fresh-in-order : (rate channels : ℕ) → InLimits rate channels → inOrder (streamOf (fresh rate channels) 0) ≡ true
+unfolding streamOf fresh
+fresh-in-order rate channels l =
+    let v = within-range minVolume maxVolume one (one-within .2) in
+    let none : PrevInOrder rate (fresh rate channels .prev) = record { period-in = inl refl; min-diff-in = omega arith } in
+    state-in-order (fresh rate channels) 0
+    (record { limits = l; volume-low = v .0; volume-high = v .1; position = start-in rate one (l .rate-low) (l .rate-high) (one-within .1); prev = none })
+    (record { speed = one-within .0; pitch = one-within .1; volume = one-within .2 })
 
 pub open-in-order : (rate channels : ℕ) (s : SonicStream) → openCall rate channels ≡ Opened.Done s → inOrder s ≡ true
 unfolding openCall
@@ -104,47 +166,57 @@ open-in-order rate channels s e = go (rateBad rate) (channelsBad channels) refl 
   where
     answer : Bool → Bool → Opened
     answer a b =
-        cond a (Opened.Refused 1 rate zeroStream) (cond b (Opened.Refused 2 channels zeroStream) (Opened.Done (streamOf (setupFor rate channels) fresh 0)))
+        cond a (Opened.Refused badRate rate zeroStream)
+        (cond b (Opened.Refused badChannels channels zeroStream) (Opened.Done (streamOf (fresh rate channels) 0)))
 
     go : (a b : Bool) → rateBad rate ≡ a → channelsBad channels ≡ b → answer a b ≡ Opened.Done s → inOrder s ≡ true
-    go true b p q h = let z : _≡_ {A = ℕ} 0 1 = cc in absurd (omega arith)
-    go false true p q h = let z : _≡_ {A = ℕ} 0 1 = cc in absurd (omega arith)
+    go true b p q h = let z : true ≡ false = cc in absurd (true≢false z)
+    go false true p q h = let z : true ≡ false = cc in absurd (true≢false z)
     go false false p q h =
-        let same : streamOf (setupFor rate channels) fresh 0 ≡ s = cc in
-        subst (λ (t : SonicStream). inOrder t ≡ true) same (fresh-in-order rate channels p q)
+        let same : streamOf (fresh rate channels) 0 ≡ s = cc in
+        subst (λ (t : SonicStream). inOrder t ≡ true) same (fresh-in-order rate channels (limits-in rate channels p q))
 
 -- ---- a setting
 
--- all but settings and positions is as it was
-with-setting : (s : SonicStream) (v : Setting) → inOrder s ≡ true → Ranges (keeping s (changed v (keptIn s)))
-    → Tail.PositionInOrder (ratesOf (s .rate) (keeping s (changed v (keptIn s)) .pitch)) (positionWith v (keptIn s .at))
-    → inOrder (keeping s (changed v (keptIn s))) ≡ true
-unfolding openedInOrder prevInOrder keeping streamWith changed keptIn
-with-setting s v e r p =
-    let t = tests-of s e in
-    let s' : SonicStream = keeping s (changed v (keptIn s)) in
-    in-order-of s'
-    (record { opened = t .opened; settings = settings-of s' r; found = t .found; positions = positions-of (ratesOf (s .rate) (s' .pitch)) s' p })
+module _ (s : SonicStream) (e : inOrder s ≡ true) where
+  -- all but settings and positions is as it was
+  with-settings : (speed pitch volume : Float) (at : Position) (w : ℕ) → Ranges (streamOf (withSettings (unlent s) speed pitch volume at) w)
+      → PositionInOrder (ratesOf (s .rate) pitch) at → inOrder (streamOf (withSettings (unlent s) speed pitch volume at) w) ≡ true
+  unfolding stateOf streamOf
+  with-settings speed pitch volume at w g p =
+      let r = ready-of s e in
+      let v = within-range minVolume maxVolume volume (g .volume) in
+      state-in-order (withSettings (unlent s) speed pitch volume at) w
+      (record { limits = r .limits; volume-low = v .0; volume-high = v .1; position = p; prev = r .prev }) g
 
-pub set-in-order : (s : SonicStream) (v : Setting) → inOrder s ≡ true → inOrder (keeping s (changed v (keptIn s))) ≡ true
-unfolding keeping streamWith changed keptIn settingsWith positionWith
-set-in-order s (Speed x) e =
-    let r = ranges-of s (tests-of s e .settings) in
-    with-setting s (Speed x) e (record { speed = clamped-within x minPitch maxPitch pitch-range; pitch = r .pitch; volume = r .volume })
-    (ready-of s e .position)
-set-in-order s (Pitch x) e =
-    let r = ranges-of s (tests-of s e .settings) in
-    let o = opened-of s e in
-    let p = clamped-within x minPitch maxPitch pitch-range in
-    with-setting s (Pitch x) e (record { speed = r .speed; pitch = p; volume = r .volume })
-    (start-in (s .rate) (clamped x minPitch maxPitch) (o .rate-low) (o .rate-high) p)
-set-in-order s (Volume x) e =
-    let r = ranges-of s (tests-of s e .settings) in
-    with-setting s (Volume x) e (record { speed = r .speed; pitch = r .pitch; volume = clamped-within x minVolume maxVolume volume-range })
-    (ready-of s e .position)
+  pub setting-in-order : (v : Setting) (w : ℕ) → inOrder (streamOf (withSetting v (unlent s)) w) ≡ true
+  unfolding withSetting stateOf streamOf
+  setting-in-order (Speed x) w =
+      let r = ranges-of s (tests-of s e .settings) in
+      let speed = clamped-within x minSpeed maxSpeed speed-range in
+      with-settings (clamped x minSpeed maxSpeed) (s .pitch) (s .volume) (unlent s .at) w
+      (record { speed = speed; pitch = r .pitch; volume = r .volume }) (ready-of s e .position)
+  setting-in-order (Pitch x) w =
+      let r = ranges-of s (tests-of s e .settings) in
+      let l = limits-of s e in
+      let pitch = clamped-within x minPitch maxPitch pitch-range in
+      with-settings (s .speed) (clamped x minPitch maxPitch) (s .volume) start w
+      (record { speed = r .speed; pitch = pitch; volume = r .volume }) (start-in (s .rate) (clamped x minPitch maxPitch) (l .rate-low) (l .rate-high) pitch)
+  setting-in-order (Volume x) w =
+      let r = ranges-of s (tests-of s e .settings) in
+      let volume = clamped-within x minVolume maxVolume volume-range in
+      with-settings (s .speed) (s .pitch) (clamped x minVolume maxVolume) (unlent s .at) w
+      (record { speed = r .speed; pitch = r .pitch; volume = volume }) (ready-of s e .position)
 
--- ---- a read
+pub set-in-order : (s : SonicStream) (v : Setting) (t : SonicStream) → setCall s v ≡ Changed.Done t → inOrder t ≡ true
+unfolding setCall
+set-in-order s v t e = go (inOrder s) refl e
+  where
+    answer : Bool → Changed
+    answer b = cond b (Changed.Done (streamOf (withSetting v (unlent s)) (s .waiting .0))) (Changed.Refused badStream s)
 
-pub read-in-order : (s : SonicStream) (n : ℕ) → inOrder s ≡ true → inOrder (keeping s (fewer n (keptIn s))) ≡ true
-unfolding inOrder openedInOrder settingsInOrder prevInOrder positionsInOrder keeping streamWith fewer keptIn
-read-in-order s n e = e
+    go : (b : Bool) → inOrder s ≡ b → answer b ≡ Changed.Done t → inOrder t ≡ true
+    go true p h =
+        let same : streamOf (withSetting v (unlent s)) (s .waiting .0) ≡ t = cc in
+        subst (λ (r : SonicStream). inOrder r ≡ true) same (setting-in-order s p v (s .waiting .0))
+    go false p h = let z : true ≡ false = cc in absurd (true≢false z)

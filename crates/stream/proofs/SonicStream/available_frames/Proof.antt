@@ -1,25 +1,32 @@
--- `sonic::SonicStream::available_frames` meets its contract. Assumes nothing.
+-- `stream::SonicStream::available_frames` meets its contract. Assumes nothing.
 use borrow.Author.Needs.{needs}
 use mathlib.Core.Path.{sym, _∙_}
-use borrow.Author.Tests.{not-true, not-false}
-use Rattle.sonic.specs.Calls.{availableCall}
-use Rattle.sonic.proofs.SonicStream.available_frames.Statement.{statement}
-use Rattle.sonic.proofs.SonicStream.available_frames.Tie as tie
+use Rattle.stream.specs.Settings.{availableCall}
+use Rattle.stream.proofs.InOrder.{good-of, bad-of}
+use Rattle.stream.proofs.SonicStream.available_frames.Statement.{statement}
+use Rattle.stream.proofs.SonicStream.available_frames.Tie as tie
 
-in-order-requires : tie.Need-in-order-requires
-in-order-requires c κs = search needs
+ordered-requires : tie.Need-ordered-requires
+ordered-requires c κs = search needs
+
+enum-told : tie.Need-enum-told
+enum-told c = search needs
+
+enum-told-2 : tie.Need-enum-told-2
+enum-told-2 c = search needs
 
 returns : tie.Need-returns
 unfolding availableCall
 returns c =
-    let test = c .before .in-order in
-    simp (sym (test .ensures) ∙ not-true (test .result) (c .if1 .taken))
+    let o = c .before .before in
+    simp (bad-of (o .before .args .self) (sym (o .ordered .ensures) ∙ c .enum-told2 .given .1))
 
 returns-2 : tie.Need-returns-2
 unfolding availableCall
 returns-2 c =
-    let test = c .before .before .in-order in
-    simp (sym (test .ensures) ∙ not-false (test .result) (c .before .if1 .left))
+    let g = c .before in
+    let o = g .before .before in
+    simp (good-of (o .before .args .self) _ (sym (o .ordered .ensures) ∙ g .enum-told .given .1) .0)
 
 pub available-frames-spec : {M : Type 1} → statement M
-available-frames-spec = tie.close (tie.spec in-order-requires returns returns-2)
+available-frames-spec = tie.close (tie.spec ordered-requires enum-told enum-told-2 returns returns-2)

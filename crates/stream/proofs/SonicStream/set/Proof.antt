@@ -1,21 +1,67 @@
--- `sonic::SonicStream::set` meets its contract. Assumes nothing.
+-- `stream::SonicStream::set` meets its contract: places, what a stream in order shows, the answers, what is closed by search. Assumes nothing.
 use borrow.Author.Needs.{needs}
-use mathlib.Core.Path.{sym, _∙_}
-use borrow.Author.Tests.{not-true, not-false}
-use Rattle.sonic.specs.Settings.{settingsWith, positionWith}
-use Rattle.sonic.specs.Stream.{keptIn, streamWith, keeping}
-use Rattle.sonic.specs.Calls.{changed, setCall}
-use Rattle.sonic.proofs.SonicStream.set.Statement.{statement}
-use Rattle.sonic.proofs.SonicStream.set.Tie as tie
+use mathlib.Core.Path.{_≡_, sym, _∙_}
+use mathlib.Core.Bool.{true}
+use Rattle.frames.proofs.Framing.{length-framesOf}
+use Rattle.floats.specs.Settings.{samplePeriod}
+use Rattle.stream.specs.Refusals.{inOrder}
+use Rattle.stream.specs.Stream.{stateOf, streamOf}
+use Rattle.stream.specs.Settings.{withSetting, setCall}
+use Rattle.stream.proofs.InOrder.{good-of, bad-of}
+use Rattle.stream.proofs.SonicStream.set.Statement.{statement}
+use Rattle.stream.proofs.SonicStream.set.Tie as tie
 
-in-order-requires : tie.Need-in-order-requires
-in-order-requires c κs = search needs
+-- ---- places
+
+abbrev ordered-at : tie.After-known-told → tie.After-ordered
+ordered-at c = c .before .before .before
+
+-- ---- in order: the test, and the period of the rate
+
+good : (c : tie.After-known-told) → let s = ordered-at c .before .args .self in (inOrder s ≡ true) × (c .before .order .given .0 .0 ≡ samplePeriod (s .rate))
+good c =
+    let o = ordered-at c in
+    good-of (o .before .args .self) _ (sym (o .ordered .ensures) ∙ c .before .order .given .1)
+
+-- ---- the answers
 
 returns : tie.Need-returns
 unfolding setCall
 returns c =
-    let test = c .before .in-order in
-    simp (sym (test .ensures) ∙ not-true (test .result) (c .if1 .taken))
+    let o = c .before .before in
+    simp (bad-of (o .before .args .self) (sym (o .ordered .ensures) ∙ c .enum-told .given .1))
+
+returns-2 : tie.Need-returns-2
+unfolding setCall withSetting streamOf stateOf
+returns-2 c =
+    let v = c .before .before in
+    let g = good (v .before .before) in
+    simp (g .0, g .1, v .setting .given .1, c .clamp .ensures, length-framesOf)
+
+returns-3 : tie.Need-returns-3
+unfolding setCall withSetting streamOf stateOf
+returns-3 c =
+    let v = c .before .before in
+    let g = good (v .before .before) in
+    simp (g .0, g .1, v .setting2 .given .1, c .clamp2 .ensures, length-framesOf)
+
+returns-4 : tie.Need-returns-4
+unfolding setCall withSetting streamOf stateOf
+returns-4 c =
+    let v = c .before .before in
+    let g = good (v .before .before) in
+    simp (g .0, g .1, v .setting3 .given .1, c .clamp3 .ensures, length-framesOf)
+
+-- ---- closed by search
+
+ordered-requires : tie.Need-ordered-requires
+ordered-requires c κs = search needs
+
+enum-known-order : tie.Need-enum-known-order
+enum-known-order c = search needs
+
+enum-told : tie.Need-enum-told
+enum-told c = search needs
 
 enum-known-setting : tie.Need-enum-known-setting
 enum-known-setting c = search needs
@@ -35,32 +81,13 @@ enum-known-setting-3 c = search needs
 clamp-requires-3 : tie.Need-clamp-requires-3
 clamp-requires-3 c κs = search needs
 
-returns-2 : tie.Need-returns-2
-unfolding setCall changed settingsWith positionWith keeping streamWith keptIn
-returns-2 c =
-    let test = c .before .before .before .before .before .in-order in
-    let accepted = sym (test .ensures) ∙ not-false (test .result) (c .before .before .before .before .if1 .left) in
-    simp (accepted, c .before .before .setting .given .1, c .clamp .ensures)
-
-returns-3 : tie.Need-returns-3
-unfolding setCall changed settingsWith positionWith keeping streamWith keptIn
-returns-3 c =
-    let test = c .before .before .before .before .before .in-order in
-    let accepted = sym (test .ensures) ∙ not-false (test .result) (c .before .before .before .before .if1 .left) in
-    simp (accepted, c .before .before .setting2 .given .1, c .clamp2 .ensures)
-
-returns-4 : tie.Need-returns-4
-unfolding setCall changed settingsWith positionWith keeping streamWith keptIn
-returns-4 c =
-    let test = c .before .before .before .before .before .in-order in
-    let accepted = sym (test .ensures) ∙ not-false (test .result) (c .before .before .before .before .if1 .left) in
-    simp (accepted, c .before .before .setting3 .given .1, c .clamp3 .ensures)
-
 pub set-spec : {M : Type 1} → statement M
 set-spec =
     tie.close
     (tie.spec
-    in-order-requires
+    ordered-requires
+    enum-known-order
+    enum-told
     returns
     enum-known-setting
     clamp-requires

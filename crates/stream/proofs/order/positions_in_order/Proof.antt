@@ -1,13 +1,13 @@
--- `sonic::order::positions_in_order` meets its contract. Assumes nothing.
+-- `stream::order::positions_in_order` meets its contract. Assumes nothing.
 use borrow.Author.Needs.{needs}
 use Prim.Native.Nat.{_*_, _≤_}
 use native.Mathlib.Nat.{mul-le-mul}
 use native.Mathlib.Omega.{arith}
 use Rattle.rate.specs.Halving.{ratesOf}
 use Rattle.rate.proofs.Halving.{rates-most}
-use Rattle.sonic.proofs.Testing.{position-over, position-is}
-use Rattle.sonic.proofs.order.positions_in_order.Statement.{statement}
-use Rattle.sonic.proofs.order.positions_in_order.Tie as tie
+use Rattle.stream.proofs.Testing.{position-over, position-is}
+use Rattle.stream.proofs.order.positions_in_order.Statement.{statement}
+use Rattle.stream.proofs.order.positions_in_order.Tie as tie
 
 rates-of-requires : tie.Need-rates-of-requires
 rates-of-requires c κs = search needs

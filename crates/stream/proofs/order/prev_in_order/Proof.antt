@@ -1,4 +1,4 @@
--- `sonic::order::prev_in_order` meets its contract. Assumes nothing.
+-- `stream::order::prev_in_order` meets its contract. Assumes nothing.
 use borrow.Author.Needs.{needs}
 use mathlib.Core.Path.{_≡_}
 use mathlib.Core.Bool.{true, false}
@@ -6,9 +6,9 @@ use mathlib.Core.Logic.{⊎-elim}
 use borrow.Author.Tests.{lt-leb, le-leb, eq-eqb, ne-eqb}
 use lib.Dec.{leb}
 use Rattle.period.specs.Rates.{minPeriod, maxPeriod}
-use Rattle.sonic.specs.Refusals.{prevInOrder}
-use Rattle.sonic.proofs.order.prev_in_order.Statement.{statement}
-use Rattle.sonic.proofs.order.prev_in_order.Tie as tie
+use Rattle.stream.specs.Refusals.{prevInOrder}
+use Rattle.stream.proofs.order.prev_in_order.Statement.{statement}
+use Rattle.stream.proofs.order.prev_in_order.Tie as tie
 
 cast-rate : tie.Need-cast-rate
 cast-rate c = search needs
