@@ -1,12 +1,13 @@
 -- From the work of a call that added frames to its answer, of a write and of a flush:
---   answerBy            its answer, by the work's
---   worked-in-order     the stream after the work is in order
---   added-answered      the contract, from that of an accepted call
+--   answerBy, workOf         the answer, by the work's; the work, by the frames added
+--   worked-in-order          the stream after the work is in order
+--   held-same, tail-same     what the stream held stays where the work has no room
+--   added-answered           the contract, from that of an accepted call
 -- Assumes nothing.
 use mathlib.Core.Path.{_≡_, _∙_}
 use mathlib.Core.Bool.{true}
 use mathlib.Core.List.{List}
-use Prim.Native.Nat.{ℕ, _+_, _*_, _≤_}
+use Prim.Native.Nat.{ℕ, _+_}
 use native.Mathlib.Omega.{arith}
 use lib.IntN.{ℤ}
 use lib.ListN.{length}
@@ -14,22 +15,21 @@ use Rattle.frames.specs.Areas.{Areas, areas}
 use Rattle.frames.specs.Framing.{Frame, framesOf, Behind}
 use Rattle.frames.proofs.Behind.{behind-front, front-less}
 use Rattle.stream.specs.declared.SonicStream.{SonicStream}
-use Rattle.stream.specs.Stream.{stateOf, streamOf, unlent}
+use Rattle.stream.specs.Stream.{stateOf, streamOf}
 use Rattle.stream.specs.Order.{StreamReady}
-use Rattle.stream.specs.State.{State}
 use Rattle.stream.specs.Refusals.{stageFull, outputFull, inOrder, refusal}
+use Rattle.stream.proofs.InOrder.{tests-of, ranges-of, ranges-same}
+use Rattle.stream.proofs.Stays.{ready-in-order}
 use Rattle.process.specs.declared.Outcome.{Outcome}
 use Rattle.process.specs.declared.Work.{Work}
 use Rattle.process.specs.Process.{Made, joined, process}
 use Rattle.process.specs.Streams.{joinedStream}
 use Rattle.process.specs.Working.{Unchanged, WorkedAs, WorkedBy}
-use Rattle.process.proofs.States.{SameSettings}
 use Rattle.process.proofs.Taken.{process-settings}
 use Rattle.process.proofs.Joining.{joined-state}
 use Rattle.sonic.specs.declared.Wrote.{Wrote}
 use Rattle.sonic.specs.Calls.{CallResult, callBy}
 use Rattle.sonic.specs.Adding.{Accepted, AddEnsures}
-use Rattle.sonic.proofs.Stays.{ready-in-order}
 use Rattle.sonic.proofs.Answers.{stage-met, output-met, none-met, Answered, call-refused}
 use Rattle.sonic.proofs.Joining.{held-joined, tail-joined}
 
@@ -49,11 +49,8 @@ pub worked-in-order : (s t : SonicStream) (a : Areas) (fs : List Frame) (w : ℕ
 unfolding stateOf streamOf joined
 worked-in-order s t a fs w e is r =
     let same = process-settings (joined fs (stateOf s (a .input) (a .stage))) in
-    let o = rw is at (r .state) in
-    rw is
-    (ready-in-order s e (workOf s a fs .state)
-    (record { rate = same .rate; channels = same .channels; speed = same .speed; pitch = same .pitch; volume = same .volume })
-    (record { limits = o .limits; volume-low = o .volume-low; volume-high = o .volume-high; position = o .position; prev = o .prev }) w)
+    let ranges = ranges-same s (streamOf (workOf s a fs .state) w) (same .speed) (same .pitch) (same .volume) (ranges-of s (tests-of s e .settings)) in
+    ready-in-order t r (rw is ranges)
 
 -- n frames fs stand in `input` behind those held; the work leaves the areas as b
 module _ (s : SonicStream) (a b : Areas) (n : ℕ) (p : Accepted s a n) (input : List ℤ) (fs : List Frame)

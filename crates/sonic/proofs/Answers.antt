@@ -1,7 +1,7 @@
 -- The answer of a write or a flush, by the number of its refusal:
 --   stream-met to output-met, none-met               the number, from what is met
---   Answered, call-refused, call-done                the contract; of a refused and of an accepted call
---   stream-refused, areas-refused, input-refused     of a call refused before its work
+--   Answered, call-refused, call-done                the contract, of a refused and of an accepted call
+--   stream-refused, areas-refused, input-refused     the contract of a call refused before its work
 -- Assumes nothing.
 use mathlib.Core.Path.{_≡_, refl}
 use mathlib.Core.Bool.{true, false}

@@ -23,7 +23,8 @@ use Rattle.floats.specs.Write.{sampleOut}
 use Rattle.stream.specs.declared.SonicStream.{SonicStream}
 use Rattle.stream.specs.Stream.{streamOf, unlent}
 use Rattle.stream.specs.Refusals.{badStream, badAreas, inOrder, outputBad, readRefusal}
-use Rattle.stream.proofs.InOrder.{limits-of, output-of}
+use Rattle.stream.proofs.InOrder.{limits-of}
+use Rattle.stream.proofs.AreaTests.{output-of}
 use Rattle.sonic.specs.declared.Gave.{Gave}
 use Rattle.sonic.specs.Reading.{readCount, readCall, ReadEnsures}
 

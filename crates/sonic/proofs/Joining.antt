@@ -2,10 +2,10 @@
 --   written-behind, silence-behind     the frames of a write and of a flush, in the input
 --   held-joined, tail-joined           the counts of the stream with these frames
 --   add-ready, ready-with              refusals 3 to 5 are not met, and stay so when the frames are added
---   joined-ready, accepted-ready       what the work requires
+--   accepted-areas, accepted-ready     what the work requires
 --   accepted-channels, accepted-place, accepted-held, accepted-tail, accepted-samples     counts
 -- Assumes nothing.
-use mathlib.Core.Path.{_≡_, refl, _∙_}
+use mathlib.Core.Path.{_≡_}
 use mathlib.Core.Bool.{true, false}
 use mathlib.Core.List.{List, [], map}
 use Prim.Native.Nat.{ℕ, _+_, _*_, _/_, _^_, _≤_}
@@ -17,17 +17,19 @@ use lib.Ieee.{Float}
 use lib.ListN.{length, length-append, length-map, replicate, length-replicate}
 use lib.Seq.{paste}
 use Rattle.frames.specs.Areas.{Areas, areas}
-use Rattle.frames.specs.Framing.{Frame, framesOf, Behind}
+use Rattle.frames.specs.Framing.{framesOf, Behind}
 use Rattle.frames.proofs.Framing.{length-framesOf, framesOf-map}
 use Rattle.frames.proofs.Behind.{behind-paste, silent-frames}
 use Rattle.frames.proofs.Room.{samples-le, count-le}
 use Rattle.floats.specs.Settings.{samplePeriod}
 use Rattle.floats.specs.Write.{sampleIn}
 use Rattle.stream.specs.declared.SonicStream.{SonicStream}
-use Rattle.stream.specs.Stream.{stateOf, streamOf, unlent}
-use Rattle.stream.specs.Order.{StateReady, StreamReady}
+use Rattle.stream.specs.Stream.{stateOf, streamOf}
+use Rattle.stream.specs.Order.{StreamReady}
 use Rattle.stream.specs.Refusals.{inOrder, tooShort, sizesBad, partsBad, areasBad}
-use Rattle.stream.proofs.InOrder.{AreasGood, limits-of, ready-of, areas-of}
+use Rattle.stream.proofs.InOrder.{limits-of, ready-of}
+use Rattle.stream.proofs.AreaTests.{AreasGood, areas-of}
+use Rattle.stream.proofs.Streams.{ready-stream, ready-input}
 use Rattle.process.specs.Process.{joined}
 use Rattle.process.specs.Streams.{joinedStream}
 use Rattle.process.specs.Working.{AreasReady}
@@ -59,20 +61,6 @@ module _ (s : SonicStream) (n : ℕ) where
   pub tail-joined : joinedStream n s .tail .0 ≡ s .tail .0
   unfolding joined stateOf streamOf
   tail-joined = length-framesOf (s .channels) (s .tail .0) []
-
-  joined-ready : StateReady (unlent s) → StreamReady (joinedStream n s)
-  unfolding joined stateOf streamOf
-  joined-ready r =
-      record {
-        state = record {
-          limits = r .limits;
-          volume-low = r .volume-low;
-          volume-high = r .volume-high;
-          position = r .position;
-          prev = r .prev;
-        };
-        period-is = refl;
-      }
 
 -- ---- what the work asks for
 
@@ -112,7 +100,10 @@ module _ {s : SonicStream} {a : Areas} {n : ℕ} (p : Accepted s a n) where
       }
 
   pub accepted-ready : StreamReady (joinedStream n s) × AreasReady (joinedStream n s) a
-  accepted-ready = (joined-ready s n (ready-of s (p .in-order)), accepted-areas)
+  unfolding joined
+  accepted-ready =
+      let r = ready-of s (p .in-order) in
+      (ready-stream (ready-input r _ _ _ _ (r .prev)) (s .waiting .0), accepted-areas)
 
   -- ---- counts that the code passes on
 

@@ -10,7 +10,7 @@ use lib.ListN.{length}
 use Rattle.frames.specs.Areas.{Areas}
 use Rattle.stream.specs.declared.SonicStream.{SonicStream}
 use Rattle.stream.specs.Refusals.{accepted, badStream, badAreas, inputFull, stageFull, outputFull, inOrder, tooShort, areasBad, outputBad, refusal, readRefusal}
-use Rattle.stream.proofs.InOrder.{areas-of, output-of}
+use Rattle.stream.proofs.AreaTests.{areas-of, output-of}
 use Rattle.sonic.specs.Adding.{Accepted}
 
 -- a test in a chain that ends at 0 was not met
@@ -55,6 +55,10 @@ room-of s a added staged made e =
     }
 
 -- of an accepted read
+pub read-ordered : (s : SonicStream) (output : List ℤ) → readRefusal s output ≡ accepted → inOrder s ≡ true
+unfolding readRefusal
+read-ordered s output e = in-order-passed (inOrder s) (passed (not (inOrder s)) badStream _ (omega arith) e .0)
+
 pub read-room : (s : SonicStream) (output : List ℤ) → readRefusal s output ≡ accepted → s .waiting .0 * s .channels ≤ length output
 unfolding readRefusal
 read-room s output e =

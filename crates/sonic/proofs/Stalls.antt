@@ -5,21 +5,21 @@ use Prim.Native.Nat.{ℕ, zero, suc, _+_, _*_, _≤_}
 use native.Mathlib.Omega.{arith}
 use lib.IntN.{pos}
 use lib.Ieee.{Float}
-use lib.ListN.{length, take, replicate, length-append, length-map, length-replicate}
+use lib.ListN.{length, replicate, length-append, length-map, length-replicate}
 use Rattle.frames.specs.Areas.{Areas}
 use Rattle.frames.specs.Framing.{Frame, framesOf}
 use Rattle.frames.proofs.Framing.{length-framesOf}
 use Rattle.frames.proofs.Room.{count-le}
 use Rattle.floats.specs.Write.{sampleIn}
 use Rattle.period.specs.Rates.{maxRequired}
-use Rattle.stretch.specs.declared.Step.{Step}
 use Rattle.stream.specs.declared.SonicStream.{SonicStream}
 use Rattle.stream.specs.State.{State}
 use Rattle.stream.specs.Stream.{stateOf}
 use Rattle.stream.specs.Refusals.{accepted, refusal}
-use Rattle.stream.proofs.InOrder.{limits-of, ready-of, areas-of}
+use Rattle.stream.proofs.InOrder.{limits-of, ready-of}
+use Rattle.stream.proofs.AreaTests.{areas-of}
 use Rattle.process.specs.declared.Outcome.{Outcome}
-use Rattle.process.specs.Process.{wholeFrames, joined, process, writeWork, flushWork, expected, cleared}
+use Rattle.process.specs.Process.{wholeFrames, joined, writeWork, flushWork}
 use Rattle.process.proofs.Claims.{Held, StallsExactly, stalled-exactly}
 use Rattle.sonic.specs.declared.Wrote.{Wrote}
 use Rattle.sonic.specs.Calls.{refusedCall, acceptedCall, callBy, writeCall, flushCall}

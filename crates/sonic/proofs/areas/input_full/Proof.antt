@@ -2,7 +2,7 @@
 use borrow.Author.Needs.{needs}
 use lib.ListN.{length}
 use Rattle.frames.proofs.Room.{frames-le}
-use Rattle.stream.proofs.Testing.{room-same}
+use Rattle.stream.proofs.AreaTests.{room-same}
 use Rattle.sonic.proofs.areas.input_full.Statement.{statement}
 use Rattle.sonic.proofs.areas.input_full.Tie as tie
 

@@ -1,7 +1,7 @@
 -- `sonic::areas::too_short` meets its contract. Assumes nothing.
 use borrow.Author.Needs.{needs}
 use lib.ListN.{length}
-use Rattle.stream.proofs.Testing.{over-same}
+use Rattle.stream.proofs.AreaTests.{over-same}
 use Rattle.sonic.proofs.areas.too_short.Statement.{statement}
 use Rattle.sonic.proofs.areas.too_short.Tie as tie
 

@@ -7,7 +7,8 @@ use Rattle.frames.specs.Areas.{Areas, areas}
 use Rattle.floats.specs.Settings.{samplePeriod}
 use Rattle.period.specs.Rates.{maxRequired}
 use Rattle.stream.specs.Refusals.{inOrder, areasBad, tooShort}
-use Rattle.stream.proofs.InOrder.{good-of, bad-of, limits-of, areas-of}
+use Rattle.stream.proofs.InOrder.{good-of, bad-of, limits-of}
+use Rattle.stream.proofs.AreaTests.{areas-of}
 use Rattle.sonic.proofs.Joining.{add-ready}
 use Rattle.sonic.proofs.Clearing.{flush-out-of-order, flush-areas-bad, flush-input-full}
 use Rattle.sonic.proofs.flushing.flush.Statement.{statement}
@@ -63,7 +64,7 @@ count-is c = ap (λ (k : ℕ). 2 * k) (counted c .max-required .ensures)
 -- ---- needs
 
 ordered-requires : tie.Need-ordered-requires
-ordered-requires c κs = ?
+ordered-requires c κs = search needs
 
 returns : tie.Need-returns
 returns c =

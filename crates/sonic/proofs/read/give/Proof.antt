@@ -57,7 +57,7 @@ returns c =
     let s = entered (copied (c .before .before .before)) in
     let a = s .args in
     given-ensures (a .stream) _ (a .most .0) (a .n .0) (a .slice .now) (out .samples-out .last .1 .1 .0) (a .output .now) (c .before .remove-front .last .0)
-    (s .pre .0 .0) (s .pre .1 .0) (s .pre .1 .1) (sym (own _ (s .pre .0 .1) [] []))
+    (s .pre .0 .0) (s .pre .1 .0) (s .pre .1 .1) (sym (own _ [] [] (s .pre .0 .1)))
     (rw (out .before .before .samples .ensures) at (out .samples-out .ensures))
     (rw (c .before .before .before .samples2 .ensures, c .before .before .samples3 .ensures) at (c .before .remove-front .ensures))
 

@@ -1,6 +1,6 @@
 -- `sonic::write::write_frames` meets its contract. Assumes nothing.
 use borrow.Author.Needs.{needs}
-use mathlib.Core.Path.{_≡_, _∙_}
+use mathlib.Core.Path.{_≡_}
 use Rattle.frames.specs.Areas.{Areas, areas}
 use Rattle.frames.specs.Framing.{Behind}
 use Rattle.process.specs.declared.Work.{Work}
