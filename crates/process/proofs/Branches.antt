@@ -7,28 +7,27 @@ use borrow.Author.Tests.{lt-ltb, le-ltb, eq-eqb, ne-eqb}
 use lib.ListN.{length}
 use Rattle.floats.specs.Write.{speedChanges}
 use Rattle.period.specs.Rates.{maxRequired}
-use Rattle.process.specs.declared.Setup.{Setup}
+use Rattle.stream.specs.State.{State}
 use Rattle.process.specs.declared.Outcome.the-variants.{Empty, Waiting}
-use Rattle.process.specs.State.{State}
 use Rattle.process.specs.Process.{nothing, copied, stretched, takenAt, speedAt, taken}
 
-pub taken-empty : (u : Setup) (s : State) → length (s .input) ≡ 0 → taken u s ≡ nothing Empty s
+pub taken-empty : (s : State) → length (s .input) ≡ 0 → taken s ≡ nothing Empty s
 unfolding taken
-taken-empty u s h = rw (eq-eqb (length (s .input)) 0 h)
+taken-empty s h = rw (eq-eqb (length (s .input)) 0 h)
 
-module _ (u : Setup) (s : State) (some : 1 ≤ length (s .input)) where
-  taken-some : taken u s ≡ takenAt u (speedAt u s) s
+module _ (s : State) (some : 1 ≤ length (s .input)) where
+  taken-some : taken s ≡ takenAt (speedAt s) s
   unfolding taken
   taken-some = rw (ne-eqb (length (s .input)) 0 (λ e. omega arith))
 
-  pub taken-waiting : speedChanges (speedAt u s) ≡ true → length (s .input) < maxRequired (u .rate) → taken u s ≡ nothing Waiting s
+  pub taken-waiting : speedChanges (speedAt s) ≡ true → length (s .input) < maxRequired (s .rate) → taken s ≡ nothing Waiting s
   unfolding takenAt
-  taken-waiting e h = taken-some ∙ rw (e, lt-ltb (length (s .input)) (maxRequired (u .rate)) h)
+  taken-waiting e h = taken-some ∙ rw (e, lt-ltb (length (s .input)) (maxRequired (s .rate)) h)
 
-  pub taken-stretched : speedChanges (speedAt u s) ≡ true → maxRequired (u .rate) ≤ length (s .input) → taken u s ≡ stretched u (speedAt u s) s
+  pub taken-stretched : speedChanges (speedAt s) ≡ true → maxRequired (s .rate) ≤ length (s .input) → taken s ≡ stretched (speedAt s) s
   unfolding takenAt
-  taken-stretched e h = taken-some ∙ rw (e, le-ltb (length (s .input)) (maxRequired (u .rate)) h)
+  taken-stretched e h = taken-some ∙ rw (e, le-ltb (length (s .input)) (maxRequired (s .rate)) h)
 
-  pub taken-copied : speedChanges (speedAt u s) ≡ false → taken u s ≡ copied s
+  pub taken-copied : speedChanges (speedAt s) ≡ false → taken s ≡ copied s
   unfolding takenAt
   taken-copied e = taken-some ∙ rw e

@@ -17,18 +17,16 @@ use Rattle.stretch.specs.declared.Step.{Step}
 use Rattle.stretch.specs.Steps.{framesOut, StretchReady}
 use Rattle.stretch.specs.Speed as Speed
 use Rattle.stretch.proofs.Claims as Stretch
-use Rattle.process.specs.declared.Setup.{Setup}
+use Rattle.stream.specs.State.{State}
 use Rattle.process.specs.declared.Outcome.{Outcome}
 use Rattle.process.specs.declared.Outcome.the-variants.{Empty, Copied, Waiting, Stretched, Stalled}
-use Rattle.process.specs.State.{State}
 use Rattle.process.specs.Process.{Taken, nothing, copied, stretched, takenAt, taken, speedAt, callAt, placeOf, stepsAt, finished, process}
 
--- what the claim asks of a state: an opened setup, few frames, a period record in the range
-pub record Held (u : Setup) (s : State) : Type 0 where
-  pub opened : InLimits (u .rate) (u .channels)
-  pub period-is : u .«sample_period» ≡ samplePeriod (u .rate)
+-- what the claim asks of a state: rate and channels in range, few frames, a period record in the range
+pub record Held (s : State) : Type 0 where
+  pub limits : InLimits (s .rate) (s .channels)
   pub few : length (s .input) ≤ 2 ^ 24
-  pub found : PeriodIn (u .rate) (s .found)
+  pub prev : PeriodIn (s .rate) (s .prev)
 
 -- the outcome o is stalled exactly when one of the steps gives no frame
 abbrev pub StallsExactly : Outcome → List Step → Type 0
@@ -52,37 +50,37 @@ stretch-cases : (b : Bool) (steps : List Step) → (b ≡ true → (t : Step) ×
 stretch-cases true steps some stalls = (λ e. some refl, λ t m z. refl)
 stretch-cases false steps some stalls = (λ e. absurd (false≢true (ap isStalled e)), λ t m z. absurd (false≢true (stalls t m z)))
 
-module _ (u : Setup) (s : State) (h : Held u s) where
+module _ (s : State) (h : Held s) where
   abbrev x : Float
-  x = speedAt u s
+  x = speedAt s
 
-  ready : StretchReady (callAt u x s)
+  ready : StretchReady (callAt x s)
   unfolding localSpeed
   ready = record {
-    opened = h .opened;
-    period-is = h .period-is;
-    speed-fits = div-fits binary32 (mul binary32 (count (length (s .input))) (u .«sample_period»)) (s .play);
+    opened = h .limits;
+    period-is = refl;
+    speed-fits = div-fits binary32 (mul binary32 (count (length (s .input))) (samplePeriod (s .rate))) (s .«input_play_time»);
     few = h .few;
   }
 
-  stretched-exactly : StallsExactly (stretched u x s .outcome) (stretched u x s .steps)
+  stretched-exactly : StallsExactly (stretched x s .outcome) (stretched x s .steps)
   unfolding stretched
   stretched-exactly =
-      let exactly = Stretch.stalled-exactly (flat (s .input)) (placeOf s) ready (h .found) in
-      stretch-cases (Speed.stalled (stepsAt u x s)) (stepsAt u x s) (exactly .0) (exactly .1)
+      let exactly = Stretch.stalled-exactly (flat (s .input)) (placeOf s) ready (h .prev) in
+      stretch-cases (Speed.stalled (stepsAt x s)) (stepsAt x s) (exactly .0) (exactly .1)
 
-  at-exactly : (changes few : Bool) → (t : Taken) → t ≡ cond changes (cond few (nothing Waiting s) (stretched u x s)) (copied s)
+  at-exactly : (changes few : Bool) → (t : Taken) → t ≡ cond changes (cond few (nothing Waiting s) (stretched x s)) (copied s)
       → StallsExactly (t .outcome) (t .steps)
   unfolding nothing copied
   at-exactly true true t e = rw e (no-steps Waiting refl)
   at-exactly true false t e = rw e stretched-exactly
   at-exactly false few t e = rw e (no-steps Copied refl)
 
-  taken-exactly : (none : Bool) (t : Taken) → t ≡ cond none (nothing Empty s) (takenAt u x s) → StallsExactly (t .outcome) (t .steps)
+  taken-exactly : (none : Bool) (t : Taken) → t ≡ cond none (nothing Empty s) (takenAt x s) → StallsExactly (t .outcome) (t .steps)
   unfolding nothing takenAt
   taken-exactly true t e = rw e (no-steps Empty refl)
-  taken-exactly false t e = at-exactly (speedChanges x) (ltb (length (s .input)) (maxRequired (u .rate))) t e
+  taken-exactly false t e = at-exactly (speedChanges x) (ltb (length (s .input)) (maxRequired (s .rate))) t e
 
-  pub stalled-exactly : StallsExactly (process u s .outcome) (process u s .steps)
+  pub stalled-exactly : StallsExactly (process s .outcome) (process s .steps)
   unfolding process finished taken
-  stalled-exactly = taken-exactly (eqb (length (s .input)) 0) (taken u s) refl
+  stalled-exactly = taken-exactly (eqb (length (s .input)) 0) (taken s) refl

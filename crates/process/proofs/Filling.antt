@@ -1,9 +1,13 @@
--- No frames and copied frames, in the words of the contracts: how they fill the stage. Assumes nothing.
+-- No frames and copied frames, in the words of the contracts: how they fill the stage. Here:
+--   speed-same                       the local speed of a stream and of its state
+--   empty-filled, waiting-filled     no frames
+--   copied-full, copied-filled       all frames
+-- Assumes nothing.
 use mathlib.Core.Path.{_≡_, refl, sym, ap, _∙_, subst}
 use mathlib.Core.Bool.{true, false}
 use mathlib.Core.List.{List}
 use Prim.Native.Nat.{ℕ, _+_, _*_, _≤_, _<_, zero-le}
-use native.Mathlib.Nat.{le-refl}
+use native.Mathlib.Nat.{le-of-eq}
 use native.Mathlib.Omega.{arith}
 use lib.IntN.{ℤ}
 use lib.ListN.{length, drop}
@@ -11,92 +15,90 @@ use lib.Seq.{paste}
 use Rattle.frames.specs.Framing.{framesOf, Behind}
 use Rattle.frames.proofs.Framing.{length-framesOf}
 use Rattle.frames.proofs.Behind.{behind-none, behind-paste}
+use Rattle.floats.specs.Settings.{samplePeriod}
 use Rattle.floats.specs.Write.{localSpeed, speedChanges}
 use Rattle.period.specs.Rates.{maxRequired}
-use Rattle.period.specs.Pitch.{PrevInOrder}
-use Rattle.process.specs.declared.Setup.{Setup}
-use Rattle.process.specs.declared.Kept.{Kept}
+use Rattle.stream.specs.declared.SonicStream.{SonicStream}
+use Rattle.stream.specs.State.{State}
+use Rattle.stream.specs.Stream.{stateOf, streamOf, ChangedBy}
+use Rattle.stream.specs.Order.{StreamReady}
+use Rattle.stream.proofs.Streams.{held-is, own}
 use Rattle.process.specs.declared.Outcome.{Outcome}
 use Rattle.process.specs.declared.Outcome.the-variants.{Empty, Copied, Waiting}
 use Rattle.process.specs.declared.fill.Fill.{Fill}
-use Rattle.process.specs.State.{State}
 use Rattle.process.specs.Process.{Taken, nothing, removed, copied, speedAt}
-use Rattle.process.specs.Kept.{stateOf, keptOf, removedKept, speedOf}
-use Rattle.process.specs.Filling.{nothingFilled, FilledBy, FillEnsures}
-use Rattle.process.proofs.States.{state-held, kept-state, kept-removed}
+use Rattle.process.specs.Streams.{speedOf}
+use Rattle.process.specs.Filling.{AreasFit, nothingFilled, FilledBy, FillEnsures}
 use Rattle.process.proofs.Branches.{taken-empty, taken-waiting, taken-copied}
 
-module _ (u : Setup) (k : Kept) (input stage : List ℤ) where
+pub speed-same : (s : SonicStream) (input stage : List ℤ) → speedAt (stateOf s input stage) ≡ speedOf s
+unfolding stateOf
+speed-same s input stage =
+    ap (λ (n : ℕ). localSpeed n (samplePeriod (s .rate)) (s .«input_play_time»)) (length-framesOf (s .channels) (s .held .0) input)
+
+-- all frames held were copied, and the stream t has none of them
+abbrev pub allFilled : SonicStream → SonicStream → Fill
+allFilled s t = Fill.Done (record { frames = s .held; used = s .held; stream = t; outcome = Copied })
+
+module _ (s : SonicStream) (r : StreamReady s) (input stage : List ℤ) (fit : AreasFit s input stage) where
   abbrev state : State
-  state = stateOf (u .channels) k input stage
+  state = stateOf s input stage
 
-  held-is : length (state .input) ≡ k .held .0
-  held-is = state-held (u .channels) k input stage
-
-  pub speed-same : speedAt u (stateOf (u .channels) k input stage) ≡ speedOf u k
-  unfolding stateOf
-  speed-same = ap (λ (n : ℕ). localSpeed n (u .«sample_period») (k .«input_play_time»)) (length-framesOf (u .channels) (k .held .0) input)
+  held : length (state .input) ≡ s .held .0
+  held = held-is s input stage
 
   -- ---- no frames
 
-  module _ (fits : k .tail .0 * u .channels ≤ length stage) (found : PrevInOrder (u .rate) (k .found)) where
-    nothing-filled : (o : Outcome) → FilledBy u k (nothing o state) input stage stage (nothingFilled k o)
-    unfolding nothing stateOf
-    nothing-filled o =
-        record {
-          outcome = refl;
-          behind = behind-none (u .channels) (k .tail .0) stage fits;
-          used = zero-le;
-          rest = refl;
-          kept = sym (kept-state (u .channels) k input stage);
-          found-in = found;
-        }
+  nothing-filled : (o : Outcome) → FilledBy s (nothing o state) input stage stage (nothingFilled s o)
+  unfolding nothing stateOf
+  nothing-filled o =
+      record {
+        outcome = refl;
+        behind = behind-none (s .channels) (s .tail .0) stage (fit .tail);
+        used = zero-le;
+        rest = refl;
+        stream = sym (own s input stage (r .period-is));
+        prev-in = r .state .prev;
+      }
 
-    pub empty-filled : k .held .0 ≡ 0 → FillEnsures u k input stage stage (nothingFilled k Empty)
-    empty-filled e = rw (taken-empty u state (held-is ∙ e)) (nothing-filled Empty)
+  pub empty-filled : s .held .0 ≡ 0 → FillEnsures s input stage stage (nothingFilled s Empty)
+  empty-filled e = rw (taken-empty state (held ∙ e)) (nothing-filled Empty)
 
-    pub waiting-filled : 1 ≤ k .held .0 → speedChanges (speedOf u k) ≡ true → k .held .0 < maxRequired (u .rate)
-        → FillEnsures u k input stage stage (nothingFilled k Waiting)
-    waiting-filled some e few =
-        let t = taken-waiting u state (omega (arith, held-is)) (ap speedChanges speed-same ∙ e) (omega (arith, held-is)) in
-        rw t (nothing-filled Waiting)
+  pub waiting-filled : 1 ≤ s .held .0 → speedChanges (speedOf s) ≡ true → s .held .0 < maxRequired (s .rate)
+      → FillEnsures s input stage stage (nothingFilled s Waiting)
+  unfolding stateOf
+  waiting-filled some e few =
+      let t = taken-waiting state (omega (arith, held)) (ap speedChanges (speed-same s input stage) ∙ e) (omega (arith, held)) in
+      rw t (nothing-filled Waiting)
 
   -- ---- all frames
 
-  module _ (some : 1 ≤ k .held .0) (same : speedChanges (speedOf u k) ≡ false) (found : PrevInOrder (u .rate) (k .found)) where
-    copies : (exit : List ℤ) (r : Fill) → FilledBy u k (copied state) input stage exit r → FillEnsures u k input stage exit r
-    copies exit r =
-        let t = taken-copied u state (omega (arith, held-is)) (ap speedChanges speed-same ∙ same) in
-        subst (λ (x : Taken). FilledBy u k x input stage exit r) (sym t)
+  module _ (some : 1 ≤ s .held .0) (same : speedChanges (speedOf s) ≡ false) where
+    copies : (exit : List ℤ) (f : Fill) → FilledBy s (copied state) input stage exit f → FillEnsures s input stage exit f
+    copies exit f =
+        let t = taken-copied state (omega (arith, held)) (ap speedChanges (speed-same s input stage) ∙ same) in
+        subst (λ (x : Taken). FilledBy s x input stage exit f) (sym t)
 
-    pub copied-full : length stage < (k .tail .0 + k .held .0) * u .channels → FillEnsures u k input stage stage Fill.Full
+    pub copied-full : length stage < (s .tail .0 + s .held .0) * s .channels → FillEnsures s input stage stage Fill.Full
     unfolding copied
     copied-full over =
         copies stage Fill.Full
-        (record { kept = refl; over = subst (λ (n : ℕ). length stage < (k .tail .0 + n) * u .channels) (sym held-is) over })
+        (record { kept = refl; over = subst (λ (n : ℕ). length stage < (s .tail .0 + n) * s .channels) (sym held) over })
 
-    copied-kept : removedKept (k .held .0) k ≡ keptOf (removed (length (state .input)) state) (k .waiting .0)
-    copied-kept =
-        sym (kept-removed (length (state .input)) state (k .waiting .0)
-        ∙ (λ i. removedKept (held-is i) (kept-state (u .channels) k input stage i)))
-
-    copied-rest : drop (k .held .0) (framesOf (u .channels) (k .held .0) input) ≡ removed (length (state .input)) state .input
-    unfolding removed stateOf
-    copied-rest = ap (λ (n : ℕ). drop n (framesOf (u .channels) (k .held .0) input)) (sym (length-framesOf (u .channels) (k .held .0) input))
-
-    pub copied-filled : (exit : List ℤ) → k .held .0 * u .channels ≤ length input → (k .tail .0 + k .held .0) * u .channels ≤ length stage
-        → exit ≡ paste stage (k .tail .0 * u .channels) (drop 0 input) (k .held .0 * u .channels)
-        → FillEnsures u k input stage exit
-        (Fill.Done (record { frames = k .held; used = k .held; kept = removedKept (k .held .0) k; outcome = Copied }))
+    pub copied-filled : (exit : List ℤ) (t : SonicStream) → (s .tail .0 + s .held .0) * s .channels ≤ length stage
+        → exit ≡ paste stage (s .tail .0 * s .channels) (drop 0 input) (s .held .0 * s .channels)
+        → ChangedBy (removed (s .held .0)) s (s .waiting .0) t
+        → FillEnsures s input stage exit (allFilled s t)
     unfolding copied removed stateOf
-    copied-filled exit h fits e =
-        let b = behind-paste (u .channels) (k .tail .0) (k .held .0) stage input fits h in
-        copies exit (Fill.Done (record { frames = k .held; used = k .held; kept = removedKept (k .held .0) k; outcome = Copied }))
+    copied-filled exit t fits e changed =
+        let ch = s .channels in
+        let b = behind-paste ch (s .tail .0) (s .held .0) stage input fits (fit .held) in
+        copies exit (allFilled s t)
         (record {
           outcome = refl;
-          behind = subst (λ (x : List ℤ). Behind (u .channels) (k .tail .0) (k .held .0) stage x (framesOf (u .channels) (k .held .0) input)) (sym e) b;
-          used = le-refl (k .held .0);
-          rest = copied-rest;
-          kept = copied-kept;
-          found-in = found;
+          behind = subst (λ (x : List ℤ). Behind ch (s .tail .0) (s .held .0) stage x (framesOf ch (s .held .0) input)) (sym e) b;
+          used = le-of-eq refl;
+          rest = ap (λ (n : ℕ). drop n (framesOf ch (s .held .0) input)) (sym held);
+          stream = changed input stage ∙ ap (λ (n : ℕ). streamOf (removed n state) (s .waiting .0)) (sym held);
+          prev-in = r .state .prev;
         })

@@ -1,13 +1,18 @@
--- A call's work after the stage was filled: volume, the commit, the conversion's end, and the whole. Assumes nothing.
+-- The second half of a call's work, in the words of the contracts. Here:
+--   mapped-behind                                  volume
+--   TailedBy, used-fits, left-fits, commit-done    the commit
+--   commit-ready, finish-done                      the finish, which the commit ends
+-- Assumes nothing.
 use mathlib.Core.Path.{_≡_, refl, sym, ap, _∙_, subst}
-use mathlib.Core.List.{List, map}
+use mathlib.Core.List.{List, [], map}
 use Prim.Native.Nat.{ℕ, _+_, _-_, _*_, _≤_}
 use native.Mathlib.Nat.{add-mul, mul-le-mul-right}
 use native.Mathlib.Omega.{arith}
 use lib.IntN.{ℤ}
 use lib.ListN.{length, drop, length-drop, length-map}
 use lib.Seq.{paste}
-use Rattle.frames.specs.Framing.{Frame, framesOf, Behind, NoRoom}
+use Rattle.frames.specs.Areas.{Areas, areas}
+use Rattle.frames.specs.Framing.{Frame, framesOf, Behind}
 use Rattle.frames.proofs.Framing.{length-framesOf, framesOf-cong, framesOf-map}
 use Rattle.frames.proofs.Pasted.{paste-part}
 use Rattle.frames.proofs.Behind.{behind-paste, behind-length, behind-whole, behind-front, removed-frames}
@@ -16,27 +21,17 @@ use Rattle.rate.specs.declared.Adjusted.{Adjusted}
 use Rattle.rate.specs.Conversion.{Conversion, adjustRate}
 use Rattle.rate.specs.Adjusting.{AdjustedAs, newFrames}
 use Rattle.rate.proofs.Chunks.{adjustRate-order}
-use Rattle.process.specs.declared.Setup.{Setup}
-use Rattle.process.specs.declared.Kept.{Kept}
+use Rattle.stream.specs.declared.SonicStream.{SonicStream}
+use Rattle.stream.specs.State.{State, withTail}
+use Rattle.stream.specs.Stream.{stateOf, streamOf, ChangedBy}
+use Rattle.stream.specs.Order.{StreamReady}
 use Rattle.process.specs.declared.Outcome.{Outcome}
 use Rattle.process.specs.declared.Work.{Work}
 use Rattle.process.specs.declared.fill.Filled.{Filled}
 use Rattle.process.specs.Process.{Taken, Made, taken, finished, process}
-use Rattle.process.specs.Kept.{stateOf, keptOf}
-use Rattle.process.specs.Filling.{Ready, Room, FilledAs}
-use Rattle.process.specs.Finishing.{
-  OutputRoom,
-  FinishReady,
-  CommitReady,
-  Committed,
-  withOutput,
-  conversionOf,
-  Finished,
-  FinishedBy,
-  Worked,
-  WorkedBy,
-  WorkEnsures,
-}
+use Rattle.process.specs.Filling.{FilledAs}
+use Rattle.process.specs.Finishing.{FinishReady, CommitReady, FinishedAs, FinishedBy, adjustedAs, conversionOf}
+use Rattle.process.specs.Working.{AreasReady, Unchanged, WorkedAs, WorkedBy, WorkEnsures}
 use Rattle.process.proofs.Taken.{taken-keeps}
 
 -- ---- volume: a map over the samples of frames
@@ -50,194 +45,125 @@ mapped-behind f ch w m entry exit h e =
 
 -- ---- the commit
 
-module _ {u : Setup} {k : Kept} {d : Filled} {input stage output : List ℤ} where
-  pub used-fits : FinishReady u k d input stage output → d .used .0 * u .channels + d .kept .held .0 * u .channels ≤ length input
-  used-fits r =
-      let e : d .used .0 + d .kept .held .0 ≡ k .held .0 = omega (arith, r .held, r .used) in
-      omega (arith, add-mul (d .used .0) (d .kept .held .0) (u .channels), ap (λ (n : ℕ). n * u .channels) e, r .held-fits)
+-- the stream x has the tail and the positions of the conversion c, and its frames wait
+abbrev pub TailedBy : SonicStream → Filled → Conversion → SonicStream → Type 0
+TailedBy s d c x = ChangedBy (λ (y : State). withTail y (c .rest) (c .at)) (d .stream) (s .waiting .0 + length (c .made)) x
 
-  pub left-fits : {a : Adjusted} → CommitReady u k d a input stage output → a .from .0 * u .channels + a .left .0 * u .channels ≤ length stage
-  left-fits {a} r = omega (arith, add-mul (a .from .0) (a .left .0) (u .channels), mul-le-mul-right (u .channels) (r .within), r .finish .staged)
-
-  -- the input without the frames used
-  pub rest-moved : FinishReady u k d input stage output
-      → framesOf (u .channels) (k .held .0 - d .used .0) (paste input 0 (drop (d .used .0 * u .channels) input) (d .kept .held .0 * u .channels))
-      ≡ drop (d .used .0) (framesOf (u .channels) (k .held .0) input)
-  rest-moved r =
-      let e : d .used .0 + d .kept .held .0 ≡ k .held .0 = omega (arith, r .held, r .used) in
-      rw (← r .held)
-      (removed-frames (u .channels) (d .used .0) (d .kept .held .0) input (used-fits r)
-      ∙ ap (λ (n : ℕ). drop (d .used .0) (framesOf (u .channels) n input)) e)
+-- the stream x with the positions of an answer c and what it leaves of the tail, and w frames waiting
+abbrev pub committed : SonicStream → Adjusted → ℕ → SonicStream
+committed x c w =
+    record {
+      rate = x .rate;
+      channels = x .channels;
+      speed = x .speed;
+      pitch = x .pitch;
+      volume = x .volume;
+      «sample_period» = x .«sample_period»;
+      «input_play_time» = x .«input_play_time»;
+      «time_error» = x .«time_error»;
+      «old_rate_position» = c .at .old;
+      «new_rate_position» = c .at .new;
+      «prev_period» = x .«prev_period»;
+      «prev_min_diff» = x .«prev_min_diff»;
+      held = x .held;
+      tail = c .left;
+      waiting = record { 0 = w };
+    }
 
 -- frames of an area moved to its front
-pub moved-frames : (ch from left : ℕ) (area : List ℤ) → from * ch + left * ch ≤ length area
+moved-frames : (ch from left : ℕ) (area : List ℤ) → from * ch + left * ch ≤ length area
     → framesOf ch left (paste area 0 (drop (from * ch) area) (left * ch)) ≡ framesOf ch left (drop (from * ch) area)
 moved-frames ch from left area h =
     let rest : List ℤ = drop (from * ch) area in
     framesOf-cong ch left (paste area 0 rest (left * ch)) rest
     (paste-part area rest 0 (left * ch) (omega arith) (omega (arith, length-drop (from * ch) area)))
 
--- ---- from the commit to the finish
+module _ {s : SonicStream} {d : Filled} {a : Areas} where
+  pub used-fits : FinishReady s d a → d .used .0 * s .channels + d .stream .held .0 * s .channels ≤ length (a .input)
+  used-fits r =
+      let e : d .used .0 + d .stream .held .0 ≡ s .held .0 = omega (arith, r .held, r .used) in
+      omega (arith, add-mul (d .used .0) (d .stream .held .0) (s .channels), ap (λ (n : ℕ). n * s .channels) e, r .held-fits)
 
--- frames behind, then others in their place
-behind-again : {ch w m : ℕ} {a b c : List ℤ} {fs gs : List Frame} → Behind ch w m a b fs → Behind ch w m b c gs → Behind ch w m a c gs
-behind-again p q = record { kept = q .kept ∙ p .kept; made = q .made; long = q .long ∙ p .long; fits = p .fits }
+  -- the input without the frames used
+  rest-moved : FinishReady s d a
+      → framesOf (s .channels) (s .held .0 - d .used .0)
+      (paste (a .input) 0 (drop (d .used .0 * s .channels) (a .input)) (d .stream .held .0 * s .channels))
+      ≡ drop (d .used .0) (framesOf (s .channels) (s .held .0) (a .input))
+  rest-moved r =
+      let e : d .used .0 + d .stream .held .0 ≡ s .held .0 = omega (arith, r .held, r .used) in
+      rw (← r .held)
+      (removed-frames (s .channels) (d .used .0) (d .stream .held .0) (a .input) (used-fits r)
+      ∙ ap (λ (n : ℕ). drop (d .used .0) (framesOf (s .channels) n (a .input))) e)
 
-module _ (u : Setup) (k : Kept) (d : Filled) (a : Adjusted) (c : Conversion) (staged : ℕ) (input input' stage stage' output middle output' : List ℤ)
-    (j : AdjustedAs (u .channels) (k .waiting .0) staged c stage output middle a) where
-  made-is : a .made .0 ≡ length (c .made)
-  made-is = sym (behind-length (j .behind))
+  module _ {c : Adjusted} (r : CommitReady s d c a) where
+    pub left-fits : c .from .0 * s .channels + c .left .0 * s .channels ≤ length (a .stage)
+    left-fits =
+        omega (arith, add-mul (c .from .0) (c .left .0) (s .channels), mul-le-mul-right (s .channels) (r .within), r .finish .staged-fits)
 
-  left-is : a .left .0 ≡ length (c .rest)
-  left-is = sym (length-framesOf (u .channels) (a .left .0) (drop (a .from .0 * u .channels) stage)) ∙ ap length (j .rest)
+    abbrev done : SonicStream
+    done = committed (d .stream) c (s .waiting .0 + c .made .0)
 
-  finished-as : Committed u k d a input input' stage stage' middle output'
-      (Work.Done (d .outcome) (withOutput (d .kept) (a .at) (a .left .0) (k .waiting .0 + a .made .0)))
-      → Finished u k d c input input' stage' output output' (d .outcome) (withOutput (d .kept) (a .at) (a .left .0) (k .waiting .0 + a .made .0))
-  finished-as h =
-      let volumed : List Frame → List Frame = map (map (scaled (k .settings .volume))) in
-      record {
-        outcome = refl;
-        kept = λ i. withOutput (d .kept) (j .at i) (left-is i) (k .waiting .0 + made-is i);
-        rest = h .rest;
-        tail = subst (λ (n : ℕ). framesOf (u .channels) n stage' ≡ c .rest) left-is (h .tail ∙ j .rest);
-        behind =
-            subst (λ (n : ℕ). Behind (u .channels) (k .waiting .0) n output output' (volumed (c .made))) made-is
-            (subst (λ (fs : List Frame). Behind (u .channels) (k .waiting .0) (a .made .0) output output' (volumed fs)) (j .behind .made)
-            (behind-again (j .behind) (h .behind)));
-      }
+    done-is : TailedBy s d (adjustedAs s c a) done
+    unfolding stateOf streamOf
+    done-is input stage = simp length-framesOf (rw (r .finish .period-is))
 
-  pub finish-done : (w : Work) → Committed u k d a input input' stage stage' middle output' w
-      → FinishedBy u k d c input input' stage stage' output output' w
-  finish-done w h =
-      subst (FinishedBy u k d c input input' stage stage' output output') (sym (h .done))
-      (finished-as (subst (Committed u k d a input input' stage stage' middle output') (h .done) h))
-
--- no room in the output
-pub finish-full : (u : Setup) (k : Kept) (d : Filled) (c : Conversion) (input stage output output' : List ℤ)
-    → NoRoom (u .channels) (k .waiting .0) output output' (c .made) → FinishedBy u k d c input input stage stage output output' Work.OutputFull
-finish-full u k d c input stage output output' h = (refl, refl, h)
-
--- ---- from the finish to the whole work: t was taken, `middle` is the stage after it was filled, c the conversion of its frames
-
-module _ (u : Setup) (k : Kept) (d : Filled) (input stage middle : List ℤ)
-    (f : FilledAs u k (taken u (stateOf (u .channels) k input stage)) input stage middle d) where
-  t : Taken
-  t = taken u (stateOf (u .channels) k input stage)
-
-  c : Conversion
-  c = conversionOf u k (d .frames .0) middle
-
-  rest-length : length (t .state .input) ≡ k .held .0 - d .used .0
-  unfolding t
-  rest-length =
-      sym (ap length (f .rest)) ∙ length-drop (d .used .0) (framesOf (u .channels) (k .held .0) input)
-      ∙ ap (λ (n : ℕ). n - d .used .0) (length-framesOf (u .channels) (k .held .0) input)
-
-  staged-is : length (t .frames) ≡ d .frames .0
-  unfolding t
-  staged-is = behind-length (f .behind)
-
-  pub finish-ready : (output : List ℤ) → Ready u k → Room u k (length input) (length stage) → OutputRoom u k (length output)
-      → FinishReady u k d input middle output
-  unfolding keptOf t
-  finish-ready output r room output-room =
-      record {
-        ready = r;
-        held = ap (λ (x : Kept). x .held .0) (f .kept) ∙ rest-length;
-        used = f .used;
-        held-fits = room .held;
-        staged = rw (f .behind .long) (f .behind .fits);
-        output-room = output-room;
-        input-short = room .input-short;
-        stage-short = rw (f .behind .long) (room .stage-short);
-      }
-
-  volume-is : t .state .settings .volume ≡ k .settings .volume
-  unfolding t stateOf
-  volume-is = ap (λ s. s .volume) (taken-keeps u (stateOf (u .channels) k input stage) .settings)
-
-  conversion-is : adjustRate (u .rate) (t .state .settings .pitch) (t .state .at) (t .state .tail) (t .frames) ≡ c
-  unfolding t c stateOf
-  conversion-is =
-      let s = taken-keeps u (stateOf (u .channels) k input stage) in
-      λ i. adjustRate (u .rate) (s .settings i .pitch) (s .at i) ((s .tail ∙ sym (behind-front (f .behind))) i) (sym (f .behind .made) i)
-
-  process-is : process u (stateOf (u .channels) k input stage) ≡ finished t c
-  unfolding process t
-  process-is = ap (finished t) conversion-is
-
-  scaled-length : length (map (map (scaled (t .state .settings .volume))) (c .made)) ≡ length (c .made)
-  scaled-length = length-map (c .made) (map (scaled (t .state .settings .volume)))
-
-  stage-fits : (k .tail .0 + length (t .frames)) * u .channels ≤ length stage
-  stage-fits = rw staged-is (f .behind .fits)
-
-  kept-is : (x : Kept) → x ≡ withOutput (d .kept) (c .at) (length (c .rest)) (k .waiting .0 + length (c .made))
-      → x ≡ keptOf (finished t c .state) (k .waiting .0 + length (finished t c .frames))
-  unfolding finished keptOf t
-  kept-is x e =
-      e ∙ ap (λ (y : Kept). withOutput y (c .at) (length (c .rest)) (k .waiting .0 + length (c .made))) (f .kept)
-      ∙ ap (λ (n : ℕ). keptOf (finished t c .state) (k .waiting .0 + n)) (sym scaled-length)
-
-  settings-is : t .state .settings ≡ k .settings
-  unfolding t stateOf
-  settings-is = taken-keeps u (stateOf (u .channels) k input stage) .settings
-
-  ready-after : Ready u k → (w : ℕ) → Ready u (keptOf (finished t c .state) w)
-  unfolding finished keptOf t c
-  ready-after r w =
-      let tail = framesOf (u .channels) (k .tail .0) middle in
-      let new = newFrames (u .channels) (k .tail .0) (d .frames .0) middle in
-      record {
-        opened = r .opened;
-        period-is = r .period-is;
-        volume-low = rw settings-is (r .volume-low);
-        volume-high = rw settings-is (r .volume-high);
-        position = rw settings-is (adjustRate-order (u .rate) (k .settings .pitch) (k .at) tail new (r .position));
-        found = f .found-in;
-      }
-
-  module _ (r : Ready u k) (input' stage' output output' : List ℤ) where
-    worked : (o : Outcome) (x : Kept) → Finished u k d c input input' stage' output output' o x
-        → Worked u k (finished t c) input' stage stage' output output' o x
-    unfolding finished t
-    worked o x h =
+    -- the areas go from a to b
+    pub commit-done : (b : Areas) → b .input ≡ paste (a .input) 0 (drop (d .used .0 * s .channels) (a .input)) (d .stream .held .0 * s .channels)
+        → b .stage ≡ paste (a .stage) 0 (drop (c .from .0 * s .channels) (a .stage)) (c .left .0 * s .channels)
+        → Behind (s .channels) (s .waiting .0) (c .made .0) (a .output) (b .output)
+        (map (map (scaled (s .volume))) (newFrames (s .channels) (s .waiting .0) (c .made .0) (a .output)))
+        → FinishedBy s d (adjustedAs s c a) a b (Work.Done (d .outcome) (committed (d .stream) c (s .waiting .0 + c .made .0)))
+    commit-done b input stage behind =
         record {
-          outcome = h .outcome ∙ f .outcome;
-          kept = kept-is x (h .kept);
-          ready = rw (kept-is x (h .kept)) (ready-after r (k .waiting .0 + length (finished t c .frames)));
-          stage-fits = stage-fits;
-          output-fits = rw scaled-length (h .behind .fits);
-          held = rw rest-length (h .rest ∙ f .rest);
-          tail = h .tail;
-          waiting = rw (scaled-length, volume-is) (behind-whole (h .behind));
+          outcome = refl;
+          stream = done-is;
+          rest = rw input (rest-moved (r .finish));
+          tail = rw length-framesOf (rw stage (moved-frames (s .channels) (c .from .0) (c .left .0) (a .stage) left-fits));
+          behind = rw length-framesOf behind;
         }
 
-    worked-by : (w : Work) → FinishedBy u k d c input input' middle stage' output output' w
-        → WorkedBy u k (finished t c) input input' stage stage' output output' w
-    unfolding finished
-    worked-by Work.StageFull h = absurd h
-    worked-by Work.OutputFull h = (
+-- ---- the finish
+
+-- frames behind, then others in their place
+behind-again : {ch w m n : ℕ} {a b c : List ℤ} {fs gs : List Frame} → Behind ch w m a b fs → Behind ch w n b c gs → Behind ch w n a c gs
+behind-again p q = record { kept = q .kept ∙ p .kept; made = q .made; long = q .long ∙ p .long; fits = rw (← p .long) (q .fits) }
+
+-- the conversion c took the output to `middle`; from there the commit goes on
+module _ (s : SonicStream) (d : Filled) (c : Conversion) (a : Areas) (middle : List ℤ) {x : Adjusted}
+    (j : AdjustedAs (s .channels) (s .waiting .0) (s .tail .0 + d .frames .0) c (a .stage) (a .output) middle x) where
+  abbrev between : Areas
+  between = areas (a .input) (a .stage) middle []
+
+  pub commit-ready : FinishReady s d a → CommitReady s d x (areas (a .input) (a .stage) middle [])
+  commit-ready r =
       record {
-        held = ap (framesOf (u .channels) (k .held .0)) (h .0);
-        tail = ap (framesOf (u .channels) (k .tail .0)) (h .1) ∙ behind-front (f .behind);
-        waiting = framesOf-cong (u .channels) (k .waiting .0) output' output (h .2 .kept);
-      },
-      stage-fits,
-      rw scaled-length (h .2 .over),
-    )
-    worked-by (Work.Done o x) h = worked o x h
+        finish =
+            record {
+              ready = r .ready;
+              held = r .held;
+              period-is = r .period-is;
+              used = r .used;
+              held-fits = r .held-fits;
+              staged-fits = r .staged-fits;
+              waiting-fits = rw (j .behind .long) (r .waiting-fits);
+              input-short = r .input-short;
+              stage-short = r .stage-short;
+              output-short = rw (j .behind .long) (r .output-short);
+            };
+        within = j .within;
+        fits = rw (j .behind .long) (j .behind .fits);
+      }
 
-    pub work-done : (w : Work) → FinishedBy u k d (conversionOf u k (d .frames .0) middle) input input' middle stage' output output' w
-        → WorkEnsures u k input input' stage stage' output output' w
-    unfolding c
-    work-done w h = subst (λ (m : Made). WorkedBy u k m input input' stage stage' output output' w) (sym process-is) (worked-by w h)
+  adjusted-is : adjustedAs s x between ≡ c
+  adjusted-is = λ i. record { made = j .behind .made i; rest = j .rest i; at = j .at i }
 
--- no room in the stage
-pub work-full : (u : Setup) (k : Kept) (input stage stage' output : List ℤ)
-    → NoRoom (u .channels) (k .tail .0) stage stage' (taken u (stateOf (u .channels) k input stage) .frames)
-    → WorkEnsures u k input input stage stage' output output Work.StageFull
-unfolding process finished
-work-full u k input stage stage' output h =
-    (record { held = refl; tail = framesOf-cong (u .channels) (k .tail .0) stage' stage (h .kept); waiting = refl }, h .over)
+  from-start : (b : Areas) (w : Work) → FinishedBy s d c between b w → FinishedBy s d c a b w
+  from-start b Work.StageFull h = h
+  from-start b Work.OutputFull h =
+      (h .0, h .1, record { kept = h .2 .kept ∙ j .behind .kept; over = rw (← j .behind .long) (h .2 .over) })
+  from-start b (Work.Done o t) h =
+      record { outcome = h .outcome; stream = h .stream; rest = h .rest; tail = h .tail; behind = behind-again (j .behind) (h .behind) }
+
+  pub finish-done : (b : Areas) (w : Work)
+      → FinishedBy s d (adjustedAs s x (areas (a .input) (a .stage) middle [])) (areas (a .input) (a .stage) middle []) b w → FinishedBy s d c a b w
+  finish-done b w h = from-start b w (subst (λ (z : Conversion). FinishedBy s d z between b w) adjusted-is h)

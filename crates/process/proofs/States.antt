@@ -1,78 +1,75 @@
--- What is kept and what the areas hold, as a state and back: lengths, round trips, frames that join the input or leave it. The layers above
--- cite it. Assumes nothing.
-use mathlib.Core.Path.{_≡_, ap}
-use mathlib.Core.List.{List, _++_}
-use Prim.Native.Nat.{ℕ, _+_, _-_}
-use lib.IntN.{ℤ}
-use lib.ListN.{length, length-append, length-drop}
-use Rattle.frames.specs.Framing.{Frame, framesOf}
-use Rattle.frames.proofs.Framing.{length-framesOf}
-use Rattle.floats.specs.Write.{playTimeGrown, playTimeLeft}
-use Rattle.process.specs.declared.Setup.{Setup}
-use Rattle.process.specs.declared.Kept.{Kept}
-use Rattle.process.specs.State.{State, withInput}
-use Rattle.process.specs.Process.{joined, removed}
-use Rattle.process.specs.Kept.{stateOf, keptOf, withHeld, joinedKept, removedKept}
+-- What the steps of a call's work leave alone in a state:
+--   joined-keeps, removed-keeps, stepped-keeps     all but the input, the period record and the times
+--   cleared-settings, tail-settings                rate, channels and settings
+-- The layers above cite it. Assumes nothing.
+use mathlib.Core.Path.{_≡_, refl, _∙_}
+use mathlib.Core.Bool.{Bool, true, false, cond}
+use mathlib.Core.List.{List, []}
+use Prim.Native.Nat.{ℕ}
+use lib.Ieee.{Float}
+use Rattle.frames.specs.Framing.{Frame}
+use Rattle.floats.specs.Numbers.{zero}
+use Rattle.period.specs.declared.PeriodRecord.{PeriodRecord}
+use Rattle.rate.specs.declared.Position.{Position}
+use Rattle.stretch.specs.declared.Stretch.{Stretch}
+use Rattle.stream.specs.State.{State, withInput, withTail}
+use Rattle.process.specs.Process.{joined, removed, stepped, cleared}
 
--- ---- there and back
+-- t has the rate, the channels and the settings of s
+pub record SameSettings (s t : State) : Type 0 where
+  pub rate : t .rate ≡ s .rate
+  pub channels : t .channels ≡ s .channels
+  pub speed : t .speed ≡ s .speed
+  pub pitch : t .pitch ≡ s .pitch
+  pub volume : t .volume ≡ s .volume
 
-module _ (channels : ℕ) (k : Kept) (input stage : List ℤ) where
-  pub state-held : length (stateOf channels k input stage .input) ≡ k .held .0
-  unfolding stateOf
-  state-held = length-framesOf channels (k .held .0) input
+-- and its tail and positions
+pub record Keeps (s t : State) : Type 0 where
+  pub settings : SameSettings s t
+  pub tail : t .tail ≡ s .tail
+  pub at : t .at ≡ s .at
 
-  pub state-tail : length (stateOf channels k input stage .tail) ≡ k .tail .0
-  unfolding stateOf
-  state-tail = length-framesOf channels (k .tail .0) stage
+pub settings-trans : {s t r : State} → SameSettings s t → SameSettings t r → SameSettings s r
+settings-trans p q =
+    record {
+      rate = q .rate ∙ p .rate;
+      channels = q .channels ∙ p .channels;
+      speed = q .speed ∙ p .speed;
+      pitch = q .pitch ∙ p .pitch;
+      volume = q .volume ∙ p .volume;
+    }
 
-  pub kept-state : keptOf (stateOf channels k input stage) (k .waiting .0) ≡ k
-  unfolding keptOf stateOf
-  kept-state = λ i. record {
-    settings = k .settings;
-    held = record { 0 = length-framesOf channels (k .held .0) input i };
-    tail = record { 0 = length-framesOf channels (k .tail .0) stage i };
-    waiting = k .waiting;
-    at = k .at;
-    found = k .found;
-    «input_play_time» = k .«input_play_time»;
-    «time_error» = k .«time_error»;
-  }
+-- by a test, where a state is read off x or y
+pub keeps-cases : {A : Type 0} {s : State} (state : A → State) (b : Bool) {x y : A} → Keeps s (state x) → Keeps s (state y)
+    → Keeps s (state (cond b x y))
+keeps-cases state true p q = p
+keeps-cases state false p q = q
 
-pub state-kept : (channels w : ℕ) (s : State) (input stage : List ℤ) → framesOf channels (length (s .input)) input ≡ s .input
-    → framesOf channels (length (s .tail)) stage ≡ s .tail → stateOf channels (keptOf s w) input stage ≡ s
-unfolding stateOf keptOf
-state-kept channels w s input stage h t = λ i. record {
-  settings = s .settings;
-  input = h i;
-  tail = t i;
-  at = s .at;
-  found = s .found;
-  play = s .play;
-  error = s .error;
-}
+-- all but the input, the period record and the times; and rate, channels and settings
 
--- ---- frames join the input
+input-keeps : (s : State) (input : List Frame) (prev : PeriodRecord) (play error : Float) → Keeps s (withInput s input prev play error)
+input-keeps s input prev play error =
+    record { settings = record { rate = refl; channels = refl; speed = refl; pitch = refl; volume = refl }; tail = refl; at = refl }
 
-module _ (u : Setup) (fs : List Frame) where
-  pub kept-joined : (s : State) (w : ℕ) → keptOf (joined u fs s) w ≡ joinedKept u (length fs) (keptOf s w)
-  unfolding keptOf joined joinedKept
-  kept-joined s w =
-      let play = playTimeGrown (s .play) (length fs) (u .«sample_period») (s .settings .speed) (s .settings .pitch) in
-      ap (λ (n : ℕ). withHeld (keptOf s w) n (s .found) play (s .error)) (length-append (s .input) fs)
+pub tail-settings : (s : State) (tail : List Frame) (at : Position) → SameSettings s (withTail s tail at)
+tail-settings s tail at = record { rate = refl; channels = refl; speed = refl; pitch = refl; volume = refl }
 
-  -- the input goes from `input` to `input'`
-  pub state-joined : (channels : ℕ) (k : Kept) (input input' stage : List ℤ)
-      → framesOf channels (k .held .0 + length fs) input' ≡ framesOf channels (k .held .0) input ++ fs
-      → stateOf channels (joinedKept u (length fs) k) input' stage ≡ joined u fs (stateOf channels k input stage)
-  unfolding stateOf joined joinedKept
-  state-joined channels k input input' stage h =
-      let play = playTimeGrown (k .«input_play_time») (length fs) (u .«sample_period») (k .settings .speed) (k .settings .pitch) in
-      ap (λ (l : List Frame). withInput (stateOf channels k input stage) l (k .found) play (k .«time_error»)) h
+module _ (s : State) where
+  pub own-keeps : Keeps s s
+  own-keeps = input-keeps s (s .input) (s .prev) (s .«input_play_time») (s .«time_error»)
 
--- ---- frames leave it
+  pub joined-keeps : (fs : List Frame) → Keeps s (joined fs s)
+  unfolding joined
+  joined-keeps fs = input-keeps s _ _ _ _
 
-pub kept-removed : (n : ℕ) (s : State) (w : ℕ) → keptOf (removed n s) w ≡ removedKept n (keptOf s w)
-unfolding keptOf removed removedKept
-kept-removed n s w =
-    let play = playTimeLeft (s .play) (length (s .input) - n) (length (s .input)) in
-    ap (λ (m : ℕ). withHeld (keptOf s w) m (s .found) play (s .error)) (length-drop n (s .input))
+  pub removed-keeps : (k : ℕ) → Keeps s (removed k s)
+  unfolding removed
+  removed-keeps k = input-keeps s _ _ _ _
+
+  pub stepped-keeps : (a : Stretch) → Keeps s (stepped a s)
+  unfolding stepped removed
+  stepped-keeps a = keeps-cases (λ (t : State). t) (a .stalled) (input-keeps s _ _ _ _) (input-keeps s _ _ _ _)
+
+  pub cleared-settings : SameSettings s (cleared s)
+  unfolding cleared
+  cleared-settings = settings-trans (input-keeps s [] (s .prev) zero zero .settings) (tail-settings _ [] (s .at))

@@ -1,8 +1,65 @@
--- `process::process_stream_input` meets its contract. Assumes nothing.
+-- `process::process_stream_input` meets its contract: places, how the stage was filled, the needs that it answers, what is closed by search.
+-- Assumes nothing.
 use borrow.Author.Needs.{needs}
-use Rattle.process.proofs.Finishing.{finish-ready, work-done, work-full}
-use Rattle.process.proofs.finish.process_stream_input.Statement.{statement}
-use Rattle.process.proofs.finish.process_stream_input.Tie as tie
+use mathlib.Core.Path.{_≡_, refl, subst}
+use Rattle.frames.specs.Areas.{areas}
+use Rattle.process.specs.declared.fill.Fill.{Fill}
+use Rattle.process.specs.Filling.{FillEnsures}
+use Rattle.process.proofs.Working.{finish-ready, work-done, work-full}
+use Rattle.process.proofs.process_stream_input.Statement.{statement}
+use Rattle.process.proofs.process_stream_input.Tie as tie
+
+-- ---- places
+
+abbrev start : tie.After-fill-stage → tie.Start
+start c = c .before .before .before .before
+
+-- the stage was filled, and the finish is called
+abbrev filled : tie.After-scratch → tie.After-fill-stage
+filled c = c .before .before
+
+abbrev filled-at : tie.After-finish-arg3 → tie.After-filled
+filled-at c = c .before .before .before .before
+
+-- ---- how the stage was filled
+
+answer-is : (c : tie.After-fill-stage) (r : Fill) → c .fill-stage .result ≡ r
+    → let a = start c .args in FillEnsures (a .stream) (a .input .now) (a .stage .now) (c .fill-stage .last .1 .1 .0) r
+answer-is c r e =
+    let a = start c .args in subst (FillEnsures (a .stream) (a .input .now) (a .stage .now) (c .fill-stage .last .1 .1 .0)) e (c .fill-stage .ensures)
+
+-- ---- answered here
+
+finish-requires : tie.Need-finish-requires
+finish-requires c κs =
+    let done = filled-at c in
+    let fill = filled (done .before .before) in
+    let s = start fill in
+    let a = s .args in
+    finish-ready (a .stream) (done .filled .given .0 .0) (areas (a .input .now) (a .stage .now) (a .output .now) (a .scratch .now))
+    (fill .fill-stage .last .1 .1 .0) (answer-is fill (Fill.Done (done .filled .given .0 .0)) (done .filled .given .1)) (s .pre .0) (s .pre .1)
+
+returns : tie.Need-returns
+returns c =
+    let fill = filled (c .before .before) in
+    let a = start fill .args in
+    let last = fill .fill-stage .last .1 .1 in
+    work-full (a .stream) (areas (a .input .now) (a .stage .now) (a .output .now) (a .scratch .now))
+    (areas (a .input .now) (last .0) (a .output .now) (last .1 .0)) refl refl (answer-is fill Fill.Full (c .enum-told .given .1))
+
+returns-2 : tie.Need-returns-2
+returns-2 c =
+    let finished = c .before .before .before in
+    let done = filled-at (finished .before) in
+    let fill = filled (done .before .before) in
+    let s = start fill in
+    let a = s .args in
+    let last = finished .finish .last .1 .1 in
+    work-done (a .stream) (done .filled .given .0 .0) (areas (a .input .now) (a .stage .now) (a .output .now) (a .scratch .now))
+    (fill .fill-stage .last .1 .1 .0) (answer-is fill (Fill.Done (done .filled .given .0 .0)) (done .filled .given .1)) (s .pre .0)
+    (areas (last .0) (last .1 .0) (last .1 .1 .0) (fill .fill-stage .last .1 .1 .1 .0)) (finished .finish .result) (finished .finish .ensures)
+
+-- ---- closed by search
 
 fill-stage-requires : tie.Need-fill-stage-requires
 fill-stage-requires c κs = search needs
@@ -13,16 +70,6 @@ enum-told c = search needs
 enum-known-filled : tie.Need-enum-known-filled
 enum-known-filled c = search needs
 
-finish-requires : tie.Need-finish-requires
-finish-requires c κs =
-    let arm = c .before .before .before .before in
-    let filled = arm .before .before .before .before in
-    let s = filled .before .before .before .before in
-    let a = s .args in
-    let fill = filled .fill-stage in
-    finish-ready (a .setup) (a .kept) (arm .filled .given .0 .0) (a .input .now) (a .stage .now) (fill .last .1 .1 .1 .0)
-    (rw (arm .filled .given .1) at (fill .ensures)) (a .output .now) (s .pre .0) (s .pre .1 .0 .0) (s .pre .1 .1)
-
 same-length : tie.Need-same-length
 same-length c = search needs
 
@@ -31,13 +78,6 @@ same-length-2 c = search needs
 
 same-length-3 : tie.Need-same-length-3
 same-length-3 c = search needs
-
-returns : tie.Need-returns
-returns c =
-    let a = c .before .before .before .before .before .before .before .before .args in
-    let fill = c .before .before .before .before .fill-stage in
-    work-full (a .setup) (a .kept) (a .input .now) (a .stage .now) (fill .last .1 .1 .1 .0) (a .output .now)
-    (rw (c .enum-told .given .1) at (fill .ensures))
 
 same-length-4 : tie.Need-same-length-4
 same-length-4 c = search needs
@@ -50,19 +90,6 @@ same-length-6 c = search needs
 
 same-length-7 : tie.Need-same-length-7
 same-length-7 c = search needs
-
-returns-2 : tie.Need-returns-2
-returns-2 c =
-    let finished = c .before .before .before in
-    let arm = finished .before .before .before .before .before in
-    let filled = arm .before .before .before .before in
-    let s = filled .before .before .before .before in
-    let a = s .args in
-    let fill = filled .fill-stage in
-    let done = finished .finish in
-    work-done (a .setup) (a .kept) (arm .filled .given .0 .0) (a .input .now) (a .stage .now) (fill .last .1 .1 .1 .0)
-    (rw (arm .filled .given .1) at (fill .ensures)) (s .pre .0) (done .last .1 .1 .1 .0) (done .last .1 .1 .1 .1 .0) (a .output .now)
-    (done .last .1 .1 .1 .1 .1 .0) (done .result) (done .ensures)
 
 pub process-stream-input-spec : {M : Type 1} → statement M
 process-stream-input-spec =

@@ -1,38 +1,92 @@
--- `process::fill::fill_stage` meets its contract. Assumes nothing.
+-- `process::fill::fill_stage` meets its contract: places, what the code tests, the needs that it answers, what is closed by search.
+-- Assumes nothing.
 use borrow.Author.Needs.{needs}
 use mathlib.Core.Path.{_≡_, sym, ap, _∙_}
+use mathlib.Core.Bool.{true}
 use Prim.Native.Nat.{_≤_}
 use native.Mathlib.Omega.{arith}
+use lib.Ieee.{Float}
 use Rattle.frames.proofs.Room.{count-le}
-use Rattle.floats.specs.Write.{speedChanges}
+use Rattle.floats.specs.Write.{localSpeed, speedChanges}
 use Rattle.period.specs.Rates.{maxRequired}
-use Rattle.process.specs.Kept.{speedOf}
+use Rattle.stream.specs.declared.SonicStream.{SonicStream}
+use Rattle.stream.specs.Stream.{stateOf}
+use Rattle.process.specs.Streams.{speedOf}
 use Rattle.process.proofs.Filling.{empty-filled, waiting-filled}
 use Rattle.process.proofs.fill.fill_stage.Statement.{statement}
 use Rattle.process.proofs.fill.fill_stage.Tie as tie
 
-nothing-requires : tie.Need-nothing-requires
-nothing-requires c κs = search needs
+-- ---- places
+
+abbrev start : tie.After-local-speed → tie.Start
+start c = c .before .before .before
+
+abbrev tested : tie.After-max-required → tie.Then2
+tested c = c .before .before
+
+-- ---- what the code tests
+
+speed-is : (c : tie.After-local-speed) → c .local-speed .result ≡ speedOf (start c .args .stream)
+speed-is c =
+    let x = start c .args .stream in
+    c .local-speed .ensures ∙ ap (λ (p : Float). localSpeed (x .held .0) p (x .«input_play_time»)) (start c .pre .0 .period-is)
+
+changes-is : (c : tie.After-speed-changes) → c .speed-changes .result ≡ speedChanges (speedOf (start (c .before) .args .stream))
+changes-is c = c .speed-changes .ensures ∙ ap speedChanges (speed-is (c .before))
+
+some : (c : tie.After-local-speed) → 1 ≤ start c .args .stream .held .0
+some c = omega (arith, c .before .if1 .left)
+
+-- ---- answered here
 
 returns : tie.Need-returns
 returns c =
     let s = c .before .before .before in
     let a = s .args in
-    rw (c .nothing .ensures)
-    (empty-filled (a .setup) (a .kept) (a .input .now) (a .stage .now) (s .pre .1 .0 .tail) (s .pre .0 .found) (c .before .if1 .taken))
+    rw (c .nothing .ensures) (empty-filled (a .stream) (s .pre .0) (a .input .now) (a .stage .now) (s .pre .1 .fit) (c .before .if1 .taken))
 
 local-speed-requires : tie.Need-local-speed-requires
+unfolding stateOf
 local-speed-requires c κs =
     let s = c .before .before in
-    omega (arith, count-le (s .args .setup .channels) (s .args .kept .held .0) (s .pre .0 .opened .channels-low))
+    let fit = s .pre .1 .fit in
+    omega (arith, count-le (s .args .stream .channels) (s .args .stream .held .0) (s .pre .0 .state .limits .channels-low), fit .held, fit .input-short)
+
+returns-2 : tie.Need-returns-2
+returns-2 c =
+    let few = c .before in
+    let required = few .before .before in
+    let test = tested required .before in
+    let s = start (test .before) in
+    let a = s .args in
+    let far : speedChanges (speedOf (a .stream)) ≡ true = sym (changes-is test) ∙ tested required .if2 .taken in
+    rw (c .nothing2 .ensures)
+    (waiting-filled (a .stream) (s .pre .0) (a .input .now) (a .stage .now) (s .pre .1 .fit) (some (test .before)) far
+    (omega (arith, few .if3 .taken, required .max-required .ensures)))
+
+stretch-input-requires : tie.Need-stretch-input-requires
+stretch-input-requires c κs =
+    let enough = c .before .before in
+    let required = enough .before .before in
+    let test = tested required .before in
+    let s = start (test .before) in
+    let long : maxRequired (s .args .stream .rate) ≤ s .args .stream .held .0 = omega (arith, enough .if3 .left, required .max-required .ensures) in
+    (s .pre, (long, speed-is (test .before), sym (test .speed-changes .ensures) ∙ tested required .if2 .taken))
+
+copy-input-requires : tie.Need-copy-input-requires
+copy-input-requires c κs =
+    let near = c .before in
+    let test = near .before in
+    let s = start (test .before) in
+    ((s .pre .0, s .pre .1 .fit), (some (test .before), sym (changes-is test) ∙ near .if2 .left))
+
+-- ---- closed by search
+
+nothing-requires : tie.Need-nothing-requires
+nothing-requires c κs = search needs
 
 speed-changes-requires : tie.Need-speed-changes-requires
 speed-changes-requires c κs = search needs
-
--- what the code tests
-changes : (c : tie.After-speed-changes)
-    → c .speed-changes .result ≡ speedChanges (speedOf (c .before .before .before .before .args .setup) (c .before .before .before .before .args .kept))
-changes c = c .speed-changes .ensures ∙ ap speedChanges (c .before .local-speed .ensures)
 
 cast-max-required : tie.Need-cast-max-required
 cast-max-required c = search needs
@@ -43,26 +97,6 @@ max-required-requires c κs = search needs
 nothing-requires-2 : tie.Need-nothing-requires-2
 nothing-requires-2 c κs = search needs
 
-returns-2 : tie.Need-returns-2
-returns-2 c =
-    let s = c .before .before .before .before .before .before .before .before .before .before in
-    let a = s .args in
-    let far = sym (changes (c .before .before .before .before .before .before)) ∙ c .before .before .before .before .before .if2 .taken in
-    let some : 1 ≤ a .kept .held .0 = omega (arith, c .before .before .before .before .before .before .before .before .if1 .left) in
-    rw (c .nothing2 .ensures)
-    (waiting-filled (a .setup) (a .kept) (a .input .now) (a .stage .now) (s .pre .1 .0 .tail) (s .pre .0 .found) some far
-    (omega (arith, c .before .if3 .taken, c .before .before .before .max-required .ensures)))
-
-stretch-input-requires : tie.Need-stretch-input-requires
-stretch-input-requires c κs =
-    let s = c .before .before .before .before .before .before .before .before .before .before .before in
-    let required = c .before .before .before .before .max-required .ensures in
-    let enough : maxRequired (s .args .setup .rate) ≤ s .args .kept .held .0 = omega (arith, c .before .before .if3 .left) in
-    let test = c .before .before .before .before .before .before .before .speed-changes .ensures in
-    let far = sym test ∙ c .before .before .before .before .before .before .if2 .taken in
-    let speed = c .before .before .before .before .before .before .before .before .local-speed .ensures in
-    (s .pre .0, (s .pre .1, (enough, speed, far)))
-
 same-length : tie.Need-same-length
 same-length c = search needs
 
@@ -71,12 +105,6 @@ same-length-2 c = search needs
 
 returns-3 : tie.Need-returns-3
 returns-3 c = search needs
-
-copy-input-requires : tie.Need-copy-input-requires
-copy-input-requires c κs =
-    let s = c .before .before .before .before .before .before in
-    let same = sym (changes (c .before .before)) ∙ c .before .if2 .left in
-    (s .pre .0, (s .pre .1 .0, (omega (arith, c .before .before .before .before .if1 .left), same)))
 
 same-length-3 : tie.Need-same-length-3
 same-length-3 c = search needs

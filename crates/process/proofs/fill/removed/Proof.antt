@@ -1,6 +1,9 @@
 -- `process::fill::removed` meets its contract. Assumes nothing.
 use borrow.Author.Needs.{needs}
-use Rattle.process.specs.Kept.{removedKept}
+use lib.ListN.{length-drop}
+use Rattle.frames.proofs.Framing.{length-framesOf}
+use Rattle.stream.specs.Stream.{stateOf, streamOf}
+use Rattle.process.specs.Process.{removed}
 use Rattle.process.proofs.fill.removed.Statement.{statement}
 use Rattle.process.proofs.fill.removed.Tie as tie
 
@@ -11,8 +14,9 @@ play-time-left-requires : tie.Need-play-time-left-requires
 play-time-left-requires c κs = search needs
 
 returns : tie.Need-returns
-unfolding removedKept
-returns c = rw (c .before .play-time-left .ensures)
+unfolding removed stateOf streamOf
+returns c input stage = simp (length-drop, length-framesOf, c .before .play-time-left .ensures)
+    (rw (c .before .before .before .before .before .pre .2))
 
 pub removed-spec : {M : Type 1} → statement M
 removed-spec = tie.close (tie.spec sub-left play-time-left-requires returns)

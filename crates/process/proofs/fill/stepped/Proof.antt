@@ -1,19 +1,31 @@
 -- `process::fill::stepped` meets its contract. Assumes nothing.
 use borrow.Author.Needs.{needs}
-use Rattle.process.specs.Filling.{steppedFill}
+use mathlib.Core.Path.{refl}
+use Rattle.frames.proofs.Framing.{length-framesOf}
+use Rattle.stream.specs.Stream.{stateOf, streamOf}
+use Rattle.process.specs.Process.{stepped}
 use Rattle.process.proofs.fill.stepped.Statement.{statement}
 use Rattle.process.proofs.fill.stepped.Tie as tie
 
 returns : tie.Need-returns
-unfolding steppedFill
-returns c = rw (c .if1 .taken)
+unfolding stepped stateOf streamOf
+returns c =
+    rw (c .if1 .taken)
+    (record {
+      frames = refl;
+      used = refl;
+      stream = λ input stage. simp length-framesOf (rw (c .before .before .before .before .pre .2));
+      outcome = refl;
+    })
 
 removed-requires : tie.Need-removed-requires
 removed-requires c κs = search needs
 
 returns-2 : tie.Need-returns-2
-unfolding steppedFill
-returns-2 c = rw (c .before .if1 .left, c .removed .ensures)
+unfolding stepped stateOf
+returns-2 c =
+    rw (c .before .if1 .left)
+    (record { frames = refl; used = refl; stream = c .removed .ensures; outcome = refl })
 
 pub stepped-spec : {M : Type 1} → statement M
 stepped-spec = tie.close (tie.spec returns removed-requires returns-2)

@@ -1,34 +1,122 @@
--- `process::fill::stretch_input` meets its contract. Assumes nothing.
+-- `process::fill::stretch_input` meets its contract: places, what the stretch is handed and answers, the needs that it answers, what is
+-- closed by search. Assumes nothing.
 use borrow.Author.Needs.{needs}
 use mathlib.Core.Path.{_≡_, sym, subst}
-use Prim.Native.Nat.{ℕ, _-_, _*_, _/_, _≤_}
+use Prim.Native.Nat.{ℕ, _-_, _*_, _/_, _≤_, _<_}
 use native.Mathlib.Nat.{add-mul}
 use native.Mathlib.Omega.{arith}
 use lib.ListN.{length, take}
 use Rattle.frames.proofs.Room.{frames-le, room-under}
+use Rattle.stretch.specs.declared.Stretched as S
+use Rattle.stream.specs.Stream.{stateOf}
 use Rattle.process.proofs.Stretching.{Due, Answered, call-ready, lent-long, stretched-full, stretched-used, stretched-filled}
 use Rattle.process.proofs.fill.stretch_input.Statement.{statement}
 use Rattle.process.proofs.fill.stretch_input.Tie as tie
 
-due : (s : tie.Start) → Due (s .args .setup) (s .args .kept) (s .args .speed) (s .args .input .now) (s .args .stage .now)
-due s = record { ready = s .pre .0; room = s .pre .1 .0 .0; enough = s .pre .1 .1 .0; speed-is = s .pre .1 .1 .1; changes = s .pre .1 .1 .2 }
+-- ---- places
 
-cast-room : tie.Need-cast-room
-cast-room c = search needs
+abbrev start : tie.After-samples → tie.Start
+start c = c .before .before .before .before .before
+
+-- the frames of the stage are counted; then the stretch is called
+abbrev counted : tie.After-samples2 → tie.After-frames
+counted c = c .before .before .before .before .before
+
+abbrev called : tie.After-change-speed → tie.Start
+called c = start (counted (c .before .before) .before)
+
+-- it answered
+abbrev answered : tie.After-scratch → tie.After-change-speed
+answered c = c .before .before
+
+-- ---- what the stretch is handed
+
+due : (s : tie.Start) → Due (s .args .stream) (s .args .speed) (s .args .input .now) (s .args .stage .now)
+due s = record { ready = s .pre .0 .0; fit = s .pre .0 .1 .fit; enough = s .pre .1 .0; speed-is = s .pre .1 .1; changes = s .pre .1 .2 }
+
+some : (s : tie.Start) → 0 < s .args .stream .channels
+unfolding stateOf
+some s = s .pre .0 .0 .state .limits .channels-low
+
+-- the samples lent are those of the frames held
+lent : (c : tie.After-samples) → let x = start c .args .stream in c .samples .result .0 - 0 ≡ x .held .0 * x .channels
+lent c = omega (arith, c .samples .ensures)
+
+-- the tail lies in the stage
+tail-le : (c : tie.After-frames) → start (c .before) .args .stream .tail .0 ≤ c .frames .result .0
+tail-le c =
+    let s = start (c .before) in
+    let x = s .args .stream in
+    rw (c .frames .ensures) (frames-le (x .channels) (x .tail .0) (length (s .args .stage .now)) (some s) (s .pre .0 .1 .fit .tail))
+
+-- ---- what it answers
+
+answer-is : (c : tie.After-scratch) (r : S.Stretched) → answered c .change-speed .result ≡ r
+    → let a = called (answered c) .args in
+    Answered (a .stream) (a .speed) (a .input .now) (a .stage .now) (answered c .change-speed .last .1 .1 .1 .1 .0) r
+answer-is c r e =
+    let answer = answered c in
+    let to = answer .before .before in
+    let count = counted to in
+    let a = called answer .args in
+    subst (Answered (a .stream) (a .speed) (a .input .now) (a .stage .now) (answer .change-speed .last .1 .1 .1 .1 .0)) e
+    (rw (← lent (count .before), ← to .samples2 .ensures, ← count .frames .ensures) (answer .change-speed .ensures))
+
+-- ---- answered here
+
+frames-requires : tie.Need-frames-requires
+frames-requires c κs = some (start c)
+
+sub-room : tie.Need-sub-room
+sub-room c = tail-le (c .before .before)
+
+change-speed-requires : tie.Need-change-speed-requires
+unfolding stateOf
+change-speed-requires c κs =
+    let to = c .before in
+    let count = counted to in
+    let s = start (count .before) in
+    let a = s .args in
+    let x = a .stream in
+    let room : ℕ = count .frames .result .0 - x .tail .0 in
+    let whole = room-under (x .channels) (x .tail .0) room (length (a .stage .now)) (some s) (s .pre .0 .1 .fit .tail) (omega (arith, count .frames .ensures)) in
+    let apart = add-mul (x .tail .0) room (x .channels) in
+    let list = subst (λ (n : ℕ). x .held .0 * x .channels ≤ length (take n (a .input .now))) (sym (lent (count .before))) (lent-long (due s)) in
+    (call-ready (due s), (s .pre .0 .0 .state .prev, (list, s .pre .0 .1 .scratch-fits, omega (arith, to .samples2 .ensures))))
+
+stepped-requires : tie.Need-stepped-requires
+stepped-requires c κs =
+    let made = c .before in
+    let answer = answered (made .before .before) in
+    let s = called answer in
+    let m = made .made .given .0 .0 in
+    let is = answer-is (made .before .before) (S.Stretched.Made m) (made .made .given .1) in
+    (stretched-used (due s) (answer .change-speed .last .1 .1 .1 .1 .0) m is, call-ready (due s) .few, s .pre .0 .0 .period-is)
+
+returns : tie.Need-returns
+returns c =
+    let answer = answered (c .before .before) in
+    stretched-full (due (called answer)) (answer .change-speed .last .1 .1 .1 .1 .0)
+    (answer-is (c .before .before) S.Stretched.Full (c .enum-told .given .1))
+
+returns-2 : tie.Need-returns-2
+returns-2 c =
+    let made = c .before .before in
+    let answer = answered (made .before .before) in
+    let m = made .made .given .0 .0 in
+    let is = answer-is (made .before .before) (S.Stretched.Made m) (made .made .given .1) in
+    stretched-filled (due (called answer)) (answer .change-speed .last .1 .1 .1 .1 .0) m is (c .stepped .result) (c .stepped .ensures)
+
+-- ---- closed by search
+
+cast-channels : tie.Need-cast-channels
+cast-channels c = search needs
+
+cast-change-speed : tie.Need-cast-change-speed
+cast-change-speed c = search needs
 
 samples-requires : tie.Need-samples-requires
 samples-requires c κs = search needs
-
-samples-requires-2 : tie.Need-samples-requires-2
-samples-requires-2 c κs = search needs
-
-div-room : tie.Need-div-room
-div-room c = search needs
-
-sub-room : tie.Need-sub-room
-sub-room c =
-    let s = c .before .before .before .before .before .before .before .before in
-    frames-le (s .args .setup .channels) (s .args .kept .tail .0) (length (s .args .stage .now)) (s .pre .0 .opened .channels-low) (s .pre .1 .0 .0 .tail)
 
 sub-change-speed : tie.Need-sub-change-speed
 sub-change-speed c = search needs
@@ -39,33 +127,8 @@ part-change-speed-start c = search needs
 part-change-speed-end : tie.Need-part-change-speed-end
 part-change-speed-end c = search needs
 
--- the list lent is that of the frames held
-lent : (c : tie.After-samples) → (let a = c .before .before .before .before .before .args in c .samples .result .0 - 0 ≡ a .kept .held .0 * a .setup .channels)
-lent c = omega (arith, c .samples .ensures)
-
-change-speed-requires : tie.Need-change-speed-requires
-change-speed-requires c κs =
-    let s = c .before .before .before .before .before .before .before .before .before .before .before in
-    let a = s .args in
-    let room : ℕ = length (a .stage .now) / a .setup .channels - a .kept .tail .0 in
-    let low = frames-le (a .setup .channels) (a .kept .tail .0) (length (a .stage .now)) (s .pre .0 .opened .channels-low) (s .pre .1 .0 .0 .tail) in
-    let whole =
-    room-under (a .setup .channels) (a .kept .tail .0) room (length (a .stage .now)) (s .pre .0 .opened .channels-low) (s .pre .1 .0 .0 .tail)
-    (omega arith) in
-    let apart = add-mul (a .kept .tail .0) room (a .setup .channels) in
-    let tail = c .before .before .before .before .before .samples2 .ensures in
-    let list = subst (λ (n : ℕ). a .kept .held .0 * a .setup .channels ≤ length (take n (a .input .now)))
-    (sym (lent (c .before .before .before .before .before .before))) (lent-long (due s)) in
-    (call-ready (due s), (s .pre .0 .found, (list, s .pre .1 .0 .1, omega arith)))
-
--- the answer, in the words of the definitions
-answer-is : (c : tie.After-change-speed)
-    → (let a = c .before .before .before .before .before .before .before .before .before .before .before .before .args in
-    Answered (a .setup) (a .kept) (a .speed) (a .input .now) (a .stage .now) (c .change-speed .last .1 .1 .1 .1 .0) (c .change-speed .result))
-answer-is c =
-    let held = lent (c .before .before .before .before .before .before .before) in
-    let tail = c .before .before .before .before .before .before .samples2 .ensures in
-    rw (← held, ← tail) (c .change-speed .ensures)
+samples-requires-2 : tie.Need-samples-requires-2
+samples-requires-2 c κs = search needs
 
 enum-told : tie.Need-enum-told
 enum-told c = search needs
@@ -73,26 +136,11 @@ enum-told c = search needs
 enum-known-made : tie.Need-enum-known-made
 enum-known-made c = search needs
 
-stepped-requires : tie.Need-stepped-requires
-stepped-requires c κs =
-    let s = c .before .before .before .before .before .before .before .before .before .before .before .before .before .before .before .before .before in
-    let made = c .before .made in
-    let change-speed = c .before .before .before .before .before .change-speed in
-    let answer = rw (made .given .1) at (answer-is (c .before .before .before .before .before)) in
-    (stretched-used (due s) (change-speed .last .1 .1 .1 .1 .0) (made .given .0 .0) answer, call-ready (due s) .few)
-
 same-length : tie.Need-same-length
 same-length c = search needs
 
 same-length-2 : tie.Need-same-length-2
 same-length-2 c = search needs
-
-returns : tie.Need-returns
-returns c =
-    let s = c .before .before .before .before .before .before .before .before .before .before .before .before .before .before .before .before in
-    let change-speed = c .before .before .before .before .change-speed in
-    let answer = rw (c .enum-told .given .1) at (answer-is (c .before .before .before .before)) in
-    stretched-full (due s) (change-speed .last .1 .1 .1 .1 .0) answer
 
 same-length-3 : tie.Need-same-length-3
 same-length-3 c = search needs
@@ -100,17 +148,9 @@ same-length-3 c = search needs
 same-length-4 : tie.Need-same-length-4
 same-length-4 c = search needs
 
-returns-2 : tie.Need-returns-2
-returns-2 c =
-    let s = c .before .before .before .before .before .before .before .before .before .before .before .before .before .before .before .before .before
-    .before in
-    let made = c .before .before .made in
-    let change-speed = c .before .before .before .before .before .before .change-speed in
-    let answer = rw (made .given .1) at (answer-is (c .before .before .before .before .before .before)) in
-    rw (c .stepped .ensures) (stretched-filled (due s) (change-speed .last .1 .1 .1 .1 .0) (made .given .0 .0) answer)
-
 pub stretch-input-spec : {M : Type 1} → statement M
 stretch-input-spec =
     tie.close
-    (tie.spec cast-room samples-requires samples-requires-2 div-room sub-room sub-change-speed part-change-speed-start part-change-speed-end
-    change-speed-requires enum-told enum-known-made stepped-requires same-length same-length-2 returns same-length-3 same-length-4 returns-2)
+    (tie.spec cast-channels cast-change-speed samples-requires frames-requires sub-room sub-change-speed part-change-speed-start
+    part-change-speed-end samples-requires-2 change-speed-requires enum-told enum-known-made stepped-requires same-length same-length-2 returns
+    same-length-3 same-length-4 returns-2)

@@ -1,49 +1,98 @@
--- `process::finish::commit` meets its contract. Assumes nothing.
+-- `process::finish::commit` meets its contract: places, the areas after it, the needs that it answers, what is closed by search. Assumes nothing.
 use borrow.Author.Needs.{needs}
-use mathlib.Core.Path.{refl}
-use Prim.Native.Nat.{_+_}
+use mathlib.Core.Path.{_≡_, _∙_}
+use mathlib.Core.List.{List, []}
+use Prim.Native.Nat.{_+_, _*_}
 use native.Mathlib.Omega.{arith}
+use lib.IntN.{ℤ}
+use lib.ListN.{drop}
+use lib.Seq.{paste}
+use Rattle.frames.specs.Areas.{areas}
 use Rattle.frames.proofs.Room.{count-le}
-use Rattle.process.proofs.Finishing.{used-fits, left-fits, rest-moved, moved-frames}
+use Rattle.stream.specs.Stream.{stateOf}
+use Rattle.process.proofs.Finishing.{used-fits, left-fits, commit-done}
 use Rattle.process.proofs.finish.commit.Statement.{statement}
 use Rattle.process.proofs.finish.commit.Tie as tie
 
-scale-made-requires : tie.Need-scale-made-requires
-scale-made-requires c κs = search needs
+-- ---- places
 
--- the call's start, seen from the scaled frames on
 abbrev start : tie.After-scale-made → tie.Start
-start c = c .before .before .before .before .before .before .before .before .before
+start c = c .before .before .before .before .before .before .before .before .before .before
+
+-- the frames made are scaled; then the frames used leave the input, and the tail frames consumed the stage
+abbrev input-start : tie.After-remove-front-arg → tie.Start
+input-start c = start (c .before .before)
+
+abbrev rested : tie.After-remove-front-arg2 → tie.After-remove-front
+rested c = c .before .before
+
+abbrev stage-start : tie.After-remove-front-arg2 → tie.Start
+stage-start c = input-start (rested c .before .before .before)
+
+-- ---- the areas after it
+
+input-is : (c : tie.After-remove-front)
+    → let a = input-start (c .before .before .before) .args in
+    c .remove-front .last .0
+    ≡ paste (a .input .now) 0 (drop (a .filled .used .0 * a .stream .channels) (a .input .now)) (a .filled .stream .held .0 * a .stream .channels)
+input-is c =
+    let input : List ℤ = input-start (c .before .before .before) .args .input .now in
+    c .remove-front .ensures ∙ (λ i. paste input 0 (drop (c .before .before .samples .ensures i) input) (c .before .samples2 .ensures i))
+
+stage-is : (c : tie.After-remove-front2)
+    → let a = stage-start (c .before .before .before) .args in
+    c .remove-front2 .last .0
+    ≡ paste (a .stage .now) 0 (drop (a .adjusted .from .0 * a .stream .channels) (a .stage .now)) (a .adjusted .left .0 * a .stream .channels)
+stage-is c =
+    let stage : List ℤ = stage-start (c .before .before .before) .args .stage .now in
+    c .remove-front2 .ensures ∙ (λ i. paste stage 0 (drop (c .before .before .samples3 .ensures i) stage) (c .before .samples4 .ensures i))
+
+-- ---- answered here
 
 samples-requires : tie.Need-samples-requires
-samples-requires c κs = let r = start (c .before .before) .pre .finish in omega (arith, used-fits r, r .input-short)
+samples-requires c κs = let r = input-start c .pre .finish in omega (arith, used-fits r, r .input-short)
 
 samples-requires-2 : tie.Need-samples-requires-2
-samples-requires-2 c κs = let r = start (c .before .before .before) .pre .finish in omega (arith, used-fits r, r .input-short)
+samples-requires-2 c κs = let r = input-start (c .before) .pre .finish in omega (arith, used-fits r, r .input-short)
 
 remove-front-requires : tie.Need-remove-front-requires
 remove-front-requires c κs =
-    omega (arith, used-fits (start (c .before .before .before .before) .pre .finish), c .before .samples .ensures, c .samples2 .ensures)
+    omega (arith, used-fits (input-start (c .before .before) .pre .finish), c .before .samples .ensures, c .samples2 .ensures)
 
 samples-requires-3 : tie.Need-samples-requires-3
-samples-requires-3 c κs = let r = start (c .before .before .before .before .before .before .before) .pre in omega (arith, left-fits r, r .finish .stage-short)
+samples-requires-3 c κs = let r = stage-start c .pre in omega (arith, left-fits r, r .finish .stage-short)
 
 samples-requires-4 : tie.Need-samples-requires-4
-samples-requires-4 c κs =
-    let r = start (c .before .before .before .before .before .before .before .before) .pre in
-    omega (arith, left-fits r, r .finish .stage-short)
+samples-requires-4 c κs = let r = stage-start (c .before) .pre in omega (arith, left-fits r, r .finish .stage-short)
 
 remove-front-requires-2 : tie.Need-remove-front-requires-2
 remove-front-requires-2 c κs =
-    let r = start (c .before .before .before .before .before .before .before .before .before) .pre in
-    omega (arith, left-fits r, c .before .samples3 .ensures, c .samples4 .ensures)
+    omega (arith, left-fits (stage-start (c .before .before) .pre), c .before .samples3 .ensures, c .samples4 .ensures)
 
 add-waiting : tie.Need-add-waiting
+unfolding stateOf
 add-waiting c =
-    let s = start (c .before .before .before .before .before .before .before .before .before .before .before .before .before) in
+    let s = stage-start (c .before .before .before .before .before .before) in
     let r = s .pre in
-    let count = count-le (s .args .setup .channels) (s .args .kept .waiting .0 + s .args .adjusted .made .0) (r .finish .ready .opened .channels-low) in
-    record { fits = omega (arith, count, r .fits, r .finish .output-room .output-short) }
+    let x = s .args .stream in
+    let count = count-le (x .channels) (x .waiting .0 + s .args .adjusted .made .0) (r .finish .ready .state .limits .channels-low) in
+    record { fits = omega (arith, count, r .fits, r .finish .output-short) }
+
+returns : tie.Need-returns
+returns c =
+    let staged = c .before .before .before .before in
+    let rest = rested (staged .before .before .before) in
+    let scaled = rest .before .before .before .before .before in
+    commit-done (start scaled .pre) (areas (rest .remove-front .last .0) (staged .remove-front2 .last .0) (scaled .scale-made .last .1 .1 .0) [])
+    (input-is rest) (stage-is staged) (scaled .scale-made .ensures)
+
+-- ---- closed by search
+
+cast-channels : tie.Need-cast-channels
+cast-channels c = search needs
+
+scale-made-requires : tie.Need-scale-made-requires
+scale-made-requires c κs = search needs
 
 same-length : tie.Need-same-length
 same-length c = search needs
@@ -54,35 +103,8 @@ same-length-2 c = search needs
 same-length-3 : tie.Need-same-length-3
 same-length-3 c = search needs
 
-returns : tie.Need-returns
-returns c =
-    let tail = c .before .before .before .before in
-    let rest = tail .before .before .before .before .before in
-    let made = rest .before .before .before .before .before in
-    let s = start made in
-    let a = s .args in
-    let input-is = rw (rest .before .samples2 .ensures, rest .before .before .samples .ensures) at (rest .remove-front .ensures) in
-    let stage-is = rw (tail .before .samples4 .ensures, tail .before .before .samples3 .ensures) at (tail .remove-front2 .ensures) in
-    record {
-      done = refl;
-      rest = rw input-is (rest-moved (s .pre .finish));
-      tail = rw stage-is (moved-frames (a .setup .channels) (a .adjusted .from .0) (a .adjusted .left .0) (a .stage .now) (left-fits (s .pre)));
-      behind = made .scale-made .ensures;
-    }
-
 pub commit-spec : {M : Type 1} → statement M
 commit-spec =
     tie.close
-    (tie.spec
-    scale-made-requires
-    samples-requires
-    samples-requires-2
-    remove-front-requires
-    samples-requires-3
-    samples-requires-4
-    remove-front-requires-2
-    add-waiting
-    same-length
-    same-length-2
-    same-length-3
-    returns)
+    (tie.spec cast-channels scale-made-requires samples-requires samples-requires-2 remove-front-requires samples-requires-3 samples-requires-4
+    remove-front-requires-2 add-waiting same-length same-length-2 same-length-3 returns)

@@ -1,13 +1,89 @@
--- `process::finish::finish` meets its contract. Assumes nothing.
+-- `process::finish::finish` meets its contract: places, what the conversion answers, the needs that it answers, what is closed by search.
+-- Assumes nothing.
 use borrow.Author.Needs.{needs}
+use mathlib.Core.Path.{_≡_, refl, subst}
+use mathlib.Core.List.{[]}
 use Prim.Native.Nat.{_+_}
+use native.Mathlib.Omega.{arith}
+use Rattle.frames.specs.Areas.{areas}
+use Rattle.rate.specs.declared.Adjustment.{Adjustment}
+use Rattle.rate.specs.Adjusting.{AdjustedBy}
+use Rattle.stream.specs.Stream.{stateOf}
 use Rattle.process.specs.Finishing.{conversionOf}
-use Rattle.process.proofs.Finishing.{finish-done, finish-full}
+use Rattle.process.proofs.Finishing.{commit-ready, finish-done}
 use Rattle.process.proofs.finish.finish.Statement.{statement}
 use Rattle.process.proofs.finish.finish.Tie as tie
 
+-- ---- places
+
+abbrev start : tie.After-adjust-rate → tie.Start
+start c = c .before .before .before .before .before .before .before
+
+-- the conversion answered, and the commit is called
+abbrev rated : tie.After-output → tie.After-adjust-rate
+rated c = c .before
+
+abbrev adjusted-at : tie.After-commit-arg3 → tie.After-adjusted
+adjusted-at c = c .before .before .before .before
+
+-- ---- what the conversion answers
+
+answer-is : (c : tie.After-adjust-rate) (r : Adjustment) → c .adjust-rate .result ≡ r
+    → let a = start c .args in
+    AdjustedBy (a .stream .channels) (a .stream .waiting .0) (a .stream .tail .0 + a .filled .frames .0)
+    (conversionOf (a .stream) (a .filled .frames .0) (areas (a .input .now) (a .stage .now) (a .output .now) [])) (a .stage .now) (a .output .now)
+    (c .adjust-rate .last .1 .1 .1 .1 .1 .1 .1 .0) r
+unfolding stateOf
+answer-is c r e =
+    let a = start c .args in
+    subst
+    (AdjustedBy (a .stream .channels) (a .stream .waiting .0) (a .stream .tail .0 + a .filled .frames .0)
+    (conversionOf (a .stream) (a .filled .frames .0) (areas (a .input .now) (a .stage .now) (a .output .now) [])) (a .stage .now) (a .output .now)
+    (c .adjust-rate .last .1 .1 .1 .1 .1 .1 .1 .0)) e (c .adjust-rate .ensures)
+
+-- ---- answered here
+
 adjust-rate-requires : tie.Need-adjust-rate-requires
-adjust-rate-requires c κs = search needs
+unfolding stateOf
+adjust-rate-requires c κs =
+    let r = c .before .before .before .before .before .before .pre in
+    let o = r .ready .state in
+    record {
+      exact = omega (arith, o .limits .rate-high);
+      order = o .position;
+      lent = record { some = o .limits .channels-low; holds = r .staged-fits; waits = r .waiting-fits };
+    }
+
+commit-requires : tie.Need-commit-requires
+commit-requires c κs =
+    let done = adjusted-at c in
+    let rate = rated (done .before .before) in
+    let s = start rate in
+    let a = s .args in
+    commit-ready (a .stream) (a .filled) (conversionOf (a .stream) (a .filled .frames .0) (areas (a .input .now) (a .stage .now) (a .output .now) []))
+    (areas (a .input .now) (a .stage .now) (a .output .now) []) (rate .adjust-rate .last .1 .1 .1 .1 .1 .1 .1 .0)
+    (answer-is rate (Adjustment.Done (done .adjusted .given .0 .0)) (done .adjusted .given .1)) (s .pre)
+
+returns : tie.Need-returns
+returns c = (refl, refl, answer-is (rated (c .before .before)) Adjustment.Full (c .enum-told .given .1))
+
+returns-2 : tie.Need-returns-2
+returns-2 c =
+    let committed = c .before .before .before in
+    let done = adjusted-at (committed .before) in
+    let rate = rated (done .before .before) in
+    let s = start rate in
+    let a = s .args in
+    let last = committed .commit .last .1 .1 .1 in
+    finish-done (a .stream) (a .filled) (conversionOf (a .stream) (a .filled .frames .0) (areas (a .input .now) (a .stage .now) (a .output .now) []))
+    (areas (a .input .now) (a .stage .now) (a .output .now) []) (rate .adjust-rate .last .1 .1 .1 .1 .1 .1 .1 .0)
+    (answer-is rate (Adjustment.Done (done .adjusted .given .0 .0)) (done .adjusted .given .1))
+    (areas (last .0) (last .1 .0) (last .1 .1 .0) []) (committed .commit .result) (committed .commit .ensures)
+
+-- ---- closed by search
+
+cast-adjust-rate : tie.Need-cast-adjust-rate
+cast-adjust-rate c = search needs
 
 enum-told : tie.Need-enum-told
 enum-told c = search needs
@@ -15,41 +91,11 @@ enum-told c = search needs
 enum-known-adjusted : tie.Need-enum-known-adjusted
 enum-known-adjusted c = search needs
 
-commit-requires : tie.Need-commit-requires
-commit-requires c κs =
-    let arm = c .before .before .before .before in
-    let rate = arm .before .before .before in
-    let r = rate .before .before .before .before .before .before .before .before .pre in
-    let j = rw (arm .adjusted .given .1) at (rate .adjust-rate .ensures) in
-    record {
-      finish =
-          record {
-            ready = r .ready;
-            held = r .held;
-            used = r .used;
-            held-fits = r .held-fits;
-            staged = r .staged;
-            output-room = rw (j .behind .long) (r .output-room);
-            input-short = r .input-short;
-            stage-short = r .stage-short;
-          };
-      within = j .within;
-      fits = rw (j .behind .long) (j .behind .fits);
-    }
-
 same-length : tie.Need-same-length
 same-length c = search needs
 
 same-length-2 : tie.Need-same-length-2
 same-length-2 c = search needs
-
-returns : tie.Need-returns
-returns c =
-    let rated = c .before .before .before in
-    let a = rated .before .before .before .before .before .before .before .before .args in
-    let rate = rated .adjust-rate in
-    finish-full (a .setup) (a .kept) (a .filled) (conversionOf (a .setup) (a .kept) (a .filled .frames .0) (a .stage .now)) (a .input .now) (a .stage .now)
-    (a .output .now) (rate .last .1 .1 .1 .1 .1 .1 .1 .0) (rw (c .enum-told .given .1) at (rate .ensures))
 
 same-length-3 : tie.Need-same-length-3
 same-length-3 c = search needs
@@ -60,24 +106,11 @@ same-length-4 c = search needs
 same-length-5 : tie.Need-same-length-5
 same-length-5 c = search needs
 
-returns-2 : tie.Need-returns-2
-returns-2 c =
-    let committed = c .before .before .before in
-    let arm = committed .before .before .before .before .before in
-    let rated = arm .before .before .before in
-    let a = rated .before .before .before .before .before .before .before .before .args in
-    let rate = rated .adjust-rate in
-    let done = committed .commit in
-    finish-done (a .setup) (a .kept) (a .filled) (arm .adjusted .given .0 .0)
-    (conversionOf (a .setup) (a .kept) (a .filled .frames .0) (a .stage .now)) (a .kept .tail .0 + a .filled .frames .0)
-    (a .input .now) (done .last .1 .1 .1 .1 .0) (a .stage .now) (done .last .1 .1 .1 .1 .1 .0)
-    (a .output .now) (rate .last .1 .1 .1 .1 .1 .1 .1 .0) (done .last .1 .1 .1 .1 .1 .1 .0)
-    (rw (arm .adjusted .given .1) at (rate .ensures)) (done .result) (done .ensures)
-
 pub finish-spec : {M : Type 1} → statement M
 finish-spec =
     tie.close
     (tie.spec
+    cast-adjust-rate
     adjust-rate-requires
     enum-told
     enum-known-adjusted
