@@ -1,7 +1,7 @@
 -- The answer of a write or a flush, by the number of its refusal:
---   refusal-3 to refusal-7, refusal-none            the number, from what is met
---   call-refused, call-done                         the contract of a refused and of an accepted call
---   out-of-order, areas-refused, input-refused      that of a call refused before its work
+--   stream-met to output-met, none-met               the number, from what is met
+--   Answered, call-refused, call-done                the contract, of a refused and of an accepted call
+--   stream-refused, areas-refused, input-refused     the contract of a call refused before its work
 -- Assumes nothing.
 use mathlib.Core.Path.{_≡_, refl}
 use mathlib.Core.Bool.{true, false}
@@ -9,79 +9,85 @@ use mathlib.Core.List.{List, _++_}
 use Prim.Native.Nat.{ℕ, suc, _+_, _*_, _≤_, _<_}
 use borrow.Author.Tests.{lt-ltb, le-ltb}
 use lib.ListN.{length}
+use Rattle.frames.specs.Areas.{Areas}
 use Rattle.frames.specs.Framing.{Frame, framesOf}
+use Rattle.stream.specs.declared.SonicStream.{SonicStream}
+use Rattle.stream.specs.State.{State}
+use Rattle.stream.specs.Stream.{streamOf}
+use Rattle.stream.specs.Refusals.{accepted, badStream, badAreas, inputFull, stageFull, outputFull, inOrder, areasBad, tooShort, refusal}
 use Rattle.process.specs.declared.Outcome.{Outcome}
-use Rattle.process.specs.State.{State}
-use Rattle.process.specs.Kept.{keptOf}
-use Rattle.sonic.specs.declared.SonicStream.{SonicStream}
 use Rattle.sonic.specs.declared.Wrote.{Wrote}
-use Rattle.sonic.specs.Stream.{Areas, setupOf, streamWith, streamOf}
-use Rattle.sonic.specs.Refusals.{inOrder, areasBad, tooShort, refusal}
-use Rattle.sonic.specs.Calls.{Call, refusedCall, acceptedCall, callBy, CallEnsures}
-use Rattle.sonic.specs.Working.{Accepted}
+use Rattle.sonic.specs.Calls.{CallResult, refusedCall, acceptedCall, callBy, CallEnsures, OrderAfter}
+use Rattle.sonic.specs.Adding.{Accepted}
 
 -- ---- the number
 
 module _ (s : SonicStream) (a : Areas) (added staged made : ℕ) where
-  refusal-3 : inOrder s ≡ false → refusal s a added staged made ≡ 3
+  stream-met : inOrder s ≡ false → refusal s a added staged made ≡ badStream
   unfolding refusal
-  refusal-3 e = rw e
+  stream-met e = rw e
 
-  refusal-4 : inOrder s ≡ true → areasBad s a ≡ true → refusal s a added staged made ≡ 4
-  unfolding refusal
-  refusal-4 e f = rw (e, f)
+  module _ (o : inOrder s ≡ true) where
+    areas-met : areasBad s a ≡ true → refusal s a added staged made ≡ badAreas
+    unfolding refusal
+    areas-met f = rw (o, f)
 
-  refusal-5 : inOrder s ≡ true → areasBad s a ≡ false → tooShort (s .channels) (s .held .0 + added) (a .input) ≡ true → refusal s a added staged made ≡ 5
-  unfolding refusal
-  refusal-5 e f g = rw (e, f, g)
+    input-met : areasBad s a ≡ false → tooShort (s .channels) (s .held .0 + added) (a .input) ≡ true → refusal s a added staged made ≡ inputFull
+    unfolding refusal
+    input-met f g = rw (o, f, g)
 
   module _ (p : Accepted s a added) where
-    pub refusal-6 : length (a .stage) < (s .tail .0 + staged) * s .channels → refusal s a added staged made ≡ 6
+    pub stage-met : length (a .stage) < (s .tail .0 + staged) * s .channels → refusal s a added staged made ≡ stageFull
     unfolding refusal
-    refusal-6 h = rw (p .in-order, p .areas-good, le-ltb (length (a .input)) _ (p .fits), lt-ltb (length (a .stage)) _ h)
+    stage-met h = rw (p .in-order, p .areas-good, le-ltb (length (a .input)) _ (p .fits), lt-ltb (length (a .stage)) _ h)
 
     module _ (h : (s .tail .0 + staged) * s .channels ≤ length (a .stage)) where
-      pub refusal-7 : length (a .output) < (s .waiting .0 + made) * s .channels → refusal s a added staged made ≡ 7
+      pub output-met : length (a .output) < (s .waiting .0 + made) * s .channels → refusal s a added staged made ≡ outputFull
       unfolding refusal
-      refusal-7 k =
+      output-met k =
           rw (p .in-order, p .areas-good, le-ltb (length (a .input)) _ (p .fits), le-ltb (length (a .stage)) _ h, lt-ltb (length (a .output)) _ k)
 
-      pub refusal-none : (s .waiting .0 + made) * s .channels ≤ length (a .output) → refusal s a added staged made ≡ 0
+      pub none-met : (s .waiting .0 + made) * s .channels ≤ length (a .output) → refusal s a added staged made ≡ accepted
       unfolding refusal
-      refusal-none k =
+      none-met k =
           rw (p .in-order, p .areas-good, le-ltb (length (a .input)) _ (p .fits), le-ltb (length (a .stage)) _ h, le-ltb (length (a .output)) _ k)
 
 -- ---- the answer
 
+-- what a write and a flush ensure: the answer r and the areas b are those of the call c, and an accepted call hands back a stream in order
+abbrev pub Answered : ℕ → CallResult → Wrote → Areas → Type 0
+Answered channels c r b = CallEnsures channels c r b × OrderAfter r
+
 -- refused: the kept parts are as they came
-pub call-refused : (s : SonicStream) (a b : Areas) (number k : ℕ) (c : Call) → number ≡ suc k
+pub call-refused : {number k : ℕ} (s : SonicStream) (a b : Areas) (c : CallResult) → number ≡ suc k
     → framesOf (s .channels) (s .held .0) (b .input) ≡ framesOf (s .channels) (s .held .0) (a .input)
     → framesOf (s .channels) (s .tail .0) (b .stage) ≡ framesOf (s .channels) (s .tail .0) (a .stage)
     → framesOf (s .channels) (s .waiting .0) (b .output) ≡ framesOf (s .channels) (s .waiting .0) (a .output)
-    → CallEnsures (s .channels) (callBy number s a c) (Wrote.Refused (suc k) s) b
+    → Answered (s .channels) (callBy number s a c) (Wrote.Refused (suc k) s) b
 unfolding refusedCall
-call-refused s a b number k c e held tail waiting = rw e (record { answer = refl; input = held; tail = tail; output = waiting })
+call-refused s a b c e held tail waiting = (rw e (record { answer = refl; input = held; tail = tail; output = waiting }), tt)
 
--- accepted
-pub call-done : (s t : SonicStream) (a b : Areas) (number : ℕ) (o : Outcome) (state : State) (frames : List Frame) → number ≡ 0
-    → t ≡ streamOf (setupOf s) state (s .waiting .0 + length frames)
+-- accepted: the stream t is that of the state, and in order
+pub call-done : (s t : SonicStream) (a b : Areas) (o o' : Outcome) (state : State) (frames : List Frame) → o ≡ o'
+    → t ≡ streamOf state (s .waiting .0 + length frames) → inOrder t ≡ true
     → framesOf (s .channels) (length (state .input)) (b .input) ≡ state .input
     → framesOf (s .channels) (length (state .tail)) (b .stage) ≡ state .tail
     → framesOf (s .channels) (s .waiting .0 + length frames) (b .output) ≡ framesOf (s .channels) (s .waiting .0) (a .output) ++ frames
-    → CallEnsures (s .channels) (callBy number s a (acceptedCall s a o state frames)) (Wrote.Done o t) b
-unfolding acceptedCall streamOf streamWith keptOf
-call-done s t a b number o state frames e is held tail waiting = rw (e, is) (record { answer = refl; input = held; tail = tail; output = waiting })
+    → Answered (s .channels) (acceptedCall s a o' state frames) (Wrote.Done o t) b
+unfolding acceptedCall streamOf
+call-done s t a b o o' state frames e is order held tail waiting =
+    (rw (e, is) (record { answer = refl; input = held; tail = tail; output = waiting }), order)
 
 -- ---- refused before its work: the areas are as they came
 
-module _ (s : SonicStream) (a : Areas) (added staged made : ℕ) (c : Call) where
-  pub out-of-order : inOrder s ≡ false → CallEnsures (s .channels) (callBy (refusal s a added staged made) s a c) (Wrote.Refused 3 s) a
-  out-of-order e = call-refused s a a _ 2 c (refusal-3 s a added staged made e) refl refl refl
+module _ (s : SonicStream) (a : Areas) (added staged made : ℕ) (c : CallResult) where
+  pub stream-refused : inOrder s ≡ false → Answered (s .channels) (callBy (refusal s a added staged made) s a c) (Wrote.Refused badStream s) a
+  stream-refused e = call-refused s a a c (stream-met s a added staged made e) refl refl refl
 
-  pub areas-refused : inOrder s ≡ true → areasBad s a ≡ true
-      → CallEnsures (s .channels) (callBy (refusal s a added staged made) s a c) (Wrote.Refused 4 s) a
-  areas-refused e f = call-refused s a a _ 3 c (refusal-4 s a added staged made e f) refl refl refl
+  module _ (o : inOrder s ≡ true) where
+    pub areas-refused : areasBad s a ≡ true → Answered (s .channels) (callBy (refusal s a added staged made) s a c) (Wrote.Refused badAreas s) a
+    areas-refused f = call-refused s a a c (areas-met s a added staged made o f) refl refl refl
 
-  pub input-refused : inOrder s ≡ true → areasBad s a ≡ false → tooShort (s .channels) (s .held .0 + added) (a .input) ≡ true
-      → CallEnsures (s .channels) (callBy (refusal s a added staged made) s a c) (Wrote.Refused 5 s) a
-  input-refused e f g = call-refused s a a _ 4 c (refusal-5 s a added staged made e f g) refl refl refl
+    pub input-refused : areasBad s a ≡ false → tooShort (s .channels) (s .held .0 + added) (a .input) ≡ true
+        → Answered (s .channels) (callBy (refusal s a added staged made) s a c) (Wrote.Refused inputFull s) a
+    input-refused f g = call-refused s a a c (input-met s a added staged made o f g) refl refl refl

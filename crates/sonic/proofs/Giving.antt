@@ -2,7 +2,7 @@
 --   Givable, givable                          how many frames it may give
 --   parts, given-fits                         their samples, and those of the frames left
 --   given-frames, given-rest, left-frames     what its two copies leave
---   gave, given-ensures, refused-three, refused-four     the contract of an accepted and of a refused read
+--   given-ensures, stream-refused, output-refused     the contract of an accepted and of a refused read
 -- Assumes nothing.
 use mathlib.Core.Path.{_≡_, refl, sym, ap, _∙_, subst}
 use mathlib.Core.Bool.{true, false}
@@ -20,12 +20,13 @@ use Rattle.frames.proofs.Pasted.{paste-part}
 use Rattle.frames.proofs.Behind.{removed-frames}
 use Rattle.frames.proofs.Room.{samples-le}
 use Rattle.floats.specs.Write.{sampleOut}
-use Rattle.sonic.specs.declared.SonicStream.{SonicStream}
+use Rattle.stream.specs.declared.SonicStream.{SonicStream}
+use Rattle.stream.specs.Stream.{streamOf, unlent}
+use Rattle.stream.specs.Refusals.{badStream, badAreas, inOrder, outputBad, readRefusal}
+use Rattle.stream.proofs.InOrder.{limits-of}
+use Rattle.stream.proofs.AreaTests.{output-of}
 use Rattle.sonic.specs.declared.Gave.{Gave}
-use Rattle.sonic.specs.Stream.{keptIn, keeping, streamWith}
-use Rattle.sonic.specs.Refusals.{inOrder, outputBad, readRefusal}
-use Rattle.sonic.specs.Reading.{readCount, fewer, readCall, ReadEnsures}
-use Rattle.sonic.proofs.InOrder.{opened-of, output-of}
+use Rattle.sonic.specs.Reading.{readCount, readCall, ReadEnsures}
 
 -- n frames may be given
 pub record Givable (s : SonicStream) (n : ℕ) (slice : List Float) (output : List ℤ) : Type 0 where
@@ -45,7 +46,7 @@ givable s most n slice output o b e =
     let out = output-of s output b in
     record {
       few = omega (arith, min-le-left w most);
-      slice-fits = samples-le (s .channels) n (length slice) (opened-of s o .channels-low) (omega arith);
+      slice-fits = samples-le (s .channels) n (length slice) (limits-of s o .channels-low) (omega arith);
       waits = out .0;
       short = out .1;
     }
@@ -87,26 +88,23 @@ module _ {s : SonicStream} {n : ℕ} {slice : List Float} {output : List ℤ} (g
 
 -- ---- contracts
 
--- the answer of an accepted read
-abbrev pub gave : SonicStream → ℕ → Gave
-gave s n = Gave.Done (record { 0 = n }) (keeping s (fewer n (keptIn s)))
-
-pub given-ensures : (s : SonicStream) (most n : ℕ) (slice exit : List Float) (output area : List ℤ) → inOrder s ≡ true → outputBad s output ≡ false
-    → n ≡ readCount s most slice → exit ≡ paste slice 0 (map sampleOut output) (n * s .channels)
+-- accepted: t is the stream with n frames fewer
+pub given-ensures : (s t : SonicStream) (most n : ℕ) (slice exit : List Float) (output area : List ℤ) → inOrder s ≡ true → outputBad s output ≡ false
+    → n ≡ readCount s most slice → t ≡ streamOf (unlent s) (s .waiting .0 - n) → exit ≡ paste slice 0 (map sampleOut output) (n * s .channels)
     → area ≡ paste output 0 (drop (n * s .channels) output) ((s .waiting .0 - n) * s .channels)
-    → ReadEnsures (s .channels) (readCall s most slice output) (gave s n) slice exit area
-unfolding readCall readRefusal keeping streamWith fewer keptIn
-given-ensures s most n slice exit output area o b e slice-is area-is =
+    → ReadEnsures (s .channels) (readCall s most slice output) (Gave.Done (record { 0 = n }) t) slice exit area
+unfolding readCall readRefusal streamOf
+given-ensures s t most n slice exit output area o b e is slice-is area-is =
     let g = givable s most n slice output o b e in
-    rw (o, b, ← e, slice-is, area-is) (record { answer = refl; given = given-frames g; rest = given-rest g; output = left-frames g })
+    rw (o, b, ← e, is, slice-is, area-is) (record { answer = refl; given = given-frames g; rest = given-rest g; output = left-frames g })
 
--- the refusals 3 and 4: nothing is given, nothing changes
-pub refused-three : (s : SonicStream) (most : ℕ) (slice : List Float) (output : List ℤ) → inOrder s ≡ false
-    → ReadEnsures (s .channels) (readCall s most slice output) (Gave.Refused 3 s) slice slice output
+-- refused: nothing is given, nothing changes
+pub stream-refused : (s : SonicStream) (most : ℕ) (slice : List Float) (output : List ℤ) → inOrder s ≡ false
+    → ReadEnsures (s .channels) (readCall s most slice output) (Gave.Refused badStream s) slice slice output
 unfolding readCall readRefusal framesOf
-refused-three s most slice output o = rw o (record { answer = refl; given = refl; rest = refl; output = refl })
+stream-refused s most slice output o = rw o (record { answer = refl; given = refl; rest = refl; output = refl })
 
-pub refused-four : (s : SonicStream) (most : ℕ) (slice : List Float) (output : List ℤ) → inOrder s ≡ true → outputBad s output ≡ true
-    → ReadEnsures (s .channels) (readCall s most slice output) (Gave.Refused 4 s) slice slice output
+pub output-refused : (s : SonicStream) (most : ℕ) (slice : List Float) (output : List ℤ) → inOrder s ≡ true → outputBad s output ≡ true
+    → ReadEnsures (s .channels) (readCall s most slice output) (Gave.Refused badAreas s) slice slice output
 unfolding readCall readRefusal framesOf
-refused-four s most slice output o b = rw (o, b) (record { answer = refl; given = refl; rest = refl; output = refl })
+output-refused s most slice output o b = rw (o, b) (record { answer = refl; given = refl; rest = refl; output = refl })

@@ -1,34 +1,39 @@
 -- The frames that a call adds behind those held, and what its work requires then:
 --   written-behind, silence-behind     the frames of a write and of a flush, in the input
---   joined-state                       the state that the work begins with
---   joined-ready, accepted-ready, accepted-room, accepted-scratch, accepted-output     what the work requires
---   accepted-with                      refusals 3 to 5 stay unmet when the frames are added
---   accepted-channels, accepted-place, accepted-count, accepted-tail, accepted-samples     counts
+--   held-joined, tail-joined           the counts of the stream with these frames
+--   add-ready, ready-with              refusals 3 to 5 are not met, and stay so when the frames are added
+--   accepted-areas, accepted-ready     what the work requires
+--   accepted-channels, accepted-place, accepted-held, accepted-tail, accepted-samples     counts
 -- Assumes nothing.
 use mathlib.Core.Path.{_≡_}
-use mathlib.Core.List.{List, map}
+use mathlib.Core.Bool.{true, false}
+use mathlib.Core.List.{List, [], map}
 use Prim.Native.Nat.{ℕ, _+_, _*_, _/_, _^_, _≤_}
 use native.Mathlib.Nat.{add-mul}
 use native.Mathlib.Omega.{arith}
+use borrow.Author.Tests.{ltb-false}
 use lib.IntN.{ℤ, pos}
 use lib.Ieee.{Float}
-use lib.ListN.{length, length-map, replicate, length-replicate}
+use lib.ListN.{length, length-append, length-map, replicate, length-replicate}
 use lib.Seq.{paste}
-use Rattle.frames.specs.Framing.{Frame, framesOf, Behind}
-use Rattle.frames.proofs.Framing.{framesOf-map}
-use Rattle.frames.proofs.Behind.{behind-paste, behind-length, behind-whole, silent-frames}
+use Rattle.frames.specs.Areas.{Areas, areas}
+use Rattle.frames.specs.Framing.{framesOf, Behind}
+use Rattle.frames.proofs.Framing.{length-framesOf, framesOf-map}
+use Rattle.frames.proofs.Behind.{behind-paste, silent-frames}
 use Rattle.frames.proofs.Room.{samples-le, count-le}
+use Rattle.floats.specs.Settings.{samplePeriod}
 use Rattle.floats.specs.Write.{sampleIn}
-use Rattle.period.specs.Rates.{maxRequired}
+use Rattle.stream.specs.declared.SonicStream.{SonicStream}
+use Rattle.stream.specs.Stream.{stateOf, streamOf}
+use Rattle.stream.specs.Order.{StreamReady}
+use Rattle.stream.specs.Refusals.{inOrder, tooShort, sizesBad, partsBad, areasBad}
+use Rattle.stream.proofs.InOrder.{limits-of, ready-of}
+use Rattle.stream.proofs.AreaTests.{AreasGood, areas-of}
+use Rattle.stream.proofs.Streams.{ready-stream, ready-input}
 use Rattle.process.specs.Process.{joined}
-use Rattle.process.specs.Kept.{stateOf, joinedKept}
-use Rattle.process.specs.Filling.{Ready, Room}
-use Rattle.process.specs.Finishing.{OutputRoom}
-use Rattle.sonic.specs.declared.SonicStream.{SonicStream}
-use Rattle.sonic.specs.Stream.{Areas, areas, setupOf, keptIn}
-use Rattle.sonic.specs.Refusals.{sizesBad, partsBad, areasBad}
-use Rattle.sonic.specs.Working.{Accepted, keptWith}
-use Rattle.sonic.proofs.InOrder.{AreasGood, opened-of, ready-of, areas-of}
+use Rattle.process.specs.Streams.{joinedStream}
+use Rattle.process.specs.Working.{AreasReady}
+use Rattle.sonic.specs.Adding.{Accepted, AddReady}
 
 -- ---- the frames, in the input
 
@@ -46,68 +51,74 @@ silence-behind ch w n entry exit k e =
     rw (e, ← silent-frames ch n (pos 0))
     (behind-paste ch w n entry (replicate (n * ch) (pos 0)) k (omega (arith, length-replicate (n * ch) (pos 0))))
 
--- the state that the work begins with
-pub joined-state : (s : SonicStream) (n : ℕ) (entry exit stage : List ℤ) (fs : List Frame) → Behind (s .channels) (s .held .0) n entry exit fs
-    → stateOf (s .channels) (keptWith s n) exit stage ≡ joined (setupOf s) fs (stateOf (s .channels) (keptIn s) entry stage)
-unfolding joined stateOf joinedKept keptIn
-joined-state s n entry exit stage fs b = rw (behind-whole b, behind-length b)
+-- ---- the stream with these frames
+
+module _ (s : SonicStream) (n : ℕ) where
+  pub held-joined : joinedStream n s .held .0 ≡ s .held .0 + n
+  unfolding joined stateOf streamOf
+  held-joined = simp (length-append, length-framesOf, length-replicate)
+
+  pub tail-joined : joinedStream n s .tail .0 ≡ s .tail .0
+  unfolding joined stateOf streamOf
+  tail-joined = length-framesOf (s .channels) (s .tail .0) []
 
 -- ---- what the work asks for
 
-pub joined-ready : (s : SonicStream) (n : ℕ) → Ready (setupOf s) (keptIn s) → Ready (setupOf s) (keptWith s n)
-unfolding joinedKept
-joined-ready s n r =
+-- refusals 3 to 5 are not met
+pub add-ready : (s : SonicStream) (period : Float) (a : Areas) (n : ℕ) → (inOrder s ≡ true) × (period ≡ samplePeriod (s .rate)) → areasBad s a ≡ false
+    → tooShort (s .channels) (s .held .0 + n) (a .input) ≡ false → AddReady s period a n
+add-ready s period a n o g f =
     record {
-      opened = r .opened;
-      period-is = r .period-is;
-      volume-low = r .volume-low;
-      volume-high = r .volume-high;
-      position = r .position;
-      found = r .found;
+      accepted = record { in-order = o .0; areas-good = g; fits = ltb-false (length (a .input)) ((s .held .0 + n) * s .channels) f };
+      period-is = o .1;
     }
 
+-- they go by the areas' lengths
+pub ready-with : {s : SonicStream} {period : Float} {a : Areas} {n : ℕ} → AddReady s period a n → (input : List ℤ) → length input ≡ length (a .input)
+    → AddReady s period (areas input (a .stage) (a .output) (a .scratch)) n
+unfolding areasBad sizesBad partsBad
+ready-with r input e =
+    let p = r .accepted in
+    record { accepted = record { in-order = p .in-order; areas-good = rw e (p .areas-good); fits = rw e (p .fits) }; period-is = r .period-is }
+
 module _ {s : SonicStream} {a : Areas} {n : ℕ} (p : Accepted s a n) where
-  -- refusals 3 to 5 go by the areas' lengths
-  pub accepted-with : (input : List ℤ) → length input ≡ length (a .input) → Accepted s (areas input (a .stage) (a .output) (a .scratch)) n
-  unfolding areasBad sizesBad partsBad
-  accepted-with input e = record { in-order = p .in-order; areas-good = rw e (p .areas-good); fits = rw e (p .fits) }
+  good : AreasGood s a
+  good = areas-of s a (p .areas-good)
 
-  pub accepted-ready : Ready (setupOf s) (keptWith s n)
-  accepted-ready = joined-ready s n (ready-of s (p .in-order))
+  accepted-areas : AreasReady (joinedStream n s) a
+  unfolding joined stateOf streamOf
+  accepted-areas =
+      let held : joinedStream n s .held .0 * s .channels ≤ length (a .input) = rw (held-joined s n) (p .fits) in
+      let tail : joinedStream n s .tail .0 * s .channels ≤ length (a .stage) = rw (tail-joined s n) (good .tail) in
+      record {
+        fill = record {
+          fit = record { held = held; tail = tail; input-short = good .input-short; stage-short = good .stage-short };
+          scratch-fits = good .scratch-fits;
+        };
+        waiting = good .waiting;
+        output-short = good .output-short;
+      }
 
-  pub accepted-room : Room (setupOf s) (keptWith s n) (length (a .input)) (length (a .stage))
-  unfolding joinedKept keptIn
-  accepted-room =
-      let g : AreasGood s a = areas-of s a (p .areas-good) in
-      record { held = p .fits; tail = g .tail; input-short = g .input-short; stage-short = g .stage-short }
-
-  pub accepted-scratch : maxRequired (s .rate) ≤ length (a .scratch)
-  accepted-scratch = areas-of s a (p .areas-good) .scratch-fits
-
-  pub accepted-output : OutputRoom (setupOf s) (keptWith s n) (length (a .output))
-  unfolding joinedKept keptIn
-  accepted-output =
-      let g : AreasGood s a = areas-of s a (p .areas-good) in
-      record { waiting = g .waiting; output-short = g .output-short }
+  pub accepted-ready : StreamReady (joinedStream n s) × AreasReady (joinedStream n s) a
+  unfolding joined
+  accepted-ready =
+      let r = ready-of s (p .in-order) in
+      (ready-stream (ready-input r _ _ _ _ (r .prev)) (s .waiting .0), accepted-areas)
 
   -- ---- counts that the code passes on
 
   pub accepted-channels : 1 ≤ s .channels
-  accepted-channels = opened-of s (p .in-order) .channels-low
+  accepted-channels = limits-of s (p .in-order) .channels-low
 
   -- the frames added lie behind those held
   pub accepted-place : s .held .0 * s .channels + n * s .channels ≤ length (a .input)
   accepted-place = omega (arith, add-mul (s .held .0) n (s .channels), p .fits)
 
-  pub accepted-count : s .held .0 + n ≤ 2 ^ 24
-  accepted-count =
-      let g : AreasGood s a = areas-of s a (p .areas-good) in
-      omega (arith, count-le (s .channels) (s .held .0 + n) accepted-channels, p .fits)
+  pub accepted-held : s .held .0 + n ≤ 2 ^ 24
+  accepted-held = omega (arith, count-le (s .channels) (s .held .0 + n) accepted-channels, p .fits, good .input-short)
 
   pub accepted-tail : s .tail .0 ≤ 2 ^ 24
-  accepted-tail =
-      let g : AreasGood s a = areas-of s a (p .areas-good) in
-      omega (arith, count-le (s .channels) (s .tail .0) accepted-channels)
+  accepted-tail = omega (arith, count-le (s .channels) (s .tail .0) accepted-channels, good .tail, good .stage-short)
 
   -- whole frames of a write
   pub accepted-samples : (samples : List Float) → n ≡ length samples / s .channels → n * s .channels ≤ length samples

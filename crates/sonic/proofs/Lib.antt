@@ -1,11 +1,9 @@
-pub mod InOrder
-pub mod Stays
 pub mod Room
 pub mod Stalls
-mod Testing
+pub mod Stays
 mod Giving
 mod Answers
 mod Joining
+mod Adding
 mod Writing
-mod Flushing
-mod Handing
+mod Clearing

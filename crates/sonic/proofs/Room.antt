@@ -2,21 +2,21 @@
 use mathlib.Core.Path.{_≡_, refl}
 use mathlib.Core.Bool.{Bool, true, false, not, cond, true≢false}
 use mathlib.Core.List.{List}
-use Prim.Native.Nat.{ℕ, suc, _+_, _*_, _≤_}
+use Prim.Native.Nat.{ℕ, _+_, _*_, _≤_}
 use native.Mathlib.Omega.{arith}
 use borrow.Author.Tests.{ltb-false}
 use lib.IntN.{ℤ}
 use lib.ListN.{length}
-use Rattle.sonic.specs.declared.SonicStream.{SonicStream}
-use Rattle.sonic.specs.Stream.{Areas}
-use Rattle.sonic.specs.Refusals.{inOrder, tooShort, areasBad, outputBad, refusal, readRefusal}
-use Rattle.sonic.specs.Working.{Accepted}
-use Rattle.sonic.proofs.InOrder.{areas-of, output-of}
+use Rattle.frames.specs.Areas.{Areas}
+use Rattle.stream.specs.declared.SonicStream.{SonicStream}
+use Rattle.stream.specs.Refusals.{accepted, badStream, badAreas, inputFull, stageFull, outputFull, inOrder, tooShort, areasBad, outputBad, refusal, readRefusal}
+use Rattle.stream.proofs.AreaTests.{areas-of, output-of}
+use Rattle.sonic.specs.Adding.{Accepted}
 
 -- a test in a chain that ends at 0 was not met
-passed : (b : Bool) (n rest : ℕ) → cond b (suc n) rest ≡ 0 → (b ≡ false) × (rest ≡ 0)
-passed true n rest e = absurd (omega arith)
-passed false n rest e = (refl, e)
+passed : (b : Bool) (number rest : ℕ) → 1 ≤ number → cond b number rest ≡ accepted → (b ≡ false) × (rest ≡ accepted)
+passed true number rest h e = absurd (omega arith)
+passed false number rest h e = (refl, e)
 
 in-order-passed : (b : Bool) → not b ≡ false → b ≡ true
 in-order-passed true e = refl
@@ -31,15 +31,15 @@ pub record Room (s : SonicStream) (a : Areas) (added staged made : ℕ) : Type 0
   pub stage : (s .tail .0 + staged) * s .channels ≤ length (a .stage)
   pub output : (s .waiting .0 + made) * s .channels ≤ length (a .output)
 
-pub room-of : (s : SonicStream) (a : Areas) (added staged made : ℕ) → refusal s a added staged made ≡ 0 → Room s a added staged made
+pub room-of : (s : SonicStream) (a : Areas) (added staged made : ℕ) → refusal s a added staged made ≡ accepted → Room s a added staged made
 unfolding refusal
 room-of s a added staged made e =
     let ch : ℕ = s .channels in
-    let in-order = passed (not (inOrder s)) 2 _ e in
-    let areas = passed (areasBad s a) 3 _ (in-order .1) in
-    let input = passed (tooShort ch (s .held .0 + added) (a .input)) 4 _ (areas .1) in
-    let stage = passed (tooShort ch (s .tail .0 + staged) (a .stage)) 5 _ (input .1) in
-    let output = passed (tooShort ch (s .waiting .0 + made) (a .output)) 6 0 (stage .1) in
+    let in-order = passed (not (inOrder s)) badStream _ (omega arith) e in
+    let areas = passed (areasBad s a) badAreas _ (omega arith) (in-order .1) in
+    let input = passed (tooShort ch (s .held .0 + added) (a .input)) inputFull _ (omega arith) (areas .1) in
+    let stage = passed (tooShort ch (s .tail .0 + staged) (a .stage)) stageFull _ (omega arith) (input .1) in
+    let output = passed (tooShort ch (s .waiting .0 + made) (a .output)) outputFull accepted (omega arith) (stage .1) in
     let good = areas-of s a (areas .0) in
     record {
       accepted = record {
@@ -55,8 +55,12 @@ room-of s a added staged made e =
     }
 
 -- of an accepted read
-pub read-room : (s : SonicStream) (output : List ℤ) → readRefusal s output ≡ 0 → s .waiting .0 * s .channels ≤ length output
+pub read-ordered : (s : SonicStream) (output : List ℤ) → readRefusal s output ≡ accepted → inOrder s ≡ true
+unfolding readRefusal
+read-ordered s output e = in-order-passed (inOrder s) (passed (not (inOrder s)) badStream _ (omega arith) e .0)
+
+pub read-room : (s : SonicStream) (output : List ℤ) → readRefusal s output ≡ accepted → s .waiting .0 * s .channels ≤ length output
 unfolding readRefusal
 read-room s output e =
-    let in-order = passed (not (inOrder s)) 2 _ e in
-    output-of s output (passed (outputBad s output) 3 0 (in-order .1) .0) .0
+    let in-order = passed (not (inOrder s)) badStream _ (omega arith) e in
+    output-of s output (passed (outputBad s output) badAreas accepted (omega arith) (in-order .1) .0) .0

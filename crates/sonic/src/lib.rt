@@ -1,11 +1,11 @@
 // The Sonic speech stretcher over lent areas: write, read and flush of a stream. `specs/Calls.antt` and `specs/Reading.antt` say what each
 // call answers. The stream itself, with `new`, `set` and `available_frames`, is that of `stream`.
 mod areas;
-mod flush;
+mod flushing;
 mod read;
 mod write;
 
-pub use flush::flush;
+pub use flushing::flush;
 use frames::Frames;
 pub use process::Outcome;
 pub use read::read_f32;

@@ -1,7 +1,7 @@
 -- `sonic::areas::output_bad` meets its contract. Assumes nothing.
 use borrow.Author.Needs.{needs}
 use borrow.Author.Tests.{lt-ltb, le-ltb}
-use Rattle.sonic.specs.Refusals.{outputBad}
+use Rattle.stream.specs.Refusals.{outputBad}
 use Rattle.sonic.proofs.areas.output_bad.Statement.{statement}
 use Rattle.sonic.proofs.areas.output_bad.Tie as tie
 

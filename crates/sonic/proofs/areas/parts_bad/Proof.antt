@@ -1,7 +1,7 @@
 -- `sonic::areas::parts_bad` meets its contract. Assumes nothing.
 use borrow.Author.Needs.{needs}
 use mathlib.Core.Path.{sym, _∙_}
-use Rattle.sonic.specs.Refusals.{partsBad}
+use Rattle.stream.specs.Refusals.{partsBad}
 use Rattle.sonic.proofs.areas.parts_bad.Statement.{statement}
 use Rattle.sonic.proofs.areas.parts_bad.Tie as tie
 

@@ -1,7 +1,7 @@
 -- `sonic::areas::sizes_bad` meets its contract. Assumes nothing.
 use borrow.Author.Needs.{needs}
 use borrow.Author.Tests.{lt-ltb, le-ltb}
-use Rattle.sonic.specs.Refusals.{sizesBad}
+use Rattle.stream.specs.Refusals.{sizesBad}
 use Rattle.sonic.proofs.areas.sizes_bad.Statement.{statement}
 use Rattle.sonic.proofs.areas.sizes_bad.Tie as tie
 

@@ -1,40 +1,123 @@
--- `sonic::SonicStream::write_f32` meets its contract. Assumes nothing.
+-- `sonic::write::write_f32` meets its contract. Assumes nothing.
 use borrow.Author.Needs.{needs}
-use borrow.Author.Tests.{ltb-false, not-true, not-false}
 use mathlib.Core.Path.{_≡_, sym, _∙_}
-use mathlib.Core.Bool.{true, false}
-use Prim.Native.Nat.{_+_, _*_}
-use lib.ListN.{length}
-use Rattle.sonic.specs.Stream.{Areas, areas}
-use Rattle.sonic.specs.Refusals.{inOrder, areasBad}
-use Rattle.sonic.specs.Calls.{writeCall}
-use Rattle.sonic.proofs.InOrder.{opened-of, areas-of}
-use Rattle.sonic.proofs.Answers.{out-of-order, areas-refused, input-refused}
-use Rattle.sonic.proofs.Writing.{whole-count}
-use Rattle.sonic.proofs.SonicStream.write_f32.Statement.{statement}
-use Rattle.sonic.proofs.SonicStream.write_f32.Tie as tie
+use mathlib.Core.Bool.{Bool, true, false}
+use Prim.Native.Nat.{_+_}
+use Rattle.frames.specs.Areas.{Areas, areas}
+use Rattle.floats.specs.Settings.{samplePeriod}
+use Rattle.stream.specs.Refusals.{inOrder, areasBad, tooShort}
+use Rattle.stream.proofs.InOrder.{good-of, bad-of, limits-of}
+use Rattle.stream.proofs.AreaTests.{areas-of}
+use Rattle.sonic.proofs.Joining.{add-ready}
+use Rattle.sonic.proofs.Writing.{write-out-of-order, write-areas-bad, write-input-full}
+use Rattle.sonic.proofs.write.write_f32.Statement.{statement}
+use Rattle.sonic.proofs.write.write_f32.Tie as tie
+
+-- ---- places
 
 -- the areas at entry
 abbrev lent : tie.Start → Areas
 lent s = areas (s .args .input .now) (s .args .stage .now) (s .args .output .now) (s .args .scratch .now)
 
-in-order-requires : tie.Need-in-order-requires
-in-order-requires c κs = search needs
+-- in order
+abbrev entered : tie.After-known-told → tie.Start
+entered c = c .before .before .before .before .before
+
+-- the areas are tested
+abbrev in-order : tie.After-areas-bad → tie.After-known-told
+in-order c = c .before .before .before .before .before
+
+-- the frames are tested against the input
+abbrev counted : tie.After-input-full → tie.After-frames
+counted c = c .before .before
+
+abbrev areas-passed : tie.After-input-full → tie.Else1
+areas-passed c = counted c .before .before
+
+abbrev began : tie.After-input-full → tie.Start
+began c = entered (in-order (areas-passed c .before))
+
+-- ---- what the tests say
+
+ordered : (c : tie.After-known-told)
+    → (inOrder (entered c .args .stream) ≡ true) × (c .before .order .given .0 .0 ≡ samplePeriod (entered c .args .stream .rate))
+ordered c = good-of (entered c .args .stream) _ (sym (c .before .before .before .ordered .ensures) ∙ c .before .order .given .1)
+
+areas-test : (c : tie.After-areas-bad) (b : Bool) → c .areas-bad .result ≡ b
+    → areasBad (entered (in-order c) .args .stream) (lent (entered (in-order c))) ≡ b
+areas-test c b e = sym (c .areas-bad .ensures) ∙ e
+
+good : (c : tie.Else1) → areasBad (entered (in-order (c .before)) .args .stream) (lent (entered (in-order (c .before)))) ≡ false
+good c = areas-test (c .before) false (c .if1 .left)
+
+input-test : (c : tie.After-input-full) (b : Bool) → c .input-full .result ≡ b
+    → tooShort (began c .args .stream .channels) (began c .args .stream .held .0 + counted c .frames .result .0) (began c .args .input .now) ≡ b
+input-test c b e = sym (c .input-full .ensures) ∙ e
+
+-- ---- needs
+
+ordered-requires : tie.Need-ordered-requires
+ordered-requires c κs = search needs
 
 returns : tie.Need-returns
-unfolding writeCall
 returns c =
-    let s = c .before .before .before in
-    (out-of-order (s .args .self) (lent s) _ _ _ _ (sym (c .before .in-order .ensures) ∙ not-true (c .before .in-order .result) (c .if1 .taken)), tt)
-
--- refusal 3 is not met
-ordered : (c : tie.Else1) → inOrder (c .before .before .before .args .self) ≡ true
-ordered c = sym (c .before .in-order .ensures) ∙ not-false (c .before .in-order .result) (c .if1 .left)
+    let o = c .before .before in
+    let a = o .before .before .args in
+    write-out-of-order (a .stream) (a .samples .now) (lent (o .before .before)) (bad-of (a .stream) (sym (o .ordered .ensures) ∙ c .enum-told .given .1))
 
 areas-bad-requires : tie.Need-areas-bad-requires
 areas-bad-requires c κs =
-    let e = c .before .before .before .before in
-    opened-of (e .before .before .before .args .self) (ordered e) .channels-low
+    let o = c .before .before .before .before in
+    limits-of (entered o .args .stream) (ordered o .0) .channels-low
+
+returns-2 : tie.Need-returns-2
+returns-2 c =
+    let o = in-order (c .before) in
+    let s = entered o in
+    write-areas-bad (s .args .stream) (s .args .samples .now) (lent s) (ordered o .0) (areas-test (c .before) true (c .if1 .taken))
+
+frames-requires : tie.Need-frames-requires
+frames-requires c κs =
+    let o = in-order (c .before .before) in
+    limits-of (entered o .args .stream) (ordered o .0) .channels-low
+
+input-full-requires : tie.Need-input-full-requires
+input-full-requires c κs =
+    let g = c .before .before .before in
+    let o = in-order (g .before) in
+    let s = entered o in
+    (limits-of (s .args .stream) (ordered o .0) .channels-low, areas-of (s .args .stream) (lent s) (good g) .held)
+
+returns-3 : tie.Need-returns-3
+returns-3 c =
+    let t = c .before in
+    let g = areas-passed t in
+    let s = began t in
+    let frames = counted t .frames in
+    write-input-full (s .args .stream) (s .args .samples .now) (lent s) (ordered (in-order (g .before)) .0) (frames .result .0) (frames .ensures) (good g)
+    (input-test t true (c .if2 .taken))
+
+write-frames-requires : tie.Need-write-frames-requires
+write-frames-requires c κs =
+    let i = c .before .before .before .before in
+    let t = i .before in
+    let g = areas-passed t in
+    let o = in-order (g .before) in
+    let frames = counted t .frames in
+    let fits = input-test t false (i .if2 .left) in
+    (add-ready (began t .args .stream) (o .before .order .given .0 .0) (lent (began t)) (frames .result .0) (ordered o) (good g) fits, frames .ensures)
+
+returns-4 : tie.Need-returns-4
+returns-4 c = search needs
+
+enum-known-order : tie.Need-enum-known-order
+enum-known-order c = search needs
+
+enum-told : tie.Need-enum-told
+enum-told c = search needs
+
+cast-frames : tie.Need-cast-frames
+cast-frames c = search needs
 
 same-length : tie.Need-same-length
 same-length c = search needs
@@ -48,35 +131,6 @@ same-length-3 c = search needs
 same-length-4 : tie.Need-same-length-4
 same-length-4 c = search needs
 
-returns-2 : tie.Need-returns-2
-unfolding writeCall
-returns-2 c =
-    let e = c .before .before .before .before .before .before in
-    let s = e .before .before .before in
-    (areas-refused (s .args .self) (lent s) _ _ _ _ (ordered e) (sym (c .before .areas-bad .ensures) ∙ c .if2 .taken), tt)
-
--- nor is refusal 4
-abbrev past : tie.Else2 → tie.Else1
-past c = c .before .before .before .before .before .before
-
-abbrev entered : tie.Else2 → tie.Start
-entered c = past c .before .before .before
-
-good : (c : tie.Else2) → areasBad (entered c .args .self) (lent (entered c)) ≡ false
-good c = sym (c .before .areas-bad .ensures) ∙ c .if2 .left
-
-cast-frames : tie.Need-cast-frames
-cast-frames c = search needs
-
-frames-requires : tie.Need-frames-requires
-frames-requires c κs = opened-of (entered (c .before) .args .self) (ordered (past (c .before))) .channels-low
-
-input-full-requires : tie.Need-input-full-requires
-input-full-requires c κs =
-    let m = c .before .before .before in
-    let s = entered m in
-    (opened-of (s .args .self) (ordered (past m)) .channels-low, areas-of (s .args .self) (lent s) (good m) .held)
-
 same-length-5 : tie.Need-same-length-5
 same-length-5 c = search needs
 
@@ -88,25 +142,6 @@ same-length-7 c = search needs
 
 same-length-8 : tie.Need-same-length-8
 same-length-8 c = search needs
-
-returns-3 : tie.Need-returns-3
-unfolding writeCall
-returns-3 c =
-    let m = c .before .before .before .before .before in
-    let s = entered m in
-    let count = whole-count (s .args .self .channels) (s .args .samples .now) in
-    let over = rw (c .before .before .before .frames .ensures, ← count) at (c .before .input-full .ensures) in
-    (input-refused (s .args .self) (lent s) _ _ _ _ (ordered (past m)) (good m) (sym over ∙ c .if3 .taken), tt)
-
-write-frames-requires : tie.Need-write-frames-requires
-write-frames-requires c κs =
-    let e = c .before .before .before .before in
-    let m = e .before .before .before .before .before in
-    let s = entered m in
-    let n = e .before .before .before .frames .result .0 in
-    let end = (s .args .self .held .0 + n) * s .args .self .channels in
-    let fits = ltb-false (length (s .args .input .now)) end (sym (e .before .input-full .ensures) ∙ e .if3 .left) in
-    (record { in-order = ordered (past m); areas-good = good m; fits = fits }, e .before .before .before .frames .ensures)
 
 same-length-9 : tie.Need-same-length-9
 same-length-9 c = search needs
@@ -120,12 +155,9 @@ same-length-11 c = search needs
 same-length-12 : tie.Need-same-length-12
 same-length-12 c = search needs
 
-returns-4 : tie.Need-returns-4
-returns-4 c = search needs
-
 pub write-f32-spec : {M : Type 1} → statement M
 write-f32-spec =
     tie.close
-    (tie.spec in-order-requires returns areas-bad-requires same-length same-length-2 same-length-3 same-length-4 returns-2 cast-frames
-    frames-requires input-full-requires same-length-5 same-length-6 same-length-7 same-length-8 returns-3 write-frames-requires same-length-9
-    same-length-10 same-length-11 same-length-12 returns-4)
+    (tie.spec ordered-requires enum-known-order enum-told returns areas-bad-requires same-length same-length-2 same-length-3 same-length-4 returns-2
+    cast-frames frames-requires input-full-requires same-length-5 same-length-6 same-length-7 same-length-8 returns-3 write-frames-requires
+    same-length-9 same-length-10 same-length-11 same-length-12 returns-4)
