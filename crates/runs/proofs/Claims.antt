@@ -8,24 +8,24 @@ use borrow.Author.Tests.{ltb-false}
 use lib.Dec.{T, ltb}
 use lib.Ieee.{Float, le, ofBits, neg}
 use lib.ListN.{length, length-map}
+use Rattle.frames.specs.Framing.{Frame}
 use Rattle.floats.specs.Write.{sampleOut}
 use Rattle.floats.specs.Settings.{minPitch, maxPitch}
 use Rattle.floats.proofs.Facts.{clamped-in}
+use Rattle.rate.specs.declared.Rates.{Rates}
 use Rattle.rate.specs.Halving.{ratesOf}
 use Rattle.rate.proofs.Halving.{rates-within}
-use Rattle.process.specs.declared.Setup.{Setup}
-use Rattle.process.specs.State.{setupFor}
-use Rattle.sonic.specs.declared.Setting.the-variants.{Pitch}
-use Rattle.sonic.specs.Settings.{fresh}
-use Rattle.sonic.specs.Refusals.{rateBad}
+use Rattle.stream.specs.declared.Setting.the-variants.{Pitch}
+use Rattle.stream.specs.Settings.{fresh}
+use Rattle.stream.specs.Refusals.{rateBad}
+use Rattle.stream.proofs.InOrder.{neither}
 use Rattle.runs.specs.Ledger.{Call, setting, Ledger, begun, ledger}
 use Rattle.runs.specs.Run.{values, total, fed}
 use Rattle.runs.specs.Demand.{RunOf, last, ledgerOf, acceptedOf, All, CopiedOrEmpty, NoFlush, Joined, joinedFrames, framesIn, heldPitch}
 use Rattle.runs.specs.Demand.{LedgerClaim, SameCallsClaim, SameFramesClaim, CountClaim}
-use Rattle.sonic.proofs.InOrder.{neither}
 use Rattle.runs.proofs.Simulation.{opened-as, run-is-ledger}
 use Rattle.runs.proofs.Passage.{Passage}
-use Rattle.runs.proofs.Quiet.{passageOf, passageIn, Calm}
+use Rattle.runs.proofs.Quiet.{passageIn, Calm}
 use Rattle.runs.proofs.Entries.{entries, ledger-entries, QuietCalls, entries-quiet, passedJoined, entries-pass}
 use Rattle.runs.proofs.Counting.{Counted, Untouched, calls-counted, counted-is}
 
@@ -39,11 +39,11 @@ ledger-claim rate channels a = run-is-ledger rate channels (a .stream) (a .opens
 module _ {rate channels : ℕ} (a : RunOf rate channels) where
   -- the ledger, by the accepted calls alone
   abbrev book : Ledger
-  book = entries (setupFor rate channels) begun (acceptedOf a)
+  book = entries (begun rate channels) (acceptedOf a)
 
   ledger-is-book : ledgerOf a ≡ book
   unfolding ledger
-  ledger-is-book = ledger-entries (setupFor rate channels) begun (map fed (a .events))
+  ledger-is-book = ledger-entries (begun rate channels) (map fed (a .events))
 
   total-is-book : total (last a) ≡ values (book .made)
   total-is-book = ledger-claim rate channels a .0 ∙ ap (λ (l : Ledger). values (l .made)) ledger-is-book
@@ -53,37 +53,38 @@ module _ {rate channels : ℕ} (a : RunOf rate channels) where
 
 pub same-calls : SameCallsClaim
 same-calls rate channels a b e =
-    let f : book a ≡ book b = ap (entries (setupFor rate channels) begun) e in (
+    let f : book a ≡ book b = ap (entries (begun rate channels)) e in (
       total-is-book a ∙ ap (λ (l : Ledger). values (l .made)) f ∙ sym (total-is-book b),
       outcomes-are-book a ∙ ap (λ (l : Ledger). l .outcomes) f ∙ sym (outcomes-are-book b),
     )
 
 -- ---- the same joined frames
 
-begun-calm : Calm begun
-unfolding begun fresh
-begun-calm = record { input = refl; short = omega arith }
+module _ (rate channels : ℕ) where
+  begun-calm : Calm rate channels (begun rate channels)
+  unfolding begun fresh
+  begun-calm = record { rate-is = refl; channels-is = refl; input = refl; short = omega arith }
+
+  begun-untouched : Untouched (begun rate channels)
+  unfolding begun fresh
+  begun-untouched = record { tail = refl; made = refl }
+
+  -- what is made of joined frames alone
+  abbrev madeOf : Joined → List Frame
+  madeOf j = passedJoined (passageIn (begun rate channels)) j .made
 
 module _ {rate channels : ℕ} (a : RunOf rate channels) (q : All CopiedOrEmpty (last a .outcomes)) where
-  quiet-calls : QuietCalls (setupFor rate channels) begun (acceptedOf a)
-  quiet-calls = entries-quiet (setupFor rate channels) begun (acceptedOf a) (subst (All CopiedOrEmpty) (outcomes-are-book a) q) .0
+  quiet-calls : QuietCalls (begun rate channels) (acceptedOf a)
+  quiet-calls = entries-quiet (begun rate channels) (acceptedOf a) (subst (All CopiedOrEmpty) (outcomes-are-book a) q) .0
 
-  made-joined : book a .made ≡ passedJoined (setupFor rate channels) (passageIn begun) (joinedFrames channels (acceptedOf a)) .made
-  unfolding passageOf
-  made-joined = ap (λ (x : Passage). x .made) (entries-pass (setupFor rate channels) begun (acceptedOf a) begun-calm quiet-calls)
+  made-joined : book a .made ≡ madeOf rate channels (joinedFrames channels (acceptedOf a))
+  made-joined = ap (λ (x : Passage). x .made) (entries-pass (begun rate channels) (acceptedOf a) (begun-calm rate channels) quiet-calls)
 
 pub same-frames : SameFramesClaim
 same-frames rate channels a b qa qb e =
-    let joined : passedJoined (setupFor rate channels) (passageIn begun) (joinedFrames channels (acceptedOf a)) .made
-    ≡ passedJoined (setupFor rate channels) (passageIn begun) (joinedFrames channels (acceptedOf b)) .made =
-    ap (λ (j : Joined). passedJoined (setupFor rate channels) (passageIn begun) j .made) e in
-    total-is-book a ∙ ap (λ (fs : List _). values fs) (made-joined a qa ∙ joined ∙ sym (made-joined b qb)) ∙ sym (total-is-book b)
+    total-is-book a ∙ ap (λ (fs : List Frame). values fs) (made-joined a qa ∙ ap (madeOf rate channels) e ∙ sym (made-joined b qb)) ∙ sym (total-is-book b)
 
 -- ---- the count
-
-begun-untouched : Untouched begun
-unfolding begun fresh
-begun-untouched = record { tail = refl; made = refl }
 
 rate-between : (rate : ℕ) → rateBad rate ≡ false → (1000 ≤ rate) × (rate ≤ 500000)
 unfolding rateBad
@@ -104,13 +105,13 @@ old-positive rate x e =
 
 pub count : CountClaim
 count rate channels a q before behind x e w n other k =
-    let u : Setup = setupFor rate channels in
+    let start : Ledger = begun rate channels in
     let cs : List Call = before ++ setting (Pitch x) ∷ behind in
-    let quiet : QuietCalls u begun cs = subst (QuietCalls u begun) e (quiet-calls a q) in
-    let counted : Counted u (heldPitch x) other (framesIn channels cs) (entries u begun cs .made) =
-    calls-counted u x other before behind begun begun-calm begun-untouched quiet w n (subst (All NoFlush) e k) in
-    let in-run : Counted u (heldPitch x) other (framesIn channels (acceptedOf a)) (book a .made) =
-    subst (λ (c : List Call). Counted u (heldPitch x) other (framesIn channels c) (entries u begun c .made)) (sym e) counted in
-    let positive : 0 < ratesOf rate (heldPitch x) .old = old-positive rate x (opened-as rate channels (a .stream) (a .opens) .rate-good) in
-    ap length (total-is-book a) ∙ length-map (book a .made) (map sampleOut)
-    ∙ counted-is u (heldPitch x) other (framesIn channels (acceptedOf a)) (book a .made) positive in-run
+    let quiet : QuietCalls start cs = subst (QuietCalls start) e (quiet-calls a q) in
+    let r : Rates = ratesOf rate (heldPitch x) in
+    let counted : Counted r (framesIn channels cs) (entries start cs .made) =
+    calls-counted rate channels x other before behind start (begun-calm rate channels) (begun-untouched rate channels) quiet w n (subst (All NoFlush) e k) in
+    let in-run : Counted r (framesIn channels (acceptedOf a)) (book a .made) =
+    subst (λ (c : List Call). Counted r (framesIn channels c) (entries start c .made)) (sym e) counted in
+    let positive : 0 < r .old = old-positive rate x (opened-as rate channels (a .stream) (a .opens) .rate-good) in
+    ap length (total-is-book a) ∙ length-map (book a .made) (map sampleOut) ∙ counted-is r (framesIn channels (acceptedOf a)) (book a .made) positive in-run

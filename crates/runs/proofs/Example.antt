@@ -6,6 +6,7 @@ use Prim.Native.Nat.{ℕ}
 use lib.IntN.{ℤ, pos}
 use lib.Ieee.{Float, ofBits, neg, ofInt, toUnsigned, toSigned, round, add, mul, div, lt, le, eq}
 use lib.ListN.{replicate}
+use Rattle.frames.specs.Areas.{Areas, areas}
 use Rattle.frames.specs.Framing.{framesOf}
 use Rattle.frames.specs.Clamp.{clampZ}
 use Rattle.floats.specs.Numbers.{zero, half, one, narrow}
@@ -15,24 +16,23 @@ use Rattle.floats.specs.Write.{unitClamped, sampleIn, sampleOut, playTimeGrown,
 use Rattle.floats.specs.Flush.{expectedFrames}
 use Rattle.volume.specs.Volume.{amplified, scaled}
 use Rattle.rate.specs.Halving.{halved, ratesOf}
-use Rattle.rate.specs.Tail.{ceilDiv}
+use Rattle.rate.specs.Tail.{start, ceilDiv}
 use Rattle.rate.specs.Conversion.{adjustRate}
+use Rattle.stream.specs.declared.SonicStream.{SonicStream}
+use Rattle.stream.specs.declared.Setting.the-variants.{Volume}
+use Rattle.stream.specs.declared.Opened.{Opened}
+use Rattle.stream.specs.declared.Changed.{Changed}
+use Rattle.stream.specs.State.{withSettings}
+use Rattle.stream.specs.Stream.{stateOf, streamOf}
+use Rattle.stream.specs.Refusals.{badAreas, inputFull, rateBad, channelsBad, limitsInOrder, periodInOrder, settingsInOrder, prevInOrder, positionsInOrder}
+use Rattle.stream.specs.Refusals.{inOrder, sizesBad, partsBad, areasBad, outputBad, refusal, readRefusal}
+use Rattle.stream.specs.Settings.{fresh, withSetting, openCall, setCall}
 use Rattle.process.specs.declared.Outcome.the-variants.{Copied}
-use Rattle.process.specs.State.{setupFor}
-use Rattle.process.specs.Kept.{stateOf, keptOf}
 use Rattle.process.specs.Process.{wholeFrames, joined, removed, nothing, copied, takenAt, taken, finished, process, writeWork, flushWork, expected, cleared}
-use Rattle.sonic.specs.declared.SonicStream.{SonicStream}
-use Rattle.sonic.specs.declared.Setting.the-variants.{Volume}
-use Rattle.sonic.specs.declared.Opened.{Opened}
-use Rattle.sonic.specs.declared.Changed.{Changed}
 use Rattle.sonic.specs.declared.Wrote.{Wrote}
 use Rattle.sonic.specs.declared.Gave.{Gave}
-use Rattle.sonic.specs.Settings.{fresh, settingsWith, positionWith, withSetting}
-use Rattle.sonic.specs.Stream.{Areas, areas, keptIn, stateIn, streamWith, streamOf, keeping}
-use Rattle.sonic.specs.Refusals.{rateBad, channelsBad, openedInOrder, settingsInOrder, prevInOrder, positionsInOrder, inOrder, sizesBad, partsBad}
-use Rattle.sonic.specs.Refusals.{areasBad, outputBad, refusal, readRefusal}
-use Rattle.sonic.specs.Calls.{openCall, changed, setCall, refusedCall, acceptedCall, writeCall, flushCall}
-use Rattle.sonic.specs.Reading.{readCount, fewer, readCall}
+use Rattle.sonic.specs.Calls.{refusedCall, acceptedCall, writeCall, flushCall}
+use Rattle.sonic.specs.Reading.{readCount, readCall}
 use Rattle.runs.specs.Ledger.{Ledger, begun, entry, posted, ledgerFrom, ledger}
 use Rattle.runs.specs.Run.{ReadAreas, Event, setting-went, write-went, flush-went, read-went, opening, Agree, leave}
 use Rattle.runs.specs.Run.{afterSetting, afterCall, afterRead, after, values, total, fed}
@@ -43,18 +43,7 @@ use Rattle.runs.proofs.Claims.{ledger-claim}
 
 -- with this volume and so many frames waiting, all else fresh
 abbrev streamFor : Float → ℕ → SonicStream
-streamFor volume waiting =
-    streamOf (setupFor 8000 1)
-    (record {
-      settings = record { speed = one; pitch = one; volume = volume };
-      input = [];
-      tail = [];
-      at = record { old = 0; new = 0 };
-      found = record { period = 0; «min_diff» = 0 };
-      play = zero;
-      error = zero;
-    })
-    waiting
+streamFor volume waiting = streamOf (withSettings (fresh 8000 1) one one volume start) waiting
 
 opens : openCall 8000 1 ≡ Opened.Done (streamFor one 0)
 unfolding openCall rateBad channelsBad fresh
@@ -70,7 +59,7 @@ small : Areas
 small = areas [] [] [] (replicate 246 (pos 0))
 
 no-room : Event
-no-room = write-went samples small (Wrote.Refused 5 (streamFor one 0)) small
+no-room = write-went samples small (Wrote.Refused inputFull (streamFor one 0)) small
 
 -- with something in them already
 fair : Areas
@@ -90,7 +79,7 @@ short : ReadAreas
 short = record { slice = zero ∷ []; output = pos 32767 ∷ [] }
 
 too-short : Event
-too-short = read-went 1 short (Gave.Refused 4 (streamFor half 2)) short
+too-short = read-went 1 short (Gave.Refused badAreas (streamFor half 2)) short
 
 -- one frame read, the other waits; the rest of the slice is unchanged
 takes-one : Event
@@ -123,9 +112,9 @@ takes-rest =
 example : RunOf 8000 1
 unfolding no-room small copies fair fair-left softer too-short short takes-one copies-softer large flushes takes-rest samples
     opening after afterSetting afterCall afterRead Agree leave
-    setCall changed settingsWith positionWith keeping writeCall flushCall refusedCall acceptedCall readCall readCount fewer
-    refusal readRefusal inOrder openedInOrder settingsInOrder prevInOrder positionsInOrder areasBad sizesBad partsBad outputBad rateBad channelsBad
-    streamOf streamWith keptOf keptIn stateIn stateOf framesOf wholeFrames
+    setCall withSetting writeCall flushCall refusedCall acceptedCall readCall readCount
+    refusal readRefusal inOrder limitsInOrder periodInOrder settingsInOrder prevInOrder positionsInOrder rateBad channelsBad
+    areasBad sizesBad partsBad outputBad fresh streamOf stateOf framesOf wholeFrames
     writeWork flushWork process finished taken takenAt copied nothing joined removed expected cleared adjustRate
     sampleIn sampleOut unitClamped playTimeGrown playTimeLeft localSpeed speedChanges expectedFrames gain scaled amplified clampZ clamped
     ratesOf halved newRate ceilDiv samplePeriod narrow ofBits neg div round ofInt toUnsigned toSigned le lt eq mul add
@@ -182,19 +171,23 @@ ledger-is :
     ledgerOf example
     ≡ record {
       state = record {
-        settings = record { speed = one; pitch = one; volume = half };
+        rate = 8000;
+        channels = 1;
+        speed = one;
+        pitch = one;
+        volume = half;
         input = [];
         tail = [];
         at = record { old = 0; new = 0 };
-        found = record { period = 0; «min_diff» = 0 };
-        play = zero;
-        error = zero;
+        prev = record { period = 0; «min_diff» = 0 };
+        «input_play_time» = zero;
+        «time_error» = zero;
       };
       made = (pos 32767 ∷ []) ∷ (pos 0 ∷ []) ∷ (pos 16383 ∷ []) ∷ [];
       outcomes = Copied ∷ Copied ∷ Copied ∷ [];
     }
 unfolding example no-room copies softer too-short takes-one copies-softer flushes takes-rest samples
-    ledger ledgerFrom posted begun entry fed fresh withSetting settingsWith positionWith framesOf wholeFrames
+    ledger ledgerFrom posted begun entry fed fresh withSetting framesOf wholeFrames
     writeWork flushWork process finished taken takenAt copied nothing joined removed expected cleared adjustRate
     sampleIn unitClamped playTimeGrown playTimeLeft localSpeed speedChanges expectedFrames gain scaled amplified clampZ clamped
     samplePeriod narrow ofBits neg div round ofInt toUnsigned toSigned le lt eq mul add

@@ -6,6 +6,7 @@ use Prim.Native.Nat.{ℕ}
 use lib.IntN.{ℤ, pos, negsuc}
 use lib.Ieee.{Float, ofBits, neg, ofInt, toUnsigned, toSigned, round, add, mul, div, lt, le, eq}
 use lib.ListN.{length, take, replicate}
+use Rattle.frames.specs.Areas.{Areas, areas}
 use Rattle.frames.specs.Framing.{Frame, framesOf}
 use Rattle.frames.specs.Clamp.{clampZ}
 use Rattle.floats.specs.Numbers.{zero, half, one, narrow}
@@ -20,20 +21,19 @@ use Rattle.rate.specs.declared.Position.{Position}
 use Rattle.rate.specs.Halving.{halved, ratesOf}
 use Rattle.rate.specs.Tail.{start, ceilDiv, due, next, steps, interpolateWindow, interpolated, emit, scan}
 use Rattle.rate.specs.Conversion.{convert, joinTail, adjustRate}
+use Rattle.stream.specs.declared.SonicStream.{SonicStream}
+use Rattle.stream.specs.declared.Setting.the-variants.{Speed, Pitch}
+use Rattle.stream.specs.declared.Opened.{Opened}
+use Rattle.stream.specs.declared.Changed.{Changed}
+use Rattle.stream.specs.State.{withSettings, withTail}
+use Rattle.stream.specs.Stream.{stateOf, streamOf}
+use Rattle.stream.specs.Refusals.{rateBad, channelsBad, limitsInOrder, periodInOrder, settingsInOrder, prevInOrder, positionsInOrder, inOrder}
+use Rattle.stream.specs.Refusals.{sizesBad, partsBad, areasBad, refusal}
+use Rattle.stream.specs.Settings.{fresh, withSetting, openCall, setCall}
 use Rattle.process.specs.declared.Outcome.the-variants.{Copied}
-use Rattle.process.specs.State.{setupFor}
-use Rattle.process.specs.Kept.{stateOf, keptOf}
 use Rattle.process.specs.Process.{wholeFrames, joined, removed, nothing, copied, takenAt, taken, finished, process, writeWork, flushWork, expected, cleared}
-use Rattle.sonic.specs.declared.SonicStream.{SonicStream}
-use Rattle.sonic.specs.declared.Setting.the-variants.{Speed, Pitch}
-use Rattle.sonic.specs.declared.Opened.{Opened}
-use Rattle.sonic.specs.declared.Changed.{Changed}
 use Rattle.sonic.specs.declared.Wrote.{Wrote}
-use Rattle.sonic.specs.Settings.{fresh, settingsWith, positionWith, withSetting}
-use Rattle.sonic.specs.Stream.{Areas, areas, keptIn, stateIn, streamWith, streamOf, keeping}
-use Rattle.sonic.specs.Refusals.{rateBad, channelsBad, openedInOrder, settingsInOrder, prevInOrder, positionsInOrder, inOrder}
-use Rattle.sonic.specs.Refusals.{sizesBad, partsBad, areasBad, refusal}
-use Rattle.sonic.specs.Calls.{openCall, changed, setCall, refusedCall, acceptedCall, writeCall, flushCall}
+use Rattle.sonic.specs.Calls.{refusedCall, acceptedCall, writeCall, flushCall}
 use Rattle.runs.specs.Ledger.{setting, write, begun, entry, posted, ledgerFrom, ledger}
 use Rattle.runs.specs.Run.{Event, setting-went, write-went, flush-went, opening, Agree, leave, afterSetting, afterCall, after, end, values, total, fed}
 use Rattle.runs.specs.Demand.{RunOf, last, ledgerOf, unlessRead, acceptedIn, marked, joinedFrames, framesIn}
@@ -41,18 +41,7 @@ use Rattle.runs.proofs.Claims.{ledger-claim, same-frames, count}
 
 -- at this speed and pitch, with tail frames, positions and so many frames waiting, all else fresh
 abbrev streamFor : Float → Float → List Frame → Position → ℕ → SonicStream
-streamFor speed pitch tail at waiting =
-    streamOf (setupFor 8000 1)
-    (record {
-      settings = record { speed = speed; pitch = pitch; volume = one };
-      input = [];
-      tail = tail;
-      at = at;
-      found = record { period = 0; «min_diff» = 0 };
-      play = zero;
-      error = zero;
-    })
-    waiting
+streamFor speed pitch tail at waiting = streamOf (withTail (withSettings (fresh 8000 1) speed pitch one at) tail at) waiting
 
 opens : openCall 8000 1 ≡ Opened.Done (streamFor one one [] start 0)
 unfolding openCall rateBad channelsBad fresh
@@ -112,9 +101,9 @@ flush-behind =
 at-once : RunOf 8000 1
 unfolding slower deeper lent early late click made made-of-all all-at-once
     opening after afterSetting afterCall Agree leave
-    setCall changed settingsWith positionWith keeping writeCall refusedCall acceptedCall
-    refusal inOrder openedInOrder settingsInOrder prevInOrder positionsInOrder areasBad sizesBad partsBad rateBad channelsBad
-    streamOf streamWith keptOf keptIn stateIn stateOf framesOf wholeFrames
+    setCall withSetting writeCall refusedCall acceptedCall
+    refusal inOrder limitsInOrder periodInOrder settingsInOrder prevInOrder positionsInOrder areasBad sizesBad partsBad rateBad channelsBad
+    fresh streamOf stateOf framesOf wholeFrames
     writeWork process finished taken takenAt copied nothing joined removed
     sampleIn unitClamped playTimeGrown playTimeLeft localSpeed speedChanges scaled clampZ clamped
     adjustRate joinTail convert scan steps next due emit interpolated interpolateWindow
@@ -143,9 +132,9 @@ at-once = record {
 in-parts : RunOf 8000 1
 unfolding slower deeper lent early late click made made-of-all first-part second-part
     opening after afterSetting afterCall Agree leave
-    setCall changed settingsWith positionWith keeping writeCall refusedCall acceptedCall
-    refusal inOrder openedInOrder settingsInOrder prevInOrder positionsInOrder areasBad sizesBad partsBad rateBad channelsBad
-    streamOf streamWith keptOf keptIn stateIn stateOf framesOf wholeFrames
+    setCall withSetting writeCall refusedCall acceptedCall
+    refusal inOrder limitsInOrder periodInOrder settingsInOrder prevInOrder positionsInOrder areasBad sizesBad partsBad rateBad channelsBad
+    fresh streamOf stateOf framesOf wholeFrames
     writeWork process finished taken takenAt copied nothing joined removed
     sampleIn unitClamped playTimeGrown playTimeLeft localSpeed speedChanges scaled clampZ clamped
     adjustRate joinTail convert scan steps next due emit interpolated interpolateWindow
@@ -181,9 +170,9 @@ in-parts = record {
 with-flush : RunOf 8000 1
 unfolding slower deeper lent early late click made made-of-all all-at-once made-by-flush long flush-behind
     opening after afterSetting afterCall Agree leave
-    setCall changed settingsWith positionWith keeping writeCall flushCall refusedCall acceptedCall
-    refusal inOrder openedInOrder settingsInOrder prevInOrder positionsInOrder areasBad sizesBad partsBad rateBad channelsBad
-    streamOf streamWith keptOf keptIn stateIn stateOf framesOf wholeFrames
+    setCall withSetting writeCall flushCall refusedCall acceptedCall
+    refusal inOrder limitsInOrder periodInOrder settingsInOrder prevInOrder positionsInOrder areasBad sizesBad partsBad rateBad channelsBad
+    fresh streamOf stateOf framesOf wholeFrames
     writeWork flushWork process finished expected expectedFrames cleared taken takenAt copied nothing joined removed
     sampleIn unitClamped playTimeGrown playTimeLeft localSpeed speedChanges scaled clampZ clamped
     adjustRate joinTail convert scan steps next due emit interpolated interpolateWindow
@@ -231,7 +220,7 @@ two-made = count 8000 1 at-once (tt, tt) (setting (Speed half) ∷ []) (write (e
 
 ledger-with-flush : ledgerOf with-flush .made ≡ framesOf 1 26 (made ++ made-by-flush)
 unfolding with-flush slower deeper all-at-once flush-behind made-of-all early late made made-by-flush
-    ledger ledgerFrom posted begun entry fed fresh withSetting settingsWith positionWith framesOf wholeFrames
+    ledger ledgerFrom posted begun entry fed fresh withSetting framesOf wholeFrames
     writeWork flushWork process finished expected expectedFrames cleared taken takenAt copied nothing joined removed
     sampleIn unitClamped playTimeGrown playTimeLeft localSpeed speedChanges scaled clampZ clamped
     adjustRate joinTail convert scan steps next due emit interpolated interpolateWindow

@@ -5,7 +5,7 @@ use mathlib.Core.Bool.{Bool, true, false, cond}
 use mathlib.Core.List.{List, [], _∷_, _++_, map, append-assoc, append-nil, map-append}
 use Prim.Native.Nat.{ℕ, _≤_}
 use native.Mathlib.Omega.{arith}
-use lib.Ieee.{eq}
+use lib.Ieee.{Float, eq}
 use lib.ListN.{length, drop, length-drop}
 use Rattle.frames.specs.Framing.{Frame}
 use Rattle.floats.specs.Numbers.{one}
@@ -16,8 +16,7 @@ use Rattle.rate.specs.Halving.{ratesOf}
 use Rattle.rate.specs.Tail.{scan, steps, consumable}
 use Rattle.rate.specs.Conversion.{Conversion, convert, joinTail, adjustRate}
 use Rattle.rate.proofs.Chunks.{andThen, convert-append}
-use Rattle.process.specs.declared.Setup.{Setup}
-use Rattle.process.specs.declared.Settings.{Settings}
+use Rattle.stream.specs.State.{State, withTail}
 
 -- ---- rate, by whether the pitch is 1.0
 
@@ -74,47 +73,51 @@ adjust-append false r at tail xs ys h =
 
 -- ---- rate and volume
 
--- what frames that pass through turn on: settings, tail, positions, and the frames made so far
+-- what frames that pass through go by: of a state its rate, settings, tail and positions; and the frames made so far
 pub record Passage : Type 0 where
-  pub settings : Settings
-  pub tail : List Frame
-  pub at : Position
+  pub state : State
   pub made : List Frame
 
-abbrev pub scaledBy : Settings → List Frame → List Frame
-scaledBy s fs = map (map (scaled (s .volume))) fs
+abbrev pub scaledBy : Float → List Frame → List Frame
+scaledBy volume fs = map (map (scaled volume)) fs
 
 -- after a conversion; `cut` says what of its frames is kept
 abbrev converted : (List Frame → List Frame) → Passage → Conversion → Passage
-converted cut q c = record { settings = q .settings; tail = c .rest; at = c .at; made = q .made ++ cut (scaledBy (q .settings) (c .made)) }
+converted cut q c = record { state = withTail (q .state) (c .rest) (c .at); made = q .made ++ cut (scaledBy (q .state .volume) (c .made)) }
 
 -- after the new frames fs
-unfoldable pub passed : Setup → (List Frame → List Frame) → Passage → List Frame → Passage
-passed u cut q fs = converted cut q (adjustRate (u .rate) (q .settings .pitch) (q .at) (q .tail) fs)
+unfoldable pub passed : (List Frame → List Frame) → Passage → List Frame → Passage
+passed cut q fs = converted cut q (adjustRate (q .state .rate) (q .state .pitch) (q .state .at) (q .state .tail) fs)
 
 -- all are kept
 abbrev pub all : List Frame → List Frame
 all fs = fs
 
-pub passed-none : (u : Setup) (q : Passage) → passed u all q [] ≡ q
-unfolding passed adjustRate
-passed-none u q =
-    ap (converted all q) (adjust-none (eq (q .settings .pitch) one) (ratesOf (u .rate) (q .settings .pitch)) (q .at) (q .tail))
-    ∙ (λ i. record { settings = q .settings; tail = q .tail; at = q .at; made = append-nil (q .made) i })
+module _ (q : Passage) where
+  abbrev s : State
+  s = q .state
 
-pub passed-append : (u : Setup) (q : Passage) (xs ys : List Frame) → Short (q .tail) → passed u all q (xs ++ ys) ≡ passed u all (passed u all q xs) ys
-unfolding passed adjustRate adjustMore
-passed-append u q xs ys h =
-    let b : Bool = eq (q .settings .pitch) one in
-    let r : Rates = ratesOf (u .rate) (q .settings .pitch) in
-    let c : Conversion = adjustBy b r (q .at) (q .tail) xs in
-    let d : Conversion = adjustBy b r (c .at) (c .rest) ys in
-    let made : q .made ++ scaledBy (q .settings) (c .made ++ d .made) ≡ (q .made ++ scaledBy (q .settings) (c .made)) ++ scaledBy (q .settings) (d .made) =
-    ap (λ (m : List Frame). q .made ++ m) (map-append (map (scaled (q .settings .volume))) (c .made) (d .made))
-    ∙ sym (append-assoc (q .made) (scaledBy (q .settings) (c .made)) (scaledBy (q .settings) (d .made))) in
-    ap (converted all q) (adjust-append b r (q .at) (q .tail) xs ys h)
-    ∙ (λ i. record { settings = q .settings; tail = d .rest; at = d .at; made = made i })
+  abbrev b : Bool
+  b = eq (s .pitch) one
 
-pub passed-short : (u : Setup) (cut : List Frame → List Frame) (q : Passage) (fs : List Frame) → Short (q .tail) → Short (passed u cut q fs .tail)
-unfolding passed adjustRate
-passed-short u cut q fs h = adjust-short (eq (q .settings .pitch) one) (ratesOf (u .rate) (q .settings .pitch)) (q .at) (q .tail) fs h
+  abbrev r : Rates
+  r = ratesOf (s .rate) (s .pitch)
+
+  pub passed-none : passed all q [] ≡ q
+  unfolding passed adjustRate
+  passed-none = ap (converted all q) (adjust-none b r (s .at) (s .tail)) ∙ (λ i. record { state = s; made = append-nil (q .made) i })
+
+  pub passed-append : (xs ys : List Frame) → Short (s .tail) → passed all q (xs ++ ys) ≡ passed all (passed all q xs) ys
+  unfolding passed adjustRate adjustMore
+  passed-append xs ys h =
+      let c : Conversion = adjustBy b r (s .at) (s .tail) xs in
+      let d : Conversion = adjustBy b r (c .at) (c .rest) ys in
+      let before : List Frame = scaledBy (s .volume) (c .made) in
+      let behind : List Frame = scaledBy (s .volume) (d .made) in
+      let made : q .made ++ scaledBy (s .volume) (c .made ++ d .made) ≡ (q .made ++ before) ++ behind =
+      ap (λ (m : List Frame). q .made ++ m) (map-append (map (scaled (s .volume))) (c .made) (d .made)) ∙ sym (append-assoc (q .made) before behind) in
+      ap (converted all q) (adjust-append b r (s .at) (s .tail) xs ys h) ∙ (λ i. record { state = withTail s (d .rest) (d .at); made = made i })
+
+  pub passed-short : (cut : List Frame → List Frame) (fs : List Frame) → Short (s .tail) → Short (passed cut q fs .state .tail)
+  unfolding passed adjustRate
+  passed-short cut fs h = adjust-short b r (s .at) (s .tail) fs h

@@ -15,17 +15,17 @@ use Rattle.floats.specs.Write.{sampleIn, speedChanges}
 use Rattle.floats.specs.Flush.{expectedFrames}
 use Rattle.period.specs.Rates.{maxRequired}
 use Rattle.stretch.specs.Speed.{stalled}
-use Rattle.process.specs.declared.Setup.{Setup}
+use Rattle.stream.specs.declared.Setting.{Setting}
+use Rattle.stream.specs.declared.Setting.the-variants.{Speed, Pitch, Volume}
+use Rattle.stream.specs.State.{State}
+use Rattle.stream.specs.Settings.{withSetting}
 use Rattle.process.specs.declared.Outcome.{Outcome}
 use Rattle.process.specs.declared.Outcome.the-variants.{Empty, Waiting, Stretched, Stalled}
-use Rattle.process.specs.State.{State}
 use Rattle.process.specs.Process.{Taken, Made, wholeFrames, joined, removed, nothing, copied, stepsAt, stretched, takenAt, speedAt, taken, finished}
 use Rattle.process.specs.Process.{process, writeWork, flushWork, expected, cleared}
-use Rattle.sonic.specs.declared.Setting.{Setting}
-use Rattle.sonic.specs.Settings.{settingsWith, positionWith, withSetting}
 use Rattle.runs.specs.Ledger.{Call, setting, write, flush, read, Ledger, entry}
 use Rattle.runs.specs.Demand.{CopiedOrEmpty}
-use Rattle.runs.proofs.Work.{cond-cases, Leaves, taken-leaves}
+use Rattle.runs.proofs.Work.{cond-cases, setting-cases, bare, taken-leaves, process-rate, process-channels}
 use Rattle.runs.proofs.Passage.{Short, Passage, passed, all, passed-short}
 
 -- ---- such a call copies its input
@@ -38,104 +38,118 @@ none-of-length : (fs : List Frame) → length fs ≡ 0 → fs ≡ []
 none-of-length [] e = refl
 none-of-length (f ∷ fs) e = absurd (omega arith)
 
-stretched-loud : (u : Setup) (x : Float) (s : State) → CopiedOrEmpty (stretched u x s .outcome) → ⊥
+stretched-loud : (x : Float) (s : State) → CopiedOrEmpty (stretched x s .outcome) → ⊥
 unfolding stretched
-stretched-loud u x s = cond-cases (λ (o : Outcome). CopiedOrEmpty o → ⊥) (stalled (stepsAt u x s)) Stalled Stretched (λ e q. q) (λ e q. q)
+stretched-loud x s = cond-cases (λ (o : Outcome). CopiedOrEmpty o → ⊥) (stalled (stepsAt x s)) Stalled Stretched (λ e q. q) (λ e q. q)
 
-taken-copies : (u : Setup) (s : State) → CopiedOrEmpty (taken u s .outcome) → Copies s (taken u s)
+taken-copies : (s : State) → CopiedOrEmpty (taken s .outcome) → Copies s (taken s)
 unfolding taken takenAt nothing copied removed
-taken-copies u s =
+taken-copies s =
     let P : Taken → Type 0 = λ t. CopiedOrEmpty (t .outcome) → Copies s t in
-    let x : Float = speedAt u s in
-    let few = ltb (length (s .input)) (maxRequired (u .rate)) in
-    cond-cases P (eqb (length (s .input)) 0) (nothing Empty s) (takenAt u x s)
+    let x : Float = speedAt s in
+    let few = ltb (length (s .input)) (maxRequired (s .rate)) in
+    cond-cases P (eqb (length (s .input)) 0) (nothing Empty s) (takenAt x s)
     (λ e q.
     let none : s .input ≡ [] = none-of-length (s .input) (eqb-true (length (s .input)) 0 e) in
     record { frames = sym none; input = none })
-    (λ e. cond-cases P (speedChanges x) (cond few (nothing Waiting s) (stretched u x s)) (copied s)
-    (λ f. cond-cases P few (nothing Waiting s) (stretched u x s) (λ g q. absurd q) (λ g q. absurd (stretched-loud u x s q)))
+    (λ e. cond-cases P (speedChanges x) (cond few (nothing Waiting s) (stretched x s)) (copied s)
+    (λ f. cond-cases P few (nothing Waiting s) (stretched x s) (λ g q. absurd q) (λ g q. absurd (stretched-loud x s q)))
     (λ f q. record { frames = refl; input = drop-length (s .input) }))
 
 -- ---- and its frames pass through
 
-unfoldable pub passageOf : State → List Frame → Passage
-passageOf s made = record { settings = s .settings; tail = s .tail; at = s .at; made = made }
+abbrev passageOf : State → List Frame → Passage
+passageOf s made = record { state = bare s; made = made }
 
 abbrev pub passageIn : Ledger → Passage
 passageIn l = passageOf (l .state) (l .made)
 
-process-passes : (u : Setup) (s : State) (made : List Frame) (cut : List Frame → List Frame) → CopiedOrEmpty (process u s .outcome)
-    → (passageOf (process u s .state) (made ++ cut (process u s .frames)) ≡ passed u cut (passageOf s made) (s .input))
-    × (process u s .state .input ≡ [])
-unfolding process finished passageOf passed
-process-passes u s made cut q =
-    let t : Taken = taken u s in
-    let c : Copies s t = taken-copies u s q in
-    let l : Leaves s (t .state) = taken-leaves u s in
-    let e : passageOf (t .state) made ≡ passageOf s made = λ i. record { settings = l .settings i; tail = l .tail i; at = l .at i; made = made } in
-    (ap (λ (x : Passage). passed u cut x (t .frames)) e ∙ ap (λ (x : List Frame). passed u cut (passageOf s made) x) (c .frames), c .input)
+process-passes : (s : State) (made : List Frame) (cut : List Frame → List Frame) → CopiedOrEmpty (process s .outcome)
+    → (passageOf (process s .state) (made ++ cut (process s .frames)) ≡ passed cut (passageOf s made) (s .input))
+    × (process s .state .input ≡ [])
+unfolding process finished bare passed
+process-passes s made cut q =
+    let t : Taken = taken s in
+    let c : Copies s t = taken-copies s q in
+    let same : passageOf (t .state) made ≡ passageOf s made = ap (λ (x : State). record { state = x; made = made }) (taken-leaves s .rest) in
+    (ap (λ (x : Passage). passed cut x (t .frames)) same ∙ ap (passed cut (passageOf s made)) (c .frames), c .input)
 
 -- ---- calls of a ledger
 
--- nothing held, and a short tail
-pub record Calm (l : Ledger) : Type 0 where
+-- of this rate and channels, with nothing held and a short tail
+pub record Calm (rate channels : ℕ) (l : Ledger) : Type 0 where
+  pub rate-is : l .state .rate ≡ rate
+  pub channels-is : l .state .channels ≡ channels
   pub input : l .state .input ≡ []
   pub short : Short (l .state .tail)
 
-abbrev pub QuietCall : Setup → Ledger → Call → Type 0
-QuietCall u l (setting v) = Unit {0}
-QuietCall u l (write samples) = CopiedOrEmpty (writeWork u samples (l .state) .outcome)
-QuietCall u l flush = CopiedOrEmpty (flushWork u (l .state) .outcome)
-QuietCall u l (read most) = Unit {0}
+abbrev pub QuietCall : Ledger → Call → Type 0
+QuietCall l (setting v) = Unit {0}
+QuietCall l (write samples) = CopiedOrEmpty (writeWork samples (l .state) .outcome)
+QuietCall l flush = CopiedOrEmpty (flushWork (l .state) .outcome)
+QuietCall l (read most) = Unit {0}
 
+-- after a setting
 unfoldable pub passedSetting : Setting → Passage → Passage
-passedSetting v q = record { settings = settingsWith v (q .settings); tail = q .tail; at = positionWith v (q .at); made = q .made }
-
-pub setting-passes : (u : Setup) (l : Ledger) (v : Setting) → Calm l
-    → (passageIn (entry u l (setting v)) ≡ passedSetting v (passageIn l)) × Calm (entry u l (setting v))
-unfolding entry withSetting passageOf passedSetting
-setting-passes u l v h = (refl, record { input = h .input; short = h .short })
+passedSetting v q = record { state = withSetting v (q .state); made = q .made }
 
 abbrev pub samplesIn : List (List Float) → List Frame
 samplesIn fs = map (map sampleIn) fs
 
-pub write-passes : (u : Setup) (l : Ledger) (samples : List Float) → Calm l → QuietCall u l (write samples)
-    → (passageIn (entry u l (write samples)) ≡ passed u all (passageIn l) (samplesIn (wholeFrames (u .channels) samples)))
-    × Calm (entry u l (write samples))
-unfolding entry writeWork joined passageOf
-write-passes u l samples h q =
-    let fs : List Frame = samplesIn (wholeFrames (u .channels) samples) in
-    let s : State = joined u fs (l .state) in
-    let m : Made = process u s in
-    let p = process-passes u s (l .made) all q in
-    let e : passageOf (m .state) (l .made ++ m .frames) ≡ passed u all (passageIn l) fs =
-    p .0 ∙ ap (λ (i : List Frame). passed u all (passageIn l) (i ++ fs)) (h .input) in
-    let short : Short (m .state .tail) = subst Short (sym (ap (λ (c : Passage). c .tail) e)) (passed-short u all (passageIn l) fs (h .short)) in
-    (e, record { input = p .1; short = short })
+abbrev silence : State → List Frame
+silence s = replicate (2 * maxRequired (s .rate)) (replicate (s .channels) (pos 0))
 
-abbrev silence : Setup → List Frame
-silence u = replicate (2 * maxRequired (u .rate)) (replicate (u .channels) (pos 0))
+-- after a flush
+unfoldable pub passedFlush : Passage → Passage
+passedFlush q =
+    let p : Passage = passed (take (expected (q .state))) q (silence (q .state)) in
+    record { state = cleared (p .state); made = p .made }
 
--- e, when nothing is held
-abbrev expectedOf : Passage → ℕ
-expectedOf q = expectedFrames 0 (length (q .tail)) (q .settings .speed) (q .settings .pitch)
+bare-setting : (v : Setting) (s : State) → bare (withSetting v s) ≡ withSetting v (bare s)
+unfolding bare withSetting
+bare-setting (Speed x) s = refl
+bare-setting (Pitch x) s = refl
+bare-setting (Volume x) s = refl
 
-unfoldable pub passedFlush : Setup → Passage → Passage
-passedFlush u q =
-    let p : Passage = passed u (take (expectedOf q)) q (silence u) in
-    record { settings = p .settings; tail = []; at = p .at; made = p .made }
+module _ {rate channels : ℕ} {l : Ledger} (h : Calm rate channels l) where
+  pub setting-passes : (v : Setting) → (passageIn (entry l (setting v)) ≡ passedSetting v (passageIn l)) × Calm rate channels (entry l (setting v))
+  unfolding entry passedSetting
+  setting-passes v = (
+    ap (λ (s : State). record { state = s; made = l .made }) (bare-setting v (l .state)),
+    setting-cases (λ (s : State). Calm rate channels (record { state = s; made = l .made; outcomes = l .outcomes })) (l .state)
+        (λ speed pitch volume at. record { rate-is = h .rate-is; channels-is = h .channels-is; input = h .input; short = h .short }) v,
+  )
 
-pub flush-passes : (u : Setup) (l : Ledger) → Calm l → QuietCall u l flush
-    → (passageIn (entry u l flush) ≡ passedFlush u (passageIn l)) × Calm (entry u l flush)
-unfolding entry flushWork joined cleared expected passageOf passedFlush
-flush-passes u l h q =
-    let s : State = joined u (silence u) (l .state) in
-    let m : Made = process u s in
-    let n : ℕ = expected (l .state) in
-    let found : n ≡ expectedOf (passageIn l) =
-    ap (λ (i : List Frame). expectedFrames (length i) (length (l .state .tail)) (l .state .settings .speed) (l .state .settings .pitch)) (h .input) in
-    let p = process-passes u s (l .made) (take n) q in
-    let e : passageOf (m .state) (l .made ++ take n (m .frames)) ≡ passed u (take (expectedOf (passageIn l))) (passageIn l) (silence u) =
-    p .0 ∙ ap (λ (i : List Frame). passed u (take n) (passageIn l) (i ++ silence u)) (h .input)
-    ∙ ap (λ (k : ℕ). passed u (take k) (passageIn l) (silence u)) found in
-    (ap (λ (x : Passage). record { settings = x .settings; tail = []; at = x .at; made = x .made }) e, record { input = refl; short = omega arith })
+  pub write-passes : (samples : List Float) → QuietCall l (write samples)
+      → (passageIn (entry l (write samples)) ≡ passed all (passageIn l) (samplesIn (wholeFrames channels samples)))
+      × Calm rate channels (entry l (write samples))
+  unfolding entry writeWork joined bare
+  write-passes samples q =
+      let new : ℕ → List Frame = λ k. samplesIn (wholeFrames k samples) in
+      let fs : List Frame = new (l .state .channels) in
+      let s : State = joined fs (l .state) in
+      let m : Made = process s in
+      let p = process-passes s (l .made) all q in
+      let e : passageOf (m .state) (l .made ++ m .frames) ≡ passed all (passageIn l) (new channels) =
+      p .0 ∙ ap (λ (i : List Frame). passed all (passageIn l) (i ++ fs)) (h .input)
+      ∙ ap (λ (k : ℕ). passed all (passageIn l) (new k)) (h .channels-is) in
+      let short : Short (m .state .tail) =
+      subst Short (sym (ap (λ (c : Passage). c .state .tail) e)) (passed-short (passageIn l) all (new channels) (h .short)) in
+      (e, record { rate-is = process-rate s ∙ h .rate-is; channels-is = process-channels s ∙ h .channels-is; input = p .1; short = short })
+
+  pub flush-passes : QuietCall l flush → (passageIn (entry l flush) ≡ passedFlush (passageIn l)) × Calm rate channels (entry l flush)
+  unfolding entry flushWork joined cleared expected bare passedFlush
+  flush-passes q =
+      let fs : List Frame = silence (l .state) in
+      let s : State = joined fs (l .state) in
+      let m : Made = process s in
+      let n : ℕ = expected (l .state) in
+      let found : n ≡ expected (bare (l .state)) =
+      ap (λ (i : List Frame). expectedFrames (length i) (length (l .state .tail)) (l .state .speed) (l .state .pitch)) (h .input) in
+      let p = process-passes s (l .made) (take n) q in
+      let e : passageOf (m .state) (l .made ++ take n (m .frames)) ≡ passed (take (expected (bare (l .state)))) (passageIn l) fs =
+      p .0 ∙ ap (λ (i : List Frame). passed (take n) (passageIn l) (i ++ fs)) (h .input)
+      ∙ ap (λ (k : ℕ). passed (take k) (passageIn l) fs) found in (
+        ap (λ (x : Passage). record { state = cleared (x .state); made = x .made }) e,
+        record { rate-is = process-rate s ∙ h .rate-is; channels-is = process-channels s ∙ h .channels-is; input = refl; short = omega arith },
+      )

@@ -5,58 +5,58 @@ use Prim.Native.Nat.{ℕ, zero, suc, _+_, _*_, _≤_}
 use native.Mathlib.Omega.{arith}
 use lib.Ieee.{Float}
 use lib.ListN.{length}
+use Rattle.frames.specs.Areas.{Areas}
 use Rattle.frames.specs.Framing.{Frame, framesOf}
 use Rattle.floats.specs.Write.{sampleOut}
+use Rattle.stream.specs.declared.SonicStream.{SonicStream}
+use Rattle.stream.specs.State.{State}
+use Rattle.stream.specs.Stream.{streamOf}
 use Rattle.process.specs.declared.Outcome.{Outcome}
-use Rattle.process.specs.State.{State, setupFor}
-use Rattle.process.specs.Kept.{keptOf}
-use Rattle.sonic.specs.declared.SonicStream.{SonicStream}
 use Rattle.sonic.specs.declared.Wrote.{Wrote}
-use Rattle.sonic.specs.Stream.{Areas, streamWith, streamOf}
 use Rattle.sonic.specs.Calls.{refusedCall, acceptedCall, callBy, CallEnsures}
 use Rattle.runs.specs.Ledger.{Call, Ledger, entry, posted}
 use Rattle.runs.specs.Run.{Moment, Lent, SameLengths, leave, afterCall, values, callAccepted}
 use Rattle.runs.proofs.KeptParts.{frames-shown, frames-kept, frames-left, length-left}
 
 -- the stream is that of the ledger's state, the kept parts are its input and tail, and what was given with what waits is what it made
-pub record Tracks (rate channels : ℕ) (m : Moment) (l : Ledger) : Type 0 where
+pub record Tracks (m : Moment) (l : Ledger) : Type 0 where
   pub waiting : ℕ
-  pub stream : m .stream ≡ streamOf (setupFor rate channels) (l .state) waiting
-  pub input : framesOf channels (length (l .state .input)) (m .input) ≡ l .state .input
-  pub input-length : length (m .input) ≡ length (l .state .input) * channels
-  pub tail : framesOf channels (length (l .state .tail)) (m .tail) ≡ l .state .tail
-  pub tail-length : length (m .tail) ≡ length (l .state .tail) * channels
-  pub output-length : length (m .output) ≡ waiting * channels
-  pub made : m .given ++ values (framesOf channels waiting (m .output)) ≡ values (l .made)
+  pub stream : m .stream ≡ streamOf (l .state) waiting
+  pub input : framesOf (l .state .channels) (length (l .state .input)) (m .input) ≡ l .state .input
+  pub input-length : length (m .input) ≡ length (l .state .input) * l .state .channels
+  pub tail : framesOf (l .state .channels) (length (l .state .tail)) (m .tail) ≡ l .state .tail
+  pub tail-length : length (m .tail) ≡ length (l .state .tail) * l .state .channels
+  pub output-length : length (m .output) ≡ waiting * l .state .channels
+  pub made : m .given ++ values (framesOf (l .state .channels) waiting (m .output)) ≡ values (l .made)
   pub outcomes : m .outcomes ≡ l .outcomes
 
--- the ledger's stream
-abbrev pub streamAt : (rate channels : ℕ) → Ledger → ℕ → SonicStream
-streamAt rate channels l waiting = streamOf (setupFor rate channels) (l .state) waiting
-
 -- an accepted call's entry in the ledger, and room for what it keeps
-pub record Accepts (rate channels : ℕ) (l : Ledger) (waiting : ℕ) (a : Areas) (c : Call) (o : Outcome) (t : State) (frames : List Frame) : Type 0 where
-  pub entered : entry (setupFor rate channels) l c ≡ record { state = t; made = l .made ++ frames; outcomes = l .outcomes ++ (o ∷ []) }
-  pub input-fits : length (t .input) * channels ≤ length (a .input)
-  pub tail-fits : length (t .tail) * channels ≤ length (a .stage)
-  pub output-fits : (waiting + length frames) * channels ≤ length (a .output)
-  pub waiting-fits : waiting * channels ≤ length (a .output)
+pub record Accepts (l : Ledger) (waiting : ℕ) (a : Areas) (c : Call) (o : Outcome) (t : State) (frames : List Frame) : Type 0 where
+  pub entered : entry l c ≡ record { state = t; made = l .made ++ frames; outcomes = l .outcomes ++ (o ∷ []) }
+  pub channels-is : t .channels ≡ l .state .channels
+  pub input-fits : length (t .input) * l .state .channels ≤ length (a .input)
+  pub tail-fits : length (t .tail) * l .state .channels ≤ length (a .stage)
+  pub output-fits : (waiting + length frames) * l .state .channels ≤ length (a .output)
+  pub waiting-fits : waiting * l .state .channels ≤ length (a .output)
 
-module _ (rate channels : ℕ) (m : Moment) (l : Ledger) (h : Tracks rate channels m l) where
+module _ {m : Moment} {l : Ledger} (h : Tracks m l) where
+  abbrev ch : ℕ
+  ch = l .state .channels
+
   abbrev s : SonicStream
-  s = streamAt rate channels l (h .waiting)
+  s = streamOf (l .state) (h .waiting)
 
   refused-tracks : (a b : Areas) (number : ℕ) → Lent m a → SameLengths a b
-      → CallEnsures channels (refusedCall number s a) (Wrote.Refused number s) b
-      → Tracks rate channels (afterCall m (Wrote.Refused number s) b) l
-  unfolding afterCall refusedCall streamOf streamWith keptOf
+      → CallEnsures ch (refusedCall number s a) (Wrote.Refused number s) b
+      → Tracks (afterCall m (Wrote.Refused number s) b) l
+  unfolding afterCall refusedCall streamOf
   refused-tracks a b number g same e =
-      let in-kept : leave (length (l .state .input) * channels) (b .input) (m .input) ≡ m .input =
-      frames-kept channels (length (l .state .input)) (m .input) (a .input) (b .input) (g .input) (same .input) (h .input-length) (e .input) in
-      let tail-kept : leave (length (l .state .tail) * channels) (b .stage) (m .tail) ≡ m .tail =
-      frames-kept channels (length (l .state .tail)) (m .tail) (a .stage) (b .stage) (g .stage) (same .stage) (h .tail-length) (e .tail) in
-      let out-kept : leave (h .waiting * channels) (b .output) (m .output) ≡ m .output =
-      frames-kept channels (h .waiting) (m .output) (a .output) (b .output) (g .output) (same .output) (h .output-length) (e .output) in
+      let in-kept : leave (length (l .state .input) * ch) (b .input) (m .input) ≡ m .input =
+      frames-kept ch (length (l .state .input)) (m .input) (a .input) (b .input) (g .input) (same .input) (h .input-length) (e .input) in
+      let tail-kept : leave (length (l .state .tail) * ch) (b .stage) (m .tail) ≡ m .tail =
+      frames-kept ch (length (l .state .tail)) (m .tail) (a .stage) (b .stage) (g .stage) (same .stage) (h .tail-length) (e .tail) in
+      let out-kept : leave (h .waiting * ch) (b .output) (m .output) ≡ m .output =
+      frames-kept ch (h .waiting) (m .output) (a .output) (b .output) (g .output) (same .output) (h .output-length) (e .output) in
       record {
         waiting = h .waiting;
         stream = refl;
@@ -74,30 +74,31 @@ module _ (rate channels : ℕ) (m : Moment) (l : Ledger) (h : Tracks rate channe
     waits = h .waiting + length frames
 
     abbrev done : Wrote
-    done = Wrote.Done o (streamOf (setupFor rate channels) t waits)
+    done = Wrote.Done o (streamOf t waits)
 
-    accepted-tracks : Lent m a → SameLengths a b → CallEnsures channels (acceptedCall s a o t frames) done b
-        → Accepts rate channels l (h .waiting) a c o t frames → Tracks rate channels (afterCall m done b) (entry (setupFor rate channels) l c)
-    unfolding afterCall acceptedCall streamOf streamWith keptOf
-    accepted-tracks g same e f =
-        let in-fits : length (t .input) * channels ≤ length (b .input) = omega (arith, f .input-fits, same .input) in
-        let tail-fits : length (t .tail) * channels ≤ length (b .stage) = omega (arith, f .tail-fits, same .stage) in
-        let out-fits : waits * channels ≤ length (b .output) = omega (arith, f .output-fits, same .output) in
-        let before : List Frame = framesOf channels (h .waiting) (m .output) in
-        let seen : framesOf channels (h .waiting) (a .output) ≡ before =
-        frames-shown channels (h .waiting) (m .output) (a .output) (g .output) (h .output-length) (f .waiting-fits) in
-        let now : framesOf channels waits (leave (waits * channels) (b .output) (m .output)) ≡ before ++ frames =
-        frames-left channels waits (m .output) (b .output) out-fits ∙ e .output ∙ ap (λ (r : List Frame). r ++ frames) seen in
-        let tracks : Tracks rate channels (afterCall m done b)
-        (record { state = t; made = l .made ++ frames; outcomes = l .outcomes ++ (o ∷ []) }) =
+    accepted-tracks : Lent m a → SameLengths a b → CallEnsures ch (acceptedCall s a o t frames) done b
+        → Accepts l (h .waiting) a c o t frames → Tracks (afterCall m done b) (entry l c)
+    unfolding afterCall acceptedCall streamOf
+    accepted-tracks g same ensured f =
+        let e : CallEnsures (t .channels) (acceptedCall s a o t frames) done b =
+        subst (λ (k : ℕ). CallEnsures k (acceptedCall s a o t frames) done b) (sym (f .channels-is)) ensured in
+        let in-fits : length (t .input) * t .channels ≤ length (b .input) = rw (f .channels-is) (omega (arith, f .input-fits, same .input)) in
+        let tail-fits : length (t .tail) * t .channels ≤ length (b .stage) = rw (f .channels-is) (omega (arith, f .tail-fits, same .stage)) in
+        let out-fits : waits * t .channels ≤ length (b .output) = rw (f .channels-is) (omega (arith, f .output-fits, same .output)) in
+        let before : List Frame = framesOf ch (h .waiting) (m .output) in
+        let seen : framesOf ch (h .waiting) (a .output) ≡ before =
+        frames-shown ch (h .waiting) (m .output) (a .output) (g .output) (h .output-length) (f .waiting-fits) in
+        let now : framesOf (t .channels) waits (leave (waits * t .channels) (b .output) (m .output)) ≡ before ++ frames =
+        frames-left (t .channels) waits (m .output) (b .output) out-fits ∙ e .output ∙ ap (λ (r : List Frame). r ++ frames) seen in
+        let tracks : Tracks (afterCall m done b) (record { state = t; made = l .made ++ frames; outcomes = l .outcomes ++ (o ∷ []) }) =
         record {
           waiting = waits;
           stream = refl;
-          input = frames-left channels (length (t .input)) (m .input) (b .input) in-fits ∙ e .input;
-          input-length = length-left channels (length (t .input)) (m .input) (b .input) in-fits;
-          tail = frames-left channels (length (t .tail)) (m .tail) (b .stage) tail-fits ∙ e .tail;
-          tail-length = length-left channels (length (t .tail)) (m .tail) (b .stage) tail-fits;
-          output-length = length-left channels waits (m .output) (b .output) out-fits;
+          input = frames-left (t .channels) (length (t .input)) (m .input) (b .input) in-fits ∙ e .input;
+          input-length = length-left (t .channels) (length (t .input)) (m .input) (b .input) in-fits;
+          tail = frames-left (t .channels) (length (t .tail)) (m .tail) (b .stage) tail-fits ∙ e .tail;
+          tail-length = length-left (t .channels) (length (t .tail)) (m .tail) (b .stage) tail-fits;
+          output-length = length-left (t .channels) waits (m .output) (b .output) out-fits;
           made =
               ap (λ (r : List Frame). m .given ++ values r) now
               ∙ ap (λ (r : List (List Float)). m .given ++ r) (map-append (map sampleOut) before frames)
@@ -107,23 +108,21 @@ module _ (rate channels : ℕ) (m : Moment) (l : Ledger) (h : Tracks rate channe
           outcomes = ap (λ (r : List Outcome). r ++ (o ∷ [])) (h .outcomes);
         }
         in
-        subst (λ (x : Ledger). Tracks rate channels (afterCall m done b) x) (sym (f .entered)) tracks
+        subst (λ (x : Ledger). Tracks (afterCall m done b) x) (sym (f .entered)) tracks
 
     -- by its answer
     abbrev AnswerTracks : Wrote → Type 0
-    AnswerTracks r = Tracks rate channels (afterCall m r b) (posted (setupFor rate channels) l (record { call = c; accepted = callAccepted r }))
+    AnswerTracks r = Tracks (afterCall m r b) (posted l (record { call = c; accepted = callAccepted r }))
 
     -- a write or a flush, by the number of its refusal
     pub call-tracks : (r : Wrote) (number : ℕ) → Lent m a → SameLengths a b
-        → CallEnsures channels (callBy number s a (acceptedCall s a o t frames)) r b
-        → (number ≡ 0 → Accepts rate channels l (h .waiting) a c o t frames)
+        → CallEnsures ch (callBy number s a (acceptedCall s a o t frames)) r b
+        → (number ≡ 0 → Accepts l (h .waiting) a c o t frames)
         → AnswerTracks r
-    unfolding posted acceptedCall refusedCall streamOf streamWith keptOf
+    unfolding posted acceptedCall refusedCall streamOf
     call-tracks r zero g same e f =
         let q : r ≡ done = e .answer in
-        subst AnswerTracks (sym q)
-        (accepted-tracks g same (subst (λ (y : Wrote). CallEnsures channels (acceptedCall s a o t frames) y b) q e) (f refl))
+        subst AnswerTracks (sym q) (accepted-tracks g same (subst (λ (y : Wrote). CallEnsures ch (acceptedCall s a o t frames) y b) q e) (f refl))
     call-tracks r (suc k) g same e f =
         let q : r ≡ Wrote.Refused (suc k) s = e .answer in
-        subst AnswerTracks (sym q)
-        (refused-tracks a b (suc k) g same (subst (λ (y : Wrote). CallEnsures channels (refusedCall (suc k) s a) y b) q e))
+        subst AnswerTracks (sym q) (refused-tracks a b (suc k) g same (subst (λ (y : Wrote). CallEnsures ch (refusedCall (suc k) s a) y b) q e))

@@ -1,4 +1,5 @@
--- Laws of one call's work: what copying or stretching leaves alone, and how long the input and the tail are after it. Assumes nothing.
+-- Laws of one call's work: what a setting, copying or stretching leaves alone, and how long the input and the tail are after a write or a
+-- flush. Assumes nothing.
 use mathlib.Core.Path.{_≡_, refl, ap}
 use mathlib.Core.Bool.{Bool, true, false, cond}
 use mathlib.Core.List.{List, [], _∷_, _++_}
@@ -8,7 +9,7 @@ use native.Mathlib.Omega.{arith}
 use lib.Dec.{ltb, eqb}
 use lib.Ieee.{Float, eq}
 use lib.ListN.{length, length-append, length-drop}
-use Rattle.floats.specs.Numbers.{one}
+use Rattle.floats.specs.Numbers.{zero, one}
 use Rattle.floats.specs.Write.{speedChanges}
 use Rattle.frames.specs.Framing.{Frame, flat}
 use Rattle.rate.specs.declared.Rates.{Rates}
@@ -18,50 +19,63 @@ use Rattle.rate.specs.Tail.{consumable}
 use Rattle.rate.specs.Conversion.{Conversion, convert, joinTail, adjustRate}
 use Rattle.period.specs.Rates.{maxRequired}
 use Rattle.stretch.specs.declared.Stretch.{Stretch}
-use Rattle.stretch.specs.Speed.{stalled, answerFor}
-use Rattle.process.specs.declared.Setup.{Setup}
+use Rattle.stretch.specs.Speed.{answerFor}
+use Rattle.stream.specs.declared.Setting.{Setting}
+use Rattle.stream.specs.declared.Setting.the-variants.{Speed, Pitch, Volume}
+use Rattle.stream.specs.State.{State, withSettings, withInput}
+use Rattle.stream.specs.Settings.{withSetting}
 use Rattle.process.specs.declared.Outcome.the-variants.{Empty, Waiting}
-use Rattle.process.specs.State.{State, withInput}
-use Rattle.process.specs.Process.{Taken, removed, nothing, copied, callAt, placeOf, stepsAt, stretched, takenAt, speedAt, taken, finished, process}
+use Rattle.process.specs.Process.{Taken, removed, nothing, copied, callAt, placeOf, stepsAt, stepped, stretched, takenAt, speedAt, taken, finished, process}
 
 -- what holds of both holds of the one chosen
 pub cond-cases : {A : Type 0} (P : A → Type 0) (b : Bool) (x y : A) → (b ≡ true → P x) → (b ≡ false → P y) → P (cond b x y)
 cond-cases P true x y f g = f refl
 cond-cases P false x y f g = g refl
 
+-- ---- a setting
+
+-- what holds whatever settings and positions become
+pub setting-cases : (P : State → Type 0) (s : State) → ((speed pitch volume : Float) (at : Position) → P (withSettings s speed pitch volume at))
+    → (v : Setting) → P (withSetting v s)
+unfolding withSetting
+setting-cases P s f (Speed x) = f _ _ _ _
+setting-cases P s f (Pitch x) = f _ _ _ _
+setting-cases P s f (Volume x) = f _ _ _ _
+
 -- ---- copied or stretched frames
 
+-- all of a state but its input, period record, play time and time error
+unfoldable pub bare : State → State
+bare s = withInput s [] (record { period = 0; «min_diff» = 0 }) zero zero
+
 pub record Leaves (s t : State) : Type 0 where
-  pub settings : t .settings ≡ s .settings
-  pub tail : t .tail ≡ s .tail
-  pub at : t .at ≡ s .at
+  pub rest : bare t ≡ bare s
   pub input : length (t .input) ≤ length (s .input)
 
 same-leaves : (s : State) → Leaves s s
-same-leaves s = record { settings = refl; tail = refl; at = refl; input = le-refl (length (s .input)) }
+same-leaves s = record { rest = refl; input = le-refl (length (s .input)) }
 
 removed-leaves : (k : ℕ) (s t : State) → Leaves s t → Leaves s (removed k t)
-unfolding removed
-removed-leaves k s t l =
-    record { settings = l .settings; tail = l .tail; at = l .at; input = omega (arith, l .input, length-drop k (t .input)) }
+unfolding removed bare
+removed-leaves k s t l = record { rest = l .rest; input = omega (arith, l .input, length-drop k (t .input)) }
 
-stretched-leaves : (u : Setup) (x : Float) (s : State) → Leaves s (stretched u x s .state)
-unfolding stretched
-stretched-leaves u x s =
-    let a : Stretch = answerFor (callAt u x s) (flat (s .input)) (placeOf s) (stepsAt u x s) in
-    let t : State = withInput s (s .input) (a .prev) (s .play) (a .«time_error») in
-    let l : Leaves s t = record { settings = refl; tail = refl; at = refl; input = le-refl (length (s .input)) } in
-    cond-cases (Leaves s) (stalled (stepsAt u x s)) t (removed (a .used .0) t) (λ e. l) (λ e. removed-leaves (a .used .0) s t l)
+stepped-leaves : (a : Stretch) (s : State) → Leaves s (stepped a s)
+unfolding stepped bare
+stepped-leaves a s =
+    let t : State = withInput s (s .input) (a .prev) (s .«input_play_time») (a .«time_error») in
+    let l : Leaves s t = record { rest = refl; input = le-refl (length (s .input)) } in
+    cond-cases (Leaves s) (a .stalled) t (removed (a .used .0) t) (λ e. l) (λ e. removed-leaves (a .used .0) s t l)
 
-pub taken-leaves : (u : Setup) (s : State) → Leaves s (taken u s .state)
-unfolding taken takenAt nothing copied
-taken-leaves u s =
+pub taken-leaves : (s : State) → Leaves s (taken s .state)
+unfolding taken takenAt nothing copied stretched
+taken-leaves s =
     let P : Taken → Type 0 = λ t. Leaves s (t .state) in
-    let x : Float = speedAt u s in
-    cond-cases P (eqb (length (s .input)) 0) (nothing Empty s) (takenAt u x s) (λ e. same-leaves s)
-    (λ e. cond-cases P (speedChanges x) (cond (ltb (length (s .input)) (maxRequired (u .rate))) (nothing Waiting s) (stretched u x s)) (copied s)
-    (λ f. cond-cases P (ltb (length (s .input)) (maxRequired (u .rate))) (nothing Waiting s) (stretched u x s)
-    (λ g. same-leaves s) (λ g. stretched-leaves u x s))
+    let x : Float = speedAt s in
+    let few : Bool = ltb (length (s .input)) (maxRequired (s .rate)) in
+    cond-cases P (eqb (length (s .input)) 0) (nothing Empty s) (takenAt x s) (λ e. same-leaves s)
+    (λ e. cond-cases P (speedChanges x) (cond few (nothing Waiting s) (stretched x s)) (copied s)
+    (λ f. cond-cases P few (nothing Waiting s) (stretched x s) (λ g. same-leaves s)
+    (λ g. stepped-leaves (answerFor (callAt x s) (flat (s .input)) (placeOf s) (stepsAt x s)) s))
     (λ f. removed-leaves (length (s .input)) s s (same-leaves s)))
 
 -- ---- the tail after the rate
@@ -79,13 +93,22 @@ adjustRate-rest rate pitch at tail fs =
 
 -- ---- a call's whole work
 
-pub process-input : (u : Setup) (s : State) → length (process u s .state .input) ≤ length (s .input)
-unfolding process finished
-process-input u s = taken-leaves u s .input
+module _ (s : State) where
+  pub process-rate : process s .state .rate ≡ s .rate
+  unfolding process finished bare
+  process-rate = ap (λ (t : State). t .rate) (taken-leaves s .rest)
 
-pub process-tail : (u : Setup) (s : State) → length (process u s .state .tail) ≤ length (s .tail) + process u s .staged
-unfolding process finished
-process-tail u s =
-    let t : Taken = taken u s in
-    let e : t .state .tail ≡ s .tail = taken-leaves u s .tail in
-    omega (arith, ap length e, adjustRate-rest (u .rate) (t .state .settings .pitch) (t .state .at) (t .state .tail) (t .frames))
+  pub process-channels : process s .state .channels ≡ s .channels
+  unfolding process finished bare
+  process-channels = ap (λ (t : State). t .channels) (taken-leaves s .rest)
+
+  pub process-input : length (process s .state .input) ≤ length (s .input)
+  unfolding process finished
+  process-input = taken-leaves s .input
+
+  pub process-tail : length (process s .state .tail) ≤ length (s .tail) + process s .staged
+  unfolding process finished bare
+  process-tail =
+      let t : Taken = taken s in
+      let e : t .state .tail ≡ s .tail = ap (λ (x : State). x .tail) (taken-leaves s .rest) in
+      omega (arith, ap length e, adjustRate-rest (t .state .rate) (t .state .pitch) (t .state .at) (t .state .tail) (t .frames))
