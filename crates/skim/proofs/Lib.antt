@@ -1,4 +1,1 @@
 mod Settling
-mod Starting
-mod StreamAfter
-mod Turning

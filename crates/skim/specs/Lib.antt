@@ -1,3 +1,3 @@
 pub mod Arguments
+pub mod Report
 pub mod Settings
-pub mod Stretching

@@ -1,12 +1,11 @@
-// skim: changes speed, pitch and volume of 16-bit little-endian PCM, from standard input to standard output. A thin program over `sonic` and
-// `reels`: `arguments` reads what is asked for, `reels` finds the room for it, reads blocks and writes out what the stream makes, and
-// `stretching` writes the blocks to the stream and flushes it. `report` tells what became of the frames; `usage` tells of the arguments.
+// skim: changes speed, pitch and volume of 16-bit little-endian PCM, from standard input to standard output. A thin program over `sonic`,
+// `reels` and `skimming`: `arguments` reads what is asked for, `reels` finds the room for it, and `skimming` does it. `report` tells what
+// became of the frames; `usage` tells of the arguments.
 //
 // A Rattle program has no exit status. The last line on standard error ends in the one it would have, and with `--status` it is written to
 // descriptor 3 too, from which tools/skim.sh takes it.
 mod arguments;
 mod report;
-mod stretching;
 mod usage;
 
 use arguments::Asked;
@@ -62,7 +61,7 @@ fn run(job: Job) -> u64 {
                     usage::bad_usage()
                 }
                 Room::Planned(plan) => {
-                    let reel = stretching::stretch(Reel::new(stream), plan);
+                    let reel = skimming::skim(Reel::new(stream), plan);
                     report::run(reel, plan.rate)
                 }
             }

@@ -4,7 +4,7 @@ use reels::reel::Reel;
 use reels::say;
 ghost use mathlib.Core.Path.{_≡_};
 ghost use Prim.Native.Nat.{_≤_};
-ghost use Rattle.skim.specs.Stretching.{statusOf};
+ghost use Rattle.skim.specs.Report.{statusOf};
 
 // A refusal's number, and what it means.
 pub(crate) fn refused(number: u32) {

@@ -4,9 +4,9 @@ use mathlib.Core.Path.{sym, subst, _∙_}
 use Rattle.sonic.proofs.InOrder.{opened-of}
 use Rattle.sonic.proofs.Stays.{open-in-order}
 use Rattle.reels.specs.Areas.{Usable}
-use Rattle.skim.specs.Stretching.{ReelReady}
+use Rattle.skimming.specs.Skimming.{ReelReady}
 use Rattle.reels.proofs.Plans.{usable-of}
-use Rattle.skim.proofs.Starting.{ready-of}
+use Rattle.skimming.proofs.Starting.{ready-of}
 use Rattle.skim.proofs.run.Statement.{statement}
 use Rattle.skim.proofs.run.Tie as tie
 
@@ -56,8 +56,8 @@ enum-known-plan c = search needs
 new-requires-2 : tie.Need-new-requires-2
 new-requires-2 c κs = search needs
 
-stretch-requires : tie.Need-stretch-requires
-stretch-requires c κs =
+skim-requires : tie.Need-skim-requires
+skim-requires c κs =
     let k = c .before .before in
     let v = k .before .before in
     let s = v .before .settle .result in
@@ -94,7 +94,7 @@ run-spec =
     bad-usage-requires-2
     enum-known-plan
     new-requires-2
-    stretch-requires
+    skim-requires
     run-requires
     returns
     returns-2

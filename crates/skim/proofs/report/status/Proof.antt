@@ -5,7 +5,7 @@ use mathlib.Core.Logic.{⊎-elim}
 use mathlib.Core.Path.{_≡_}
 use native.Mathlib.Omega.{arith}
 use lib.Dec.{eqb}
-use Rattle.skim.specs.Stretching.{statusOf}
+use Rattle.skim.specs.Report.{statusOf}
 use Rattle.skim.proofs.report.status.Statement.{statement}
 use Rattle.skim.proofs.report.status.Tie as tie
 

@@ -19,8 +19,8 @@ use Rattle.reels.specs.declared.areas.Plan.{Plan}
 use Rattle.reels.specs.declared.reading.Read.{Read}
 use Rattle.reels.specs.declared.reel.Reel.{Reel}
 use Rattle.reels.specs.Reels.{going, SameInput, Answered, WrittenOut, Drained, BlockRead}
-use Rattle.skim.specs.Stretching.{flushes, PartWritten, BlockWritten}
-use Rattle.skim.specs.Stretching.{Turned, Flushed, ReelReady, Complete}
+use Rattle.skimming.specs.Skimming.{flushes, PartWritten, BlockWritten}
+use Rattle.skimming.specs.Skimming.{Turned, Flushed, ReelReady, Complete}
 use Rattle.reels.proofs.Blocks.{counted, full-whole}
 use Rattle.reels.proofs.Going.{failed-once, going-parts, going-of, same-input, input-trans, out-still}
 

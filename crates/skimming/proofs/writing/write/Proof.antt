@@ -1,10 +1,10 @@
--- `skim::stretching::write` meets its contract. Assumes nothing.
+-- `skimming::writing::write` meets its contract. Assumes nothing.
 use borrow.Author.Needs.{needs}
 use mathlib.Core.Path.{subst}
 use Rattle.sonic.specs.declared.Wrote.{Wrote}
 use Rattle.reels.specs.Reels.{Answered}
-use Rattle.skim.proofs.stretching.write.Statement.{statement}
-use Rattle.skim.proofs.stretching.write.Tie as tie
+use Rattle.skimming.proofs.writing.write.Statement.{statement}
+use Rattle.skimming.proofs.writing.write.Tie as tie
 
 write-f32-requires : tie.Need-write-f32-requires
 write-f32-requires c κs = search needs

@@ -1,10 +1,10 @@
 -- What a whole run promises: no frame is lost unseen. In this order:
---   flushes, statusOf                  what a run is asked; the status
+--   flushes                            what a run is asked
 --   PartWritten, BlockWritten          after some writes of a block, after all of them
 --   Turned, Flushed, ReelReady, Complete   after a block read and written; after the flush; before and after a whole run
 -- Definitions only. Assumes nothing.
 use mathlib.Core.Path.{_≡_}
-use mathlib.Core.Bool.{Bool, true, false, not, cond, _&&_, _||_}
+use mathlib.Core.Bool.{Bool, true, false, not, _&&_}
 use Prim.Native.Nat.{ℕ, _+_, _%_, _^_}
 use lib.Dec.{eqb}
 use Rattle.sonic.specs.declared.Wrote.{Wrote}
@@ -15,10 +15,6 @@ use Rattle.reels.specs.Reels.{going, SameInput, Answered}
 -- frames were written, and nothing has stopped the stretching
 abbrev pub flushes : Reel → Bool
 flushes r = going r && not (eqb (r .written) 0)
-
--- the status: 0 fine; 1 a partial frame, a failed read or write, a refusal, or a stall before the flush
-unfoldable pub statusOf : Reel → ℕ
-statusOf r = cond (eqb (r .partial) 0 && (not (r .failed) && (eqb (r .refusal) 0 && (not (r .stalled) || r .flushed)))) 0 1
 
 -- ---- the writes of a block
 

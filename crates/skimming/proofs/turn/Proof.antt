@@ -1,15 +1,15 @@
--- `skim::stretching::turn` meets its contract. Assumes nothing.
+-- `skimming::turn` meets its contract. Assumes nothing.
 use borrow.Author.Needs.{needs}
 use mathlib.Core.Path.{ap, subst, _∙_}
 use Prim.Native.Nat.{ℕ, _/_, _%_}
 use native.Mathlib.Omega.{arith}
 use lib.ListN.{length-take}
 use Rattle.sonic.specs.declared.SonicStream.{SonicStream}
-use Rattle.skim.specs.Stretching.{BlockWritten}
+use Rattle.skimming.specs.Skimming.{BlockWritten}
 use Rattle.reels.proofs.Blocks.{front-length}
-use Rattle.skim.proofs.Turning.{samples-whole, turned}
-use Rattle.skim.proofs.stretching.turn.Statement.{statement}
-use Rattle.skim.proofs.stretching.turn.Tie as tie
+use Rattle.skimming.proofs.Turning.{samples-whole, turned}
+use Rattle.skimming.proofs.turn.Statement.{statement}
+use Rattle.skimming.proofs.turn.Tie as tie
 
 read-block-requires : tie.Need-read-block-requires
 read-block-requires c κs = search needs

@@ -1,12 +1,12 @@
--- `skim::stretching::write_end` meets its contract. Assumes nothing.
+-- `skimming::writing::write_end` meets its contract. Assumes nothing.
 use borrow.Author.Needs.{needs}
 use mathlib.Core.Logic.{⊎-elim}
 use Prim.Native.Nat.{_*_, _≤_}
 use native.Mathlib.Nat.{mul-le-mul}
 use native.Mathlib.Omega.{arith}
 use Rattle.reels.proofs.Blocks.{whole-ends}
-use Rattle.skim.proofs.stretching.write_end.Statement.{statement}
-use Rattle.skim.proofs.stretching.write_end.Tie as tie
+use Rattle.skimming.proofs.writing.write_end.Statement.{statement}
+use Rattle.skimming.proofs.writing.write_end.Tie as tie
 
 sub-frames : tie.Need-sub-frames
 sub-frames c = search needs

@@ -9,7 +9,7 @@ use Rattle.reels.specs.declared.areas.Plan.{Plan}
 use Rattle.reels.specs.declared.areas.Room.{Room}
 use Rattle.reels.specs.Areas.{served, planOf, serviceOf}
 use Rattle.reels.specs.Reels.{freshReel}
-use Rattle.skim.specs.Stretching.{ReelReady}
+use Rattle.skimming.specs.Skimming.{ReelReady}
 
 module _ (s : SonicStream) where
   fresh-ready : ReelReady (planOf s) (freshReel s)

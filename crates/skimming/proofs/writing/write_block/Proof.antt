@@ -1,4 +1,4 @@
--- `skim::stretching::write_block` meets its contract and ends: each write takes a sample or more of the block. Assumes nothing.
+-- `skimming::writing::write_block` meets its contract and ends: each write takes a sample or more of the block. Assumes nothing.
 use borrow.Author.Needs.{needs}
 use mathlib.Core.Path.{_≡_, refl, sym, ap, _∙_}
 use mathlib.Core.Bool.{true}
@@ -9,13 +9,13 @@ use native.Mathlib.Omega.{arith}
 use lib.ListN.{length}
 use Rattle.sonic.specs.declared.SonicStream.{SonicStream}
 use Rattle.reels.specs.Reels.{going}
-use Rattle.skim.specs.Stretching.{PartWritten}
+use Rattle.skimming.specs.Skimming.{PartWritten}
 use Rattle.reels.proofs.Blocks.{few-least, write-frames, write-whole}
 use Rattle.reels.proofs.Going.{failed-once}
-use Rattle.skim.proofs.StreamAfter.{write-channels}
-use Rattle.skim.proofs.Turning.{part-start, part-more, part-end}
-use Rattle.skim.proofs.stretching.write_block.Statement.{statement}
-use Rattle.skim.proofs.stretching.write_block.Tie as tie
+use Rattle.skimming.proofs.StreamAfter.{write-channels}
+use Rattle.skimming.proofs.Turning.{part-start, part-more, part-end}
+use Rattle.skimming.proofs.writing.write_block.Statement.{statement}
+use Rattle.skimming.proofs.writing.write_block.Tie as tie
 
 abbrev Inv-loop : tie.InvT-loop
 Inv-loop reel₀ block input₀ stage₀ output₀ scratch₀ values₀ bytes₀ channels full few at₀ reel input stage output scratch values bytes at =

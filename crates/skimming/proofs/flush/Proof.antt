@@ -1,4 +1,4 @@
--- `skim::stretching::flush` meets its contract. Assumes nothing.
+-- `skimming::flush` meets its contract. Assumes nothing.
 use borrow.Author.Needs.{needs}
 use mathlib.Core.Path.{_≡_, refl, sym, subst, _∙_}
 use mathlib.Core.Bool.{true, false, not}
@@ -7,9 +7,9 @@ use lib.Dec.{eqb}
 use Rattle.sonic.specs.declared.Wrote.{Wrote}
 use Rattle.reels.specs.Reels.{going, Answered}
 use Rattle.reels.proofs.Going.{failed-once}
-use Rattle.skim.proofs.Turning.{first-true, flush-none, flush-due}
-use Rattle.skim.proofs.stretching.flush.Statement.{statement}
-use Rattle.skim.proofs.stretching.flush.Tie as tie
+use Rattle.skimming.proofs.Turning.{first-true, flush-none, flush-due}
+use Rattle.skimming.proofs.flush.Statement.{statement}
+use Rattle.skimming.proofs.flush.Tie as tie
 
 returns : tie.Need-returns
 returns c =

@@ -1,0 +1,3 @@
+pub mod Starting
+mod StreamAfter
+mod Turning

@@ -1,0 +1,136 @@
+// A whole reel through the stream: blocks are read and written to it, and it is flushed at the end. After a stall or a refusal the input is
+// only counted. `writing` writes a block. `specs/Skimming.antt` says what is promised.
+mod writing;
+
+use reels::areas;
+use reels::areas::BLOCK;
+use reels::areas::BYTES;
+use reels::areas::Plan;
+use reels::reading::read_block;
+use reels::reel::Reel;
+use writing::write_block;
+ghost use mathlib.Core.Path.{_≡_};
+ghost use Prim.Native.Nat.{_%_};
+ghost use lib.ListN.{length};
+ghost use Rattle.sonic.specs.Stream.{areas};
+ghost use Rattle.sonic.specs.Calls.{flushCall};
+ghost use Rattle.reels.specs.Areas.{Usable};
+ghost use Rattle.skimming.specs.Skimming.{Turned, Flushed, ReelReady, Complete};
+
+// Reads a block, writes it to the stream, and writes out what that makes.
+fn turn(
+    reel: Reel,
+    plan: Plan,
+    input: &mut [i16],
+    stage: &mut [i16],
+    output: &mut [i16],
+    scratch: &mut [i16],
+    block: &mut [f32],
+    values: &mut [f32],
+    bytes: &mut [u8],
+) -> Reel
+    requires { ⌜ Usable plan × (reel .stream .channels ≡ plan .channels) × (plan .block % plan .channels ≡ 0) × (reel .partial ≡ 0) ⌝ }
+    requires { ⌜ (4096 ≡ length (now block)) × (4096 ≡ length (now values)) × (8192 ≡ length (now bytes)) ⌝ }
+    ensures { λ r. ⌜ Turned reel r ⌝ }
+{
+    let read = read_block(reel, plan, block, bytes);
+    let samples = read.samples;
+    write_block(
+        read.reel,
+        &block[..samples],
+        plan,
+        input,
+        stage,
+        output,
+        scratch,
+        values,
+        bytes,
+    )
+}
+
+// Flushes the stream, if anything was written to it and nothing has stopped it.
+fn flush(
+    mut reel: Reel,
+    input: &mut [i16],
+    stage: &mut [i16],
+    output: &mut [i16],
+    scratch: &mut [i16],
+) -> Reel
+    ensures { λ r. ⌜ Flushed
+        (flushCall (reel .stream) (areas (now (input .entry)) (now (stage .entry)) (now (output .entry)) (now (scratch .entry))) .answer) reel r ⌝ }
+{
+    if reel.written == 0 {
+        return reel;
+    }
+    if !reel.is_going() {
+        return reel;
+    }
+    let answer = reel.stream.flush(input, stage, output, scratch);
+    reel = reel.answered(answer);
+    reel.flushed = true;
+    reel
+}
+
+// Does a job in areas that are lent. A proved loop has to end, and nothing says that the input does: a run that uses up its turns, which
+// none does, has failed.
+fn run(
+    mut reel: Reel,
+    plan: Plan,
+    input: &mut [i16],
+    stage: &mut [i16],
+    output: &mut [i16],
+    scratch: &mut [i16],
+    block: &mut [f32],
+    values: &mut [f32],
+    bytes: &mut [u8],
+) -> Reel
+    requires { ⌜ Usable plan × ReelReady plan reel ⌝ }
+    requires { ⌜ (4096 ≡ length (now block)) × (4096 ≡ length (now values)) × (8192 ≡ length (now bytes)) ⌝ }
+    ensures { λ r. ⌜ Complete r ⌝ }
+{
+    let mut turns = u64::MAX;
+    while turns > 0 && !reel.ended && !reel.failed {
+        reel = turn(
+            reel,
+            plan,
+            input,
+            stage,
+            output,
+            scratch,
+            block,
+            values,
+            bytes,
+        );
+        turns -= 1;
+    }
+    if !reel.ended {
+        reel.failed = true;
+    }
+    reel = flush(reel, input, stage, output, scratch);
+    reel.drain(1, output, values, bytes)
+}
+
+// Does a job.
+pub fn skim(reel: Reel, plan: Plan) -> Reel
+    requires { ⌜ Usable plan × ReelReady plan reel ⌝ }
+    ensures { λ r. ⌜ Complete r ⌝ }
+{
+    let mut input = [0i16; areas::INPUT];
+    let mut stage = [0i16; areas::STAGE];
+    let mut output = [0i16; areas::OUTPUT];
+    let mut scratch = [0i16; areas::SCRATCH];
+    let mut block = [0f32; BLOCK];
+    let mut values = [0f32; BLOCK];
+    let mut bytes = [0u8; BYTES];
+    run(
+        reel,
+        plan,
+        &mut input,
+        &mut stage,
+        &mut output,
+        &mut scratch,
+        &mut block,
+        &mut values,
+        &mut bytes,
+    )
+}

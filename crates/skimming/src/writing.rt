@@ -1,0 +1,82 @@
+// A block is written to the stream, in writes that fill its input as far as the plan says.
+use reels::areas::BLOCK;
+use reels::areas::Plan;
+use reels::reel::Reel;
+ghost use mathlib.Core.Path.{_≡_};
+ghost use Prim.Native.Nat.{_+_, _*_, _/_, _%_, _^_, _≤_, _<_};
+ghost use lib.ListN.{length};
+ghost use Rattle.sonic.specs.Stream.{areas};
+ghost use Rattle.sonic.specs.Calls.{writeCall};
+ghost use Rattle.reels.specs.Areas.{Usable};
+ghost use Rattle.reels.specs.Reels.{Answered};
+ghost use Rattle.skimming.specs.Skimming.{BlockWritten};
+
+// Where a write that begins at `at` ends: it fills the input up to `full` frames, or takes all that is left.
+fn write_end(at: usize, len: usize, held: usize, full: usize, channels: usize) -> usize
+    requires { ⌜ (at < len) × (full ≤ 196608) × (1 ≤ channels) × (channels ≤ 32) × (at % channels ≡ 0) × (len % channels ≡ 0) ⌝ }
+    ensures { λ r. ⌜ (at < r) × (r ≤ len) × (r % channels ≡ 0) ⌝ }
+{
+    let frames = if held < full { full - held } else { 1 };
+    let size = frames * channels;
+    if size < len - at { at + size } else { len }
+}
+
+// One write.
+fn write(
+    reel: Reel,
+    samples: &[f32],
+    channels: usize,
+    input: &mut [i16],
+    stage: &mut [i16],
+    output: &mut [i16],
+    scratch: &mut [i16],
+) -> Reel
+    requires { ⌜ (1 ≤ channels) × (reel .stream .channels ≡ channels) × (length (now samples) % channels ≡ 0) ⌝ }
+    ensures { λ r. ⌜ Answered ((reel .written + length (now (samples .entry)) / channels) % 2 ^ 64) (reel .flushed) reel
+        (writeCall (reel .stream) (now (samples .entry))
+        (areas (now (input .entry)) (now (stage .entry)) (now (output .entry)) (now (scratch .entry))) .answer) r ⌝ }
+{
+    let answer = reel.stream
+        .write_f32(samples, input, stage, output, scratch);
+    let n = samples.len() / channels;
+    let mut after = reel.answered(answer);
+    after.written = std::num::wrapping_add_u64(reel.written, n as u64);
+    after
+}
+
+// Writes a block to the stream, and writes out what that makes. Between its writes fewer frames wait than a block holds.
+pub(crate) fn write_block(
+    mut reel: Reel,
+    block: &[f32],
+    plan: Plan,
+    input: &mut [i16],
+    stage: &mut [i16],
+    output: &mut [i16],
+    scratch: &mut [i16],
+    values: &mut [f32],
+    bytes: &mut [u8],
+) -> Reel
+    requires { ⌜ Usable plan × (reel .stream .channels ≡ plan .channels) × (length (now block) % plan .channels ≡ 0) ⌝ }
+    requires { ⌜ (32 ≤ length (now values)) × (2 * length (now values) ≤ length (now bytes)) ⌝ }
+    ensures { λ r. ⌜ BlockWritten (length (now (block .entry)) / plan .channels) reel r ⌝ }
+{
+    let channels = plan.channels;
+    let full = plan.full;
+    let few = BLOCK / channels;
+    let mut at: usize = 0;
+    while at < block.len() && reel.is_going() {
+        let end = write_end(at, block.len(), reel.stream.held.0, full, channels);
+        reel = write(
+            reel,
+            &block[at..end],
+            channels,
+            input,
+            stage,
+            output,
+            scratch,
+        );
+        reel = reel.drain(few, output, values, bytes);
+        at = end;
+    }
+    reel.drain(1, output, values, bytes)
+}
