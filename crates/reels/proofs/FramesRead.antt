@@ -3,7 +3,7 @@
 --   Same, same-of     a refused read: the stream is as it was
 -- Assumes nothing.
 use mathlib.Core.Path.{_≡_, refl}
-use mathlib.Core.Bool.{Bool, true, false, not, cond}
+use mathlib.Core.Bool.{true}
 use mathlib.Core.List.{List}
 use Prim.Native.Nat.{ℕ, zero, suc, _-_, _*_, _/_, _≤_, _<_, min}
 use native.Mathlib.Nat.{le-trans, mul-le-mul-right, div-mul-le-self, min-le-left, min-le-right, le-div-iff-mul-le, le-min}
@@ -13,12 +13,13 @@ use lib.Ieee.{Float}
 use lib.ListN.{length}
 use Rattle.frames.specs.declared.Frames.{Frames}
 use Rattle.frames.specs.Framing.{framesOf}
-use Rattle.sonic.specs.declared.SonicStream.{SonicStream}
+use Rattle.stream.specs.declared.SonicStream.{SonicStream}
+use Rattle.stream.specs.Stream.{stateOf, streamOf, unlent}
+use Rattle.stream.specs.Refusals.{inOrder, readRefusal}
+use Rattle.stream.proofs.InOrder.{limits-of}
 use Rattle.sonic.specs.declared.Gave.{Gave}
-use Rattle.sonic.specs.Stream.{keptIn, keeping, streamWith}
-use Rattle.sonic.specs.Refusals.{inOrder, outputBad, readRefusal}
-use Rattle.sonic.specs.Reading.{readCount, fewer, readBy, readCall}
-use Rattle.sonic.proofs.InOrder.{opened-of}
+use Rattle.sonic.specs.Reading.{readCount, readBy, readCall}
+use Rattle.sonic.proofs.Room.{read-ordered}
 
 -- n frames were given, and the stream t is left
 pub record Given (s : SonicStream) (slice : List Float) (n : Frames) (t : SonicStream) : Type 0 where
@@ -51,22 +52,14 @@ module _ (s : SonicStream) (slice : List Float) (output : List ℤ) where
   count-some : inOrder s ≡ true → 32 ≤ length slice → 0 < s .waiting .0 → 0 < count
   unfolding readCount
   count-some o l w =
-      let c = opened-of s o in
+      let c = limits-of s o in
       let room : 1 ≤ length slice / s .channels =
       le-div-iff-mul-le {k = s .channels} {x = 1} {y = length slice} (omega (arith, c .channels-low)) .1 (omega (arith, c .channels-high)) in
       let some : 1 ≤ min (s .waiting .0) 4096 = le-min {k = 1} w (omega arith) in
       le-min {k = 1} some room
 
-  order-of : readRefusal s output ≡ 0 → inOrder s ≡ true
-  unfolding readRefusal
-  order-of = go (inOrder s) refl
-    where
-      go : (b : Bool) → inOrder s ≡ b → _≡_ {A = ℕ} (cond (not b) 3 (cond (outputBad s output) 4 0)) 0 → inOrder s ≡ true
-      go true e h = e
-      go false e h = absurd (omega arith)
-
-  given : inOrder s ≡ true → Given s slice (record { 0 = count }) (keeping s (fewer count (keptIn s)))
-  unfolding keeping streamWith fewer keptIn
+  given : inOrder s ≡ true → Given s slice (record { 0 = count }) (streamOf (unlent s) (s .waiting .0 - count))
+  unfolding streamOf stateOf
   given o = record { fits = count-few; waited = count-waited; some = count-some o; left = refl; channels-kept = refl }
 
   abbrev by : ℕ → Gave
@@ -79,8 +72,8 @@ module _ (s : SonicStream) (slice : List Float) (output : List ℤ) where
       go : (k : ℕ) → readRefusal s output ≡ k → Gave.Done n t ≡ by k → Given s slice n t
       go zero z e =
           let same : n ≡ record { 0 = count } = cc in
-          let left : t ≡ keeping s (fewer count (keptIn s)) = cc in
-          rw (same, left) (given (order-of z))
+          let left : t ≡ streamOf (unlent s) (s .waiting .0 - count) = cc in
+          rw (same, left) (given (read-ordered s output z))
       go (suc k) z e = let z : _≡_ {A = ℕ} 0 1 = cc in absurd (omega arith)
 
   pub same-of : (number : ℕ) (t : SonicStream) → Gave.Refused number t ≡ readCall s 4096 slice output .answer → Same s number t

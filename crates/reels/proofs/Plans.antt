@@ -14,7 +14,7 @@ use lib.Dec.{leb}
 use lib.Ieee.{Float, binary32, mul, div, toUnsigned}
 use Rattle.floats.specs.Numbers.{two}
 use Rattle.period.specs.Rates.{minPeriod, maxPeriod, maxRequired, InLimits}
-use Rattle.sonic.specs.declared.SonicStream.{SonicStream}
+use Rattle.stream.specs.declared.SonicStream.{SonicStream}
 use Rattle.reels.specs.declared.areas.Plan.{Plan}
 use Rattle.reels.specs.declared.areas.Room.{Room}
 use Rattle.reels.specs.Areas.{growthOf, fillTo, heldMost, stagedMost, madeMost, served, planOf, serviceOf, Usable}

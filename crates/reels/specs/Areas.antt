@@ -6,7 +6,7 @@ use lib.Ieee.{Float, binary32, mul, div, toUnsigned}
 use Rattle.floats.specs.Numbers.{two}
 use Rattle.period.specs.Rates.{minPeriod, maxPeriod, maxRequired}
 use Rattle.rate.specs.Halving.{ratesOf}
-use Rattle.sonic.specs.declared.SonicStream.{SonicStream}
+use Rattle.stream.specs.declared.SonicStream.{SonicStream}
 use Rattle.reels.specs.declared.areas.Plan.{Plan}
 use Rattle.reels.specs.declared.areas.Room.{Room}
 

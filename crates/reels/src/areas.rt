@@ -1,10 +1,10 @@
 // The areas' sizes, and the jobs that they serve: those of which no call wants more room. Why none does is argued here and not proved, so
 // a refusal is told all the same.
-use sonic::SonicStream;
+use stream::SonicStream;
 ghost use mathlib.Core.Path.{_≡_};
 ghost use mathlib.Core.Bool.{true};
 ghost use Prim.Native.Nat.{_≤_, min};
-ghost use Rattle.sonic.specs.Refusals.{inOrder};
+ghost use Rattle.stream.specs.Refusals.{inOrder};
 ghost use Rattle.reels.specs.Areas.{growthOf, fillTo, serviceOf};
 
 // The samples of each area. They serve 16,000 Hz in one channel at every speed and pitch, and 44,100 Hz in two at every speed.

@@ -4,8 +4,8 @@ use frames::Frames;
 use libc::STDOUT_FILENO;
 use sonic::Gave;
 use sonic::Outcome;
-use sonic::SonicStream;
 use sonic::Wrote;
+use stream::SonicStream;
 ghost use mathlib.Core.Path.{_≡_};
 ghost use Prim.Native.Nat.{_-_, _*_, _≤_};
 ghost use lib.ListN.{length};
@@ -122,7 +122,7 @@ impl Reel {
         ensures { λ r. ⌜ FewerWait (readCall (self .stream) 4096 (now (values .entry)) (now (output .entry)) .answer) self r ⌝ }
     {
         let channels = self.stream.channels as usize;
-        match self.stream.read_f32(Frames(BLOCK), values, output) {
+        match sonic::read_f32(self.stream, Frames(BLOCK), values, output) {
             Gave::Refused(number, stream) => {
                 self.stream = stream;
                 self.refusal = number;

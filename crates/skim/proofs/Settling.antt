@@ -1,13 +1,13 @@
 -- A setting of a stream in order is accepted, changes it as the definition says and leaves it in order. Assumes nothing.
-use mathlib.Core.Path.{_≡_, sym, subst}
+use mathlib.Core.Path.{_≡_, sym}
 use mathlib.Core.Bool.{true, false, true≢false}
 use Prim.Native.Nat.{ℕ}
-use Rattle.sonic.specs.declared.SonicStream.{SonicStream}
-use Rattle.sonic.specs.declared.Setting.{Setting}
-use Rattle.sonic.specs.declared.Changed.{Changed}
-use Rattle.sonic.specs.Refusals.{inOrder}
-use Rattle.sonic.specs.Calls.{setCall}
-use Rattle.sonic.proofs.Stays.{set-in-order}
+use Rattle.stream.specs.declared.SonicStream.{SonicStream}
+use Rattle.stream.specs.declared.Setting.{Setting}
+use Rattle.stream.specs.declared.Changed.{Changed}
+use Rattle.stream.specs.Refusals.{inOrder}
+use Rattle.stream.specs.Settings.{setCall}
+use Rattle.stream.proofs.Stays.{set-in-order}
 use Rattle.skim.specs.Settings.{withOne}
 
 module _ (s : SonicStream) (v : Setting) (o : inOrder s ≡ true) where
@@ -25,4 +25,4 @@ module _ (s : SonicStream) (v : Setting) (o : inOrder s ≡ true) where
   stays-set t e =
       let done = set-done in
       let same : withOne s v ≡ t = cc in
-      (subst (λ (r : SonicStream). inOrder r ≡ true) same (set-in-order s v o), sym same)
+      (set-in-order s v t e, sym same)

@@ -2,7 +2,7 @@
 use mathlib.Core.Path.{_≡_}
 use mathlib.Core.Bool.{cond}
 use Rattle.floats.specs.Settings.{minPitch, maxPitch, minVolume, maxVolume}
-use Rattle.sonic.specs.Refusals.{rateBad, channelsBad, within}
+use Rattle.stream.specs.Refusals.{rateBad, channelsBad, within}
 use Rattle.skim.specs.declared.arguments.Job.{Job}
 use Rattle.skim.specs.declared.arguments.Asked.{Asked}
 

@@ -1,10 +1,10 @@
 // The arguments: none, `--help`, or rate, channels, speed, pitch and, if wanted, volume; `--status` may stand before them.
 use decimal::Digits;
 use decimal::Value;
-use sonic::SonicStream;
+use stream::SonicStream;
 ghost use mathlib.Core.Path.{_≡_};
 ghost use Prim.Native.Nat.{_≤_};
-ghost use Rattle.sonic.specs.Refusals.{within};
+ghost use Rattle.stream.specs.Refusals.{within};
 ghost use Rattle.skim.specs.Arguments.{askedOf, Accepted};
 
 // What a run is to do.

@@ -13,13 +13,13 @@ use arguments::Job;
 use reels::areas;
 use reels::areas::Room;
 use reels::reel::Reel;
-use sonic::Changed;
-use sonic::Opened;
-use sonic::Setting;
-use sonic::SonicStream;
+use stream::Changed;
+use stream::Opened;
+use stream::Setting;
+use stream::SonicStream;
 ghost use mathlib.Core.Path.{_≡_};
 ghost use mathlib.Core.Bool.{true};
-ghost use Rattle.sonic.specs.Refusals.{inOrder};
+ghost use Rattle.stream.specs.Refusals.{inOrder};
 ghost use Rattle.skim.specs.Settings.{withOne, settled};
 
 // Where the status goes if it is asked for.
@@ -49,7 +49,11 @@ fn settle(fresh: SonicStream, job: Job) -> SonicStream
 // Does a job and tells of it. Answers the status.
 fn run(job: Job) -> u64 {
     match SonicStream::new(job.rate, job.channels) {
-        Opened::Refused(number, _, _) => {
+        Opened::Refused {
+            number,
+            given: _,
+            stream: _,
+        } => {
             report::refused(number);
             usage::bad_usage()
         }

@@ -4,7 +4,7 @@ use mathlib.Core.Bool.{Bool, true, false, cond}
 use Prim.Native.Nat.{ℕ, _/_}
 use native.Mathlib.Nat.{mul-mod-left}
 use native.Mathlib.Omega.{arith}
-use Rattle.sonic.specs.declared.SonicStream.{SonicStream}
+use Rattle.stream.specs.declared.SonicStream.{SonicStream}
 use Rattle.reels.specs.declared.areas.Plan.{Plan}
 use Rattle.reels.specs.declared.areas.Room.{Room}
 use Rattle.reels.specs.Areas.{served, planOf, serviceOf}

@@ -4,24 +4,28 @@ use mathlib.Core.List.{List}
 use Prim.Native.Nat.{ℕ, zero, suc}
 use lib.Ieee.{Float}
 use lib.ListN.{length}
+use Rattle.frames.specs.Areas.{Areas}
 use Rattle.frames.specs.Framing.{Frame}
+use Rattle.stream.specs.declared.SonicStream.{SonicStream}
+use Rattle.stream.specs.State.{State}
+use Rattle.stream.specs.Stream.{stateOf, streamOf}
+use Rattle.stream.specs.Refusals.{refusal}
 use Rattle.process.specs.declared.Outcome.{Outcome}
-use Rattle.process.specs.State.{State}
 use Rattle.process.specs.Process.{Made, wholeFrames, writeWork}
-use Rattle.sonic.specs.declared.SonicStream.{SonicStream}
-use Rattle.sonic.specs.Stream.{Areas, setupOf, stateIn, streamOf, streamWith}
-use Rattle.sonic.specs.Refusals.{refusal}
+use Rattle.process.proofs.Taken.{write-settings}
 use Rattle.sonic.specs.Calls.{refusedCall, acceptedCall, callBy, writeCall, streamAfter}
 
 module _ (s : SonicStream) (a : Areas) where
-  channels-by : (k : ℕ) (outcome : Outcome) (t : State) (frames : List Frame)
+  channels-by : (k : ℕ) (outcome : Outcome) (t : State) (frames : List Frame) → t .channels ≡ s .channels
       → streamAfter (callBy k s a (acceptedCall s a outcome t frames) .answer) .channels ≡ s .channels
-  unfolding refusedCall acceptedCall streamOf streamWith
-  channels-by zero outcome t frames = refl
-  channels-by (suc k) outcome t frames = refl
+  unfolding refusedCall acceptedCall streamOf
+  channels-by zero outcome t frames same = same
+  channels-by (suc k) outcome t frames same = refl
 
   pub write-channels : (samples : List Float) → streamAfter (writeCall s samples a .answer) .channels ≡ s .channels
-  unfolding writeCall
+  unfolding writeCall stateOf
   write-channels samples =
-      let m : Made = writeWork (setupOf s) samples (stateIn s a) in
+      let entering : State = stateOf s (a .input) (a .stage) in
+      let m : Made = writeWork samples entering in
       channels-by (refusal s a (length (wholeFrames (s .channels) samples)) (m .staged) (length (m .frames))) (m .outcome) (m .state) (m .frames)
+      (write-settings samples entering .channels)

@@ -13,7 +13,7 @@ use native.Mathlib.Nat.{mod-eq-of-lt, mul-mod-left, mul-div-cancel}
 use native.Mathlib.Omega.{arith}
 use borrow.Author.Tests.{ltb-false, ne-eqb}
 use lib.Dec.{eqb}
-use Rattle.sonic.specs.declared.SonicStream.{SonicStream}
+use Rattle.stream.specs.declared.SonicStream.{SonicStream}
 use Rattle.sonic.specs.declared.Wrote.{Wrote}
 use Rattle.reels.specs.declared.areas.Plan.{Plan}
 use Rattle.reels.specs.declared.reading.Read.{Read}

@@ -12,7 +12,7 @@ use writing::write_block;
 ghost use mathlib.Core.Path.{_≡_};
 ghost use Prim.Native.Nat.{_%_};
 ghost use lib.ListN.{length};
-ghost use Rattle.sonic.specs.Stream.{areas};
+ghost use Rattle.frames.specs.Areas.{areas};
 ghost use Rattle.sonic.specs.Calls.{flushCall};
 ghost use Rattle.reels.specs.Areas.{Usable};
 ghost use Rattle.skimming.specs.Skimming.{Turned, Flushed, ReelReady, Complete};
@@ -65,7 +65,7 @@ fn flush(
     if !reel.is_going() {
         return reel;
     }
-    let answer = reel.stream.flush(input, stage, output, scratch);
+    let answer = sonic::flush(reel.stream, input, stage, output, scratch);
     reel = reel.answered(answer);
     reel.flushed = true;
     reel

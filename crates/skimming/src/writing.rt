@@ -5,7 +5,7 @@ use reels::reel::Reel;
 ghost use mathlib.Core.Path.{_≡_};
 ghost use Prim.Native.Nat.{_+_, _*_, _/_, _%_, _^_, _≤_, _<_};
 ghost use lib.ListN.{length};
-ghost use Rattle.sonic.specs.Stream.{areas};
+ghost use Rattle.frames.specs.Areas.{areas};
 ghost use Rattle.sonic.specs.Calls.{writeCall};
 ghost use Rattle.reels.specs.Areas.{Usable};
 ghost use Rattle.reels.specs.Reels.{Answered};
@@ -36,8 +36,7 @@ fn write(
         (writeCall (reel .stream) (now (samples .entry))
         (areas (now (input .entry)) (now (stage .entry)) (now (output .entry)) (now (scratch .entry))) .answer) r ⌝ }
 {
-    let answer = reel.stream
-        .write_f32(samples, input, stage, output, scratch);
+    let answer = sonic::write_f32(reel.stream, samples, input, stage, output, scratch);
     let n = samples.len() / channels;
     let mut after = reel.answered(answer);
     after.written = std::num::wrapping_add_u64(reel.written, n as u64);

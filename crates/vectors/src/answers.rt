@@ -4,7 +4,7 @@ use crate::sums::bits;
 use frames::Frames;
 use libc::STDOUT_FILENO;
 use sonic::Outcome;
-use sonic::SonicStream;
+use stream::SonicStream;
 
 // Prints bytes as they are.
 pub(crate) fn print(text: &[u8]) {

@@ -9,13 +9,13 @@ use crate::signal::Signal;
 use crate::signal::fill;
 use crate::sums::slice_sum;
 use frames::Frames;
-use sonic::Available;
-use sonic::Changed;
 use sonic::Gave;
-use sonic::Opened;
-use sonic::Setting;
-use sonic::SonicStream;
 use sonic::Wrote;
+use stream::Available;
+use stream::Changed;
+use stream::Opened;
+use stream::Setting;
+use stream::SonicStream;
 
 // What the places of a read's slice hold before it.
 const UNREAD: f32 = 0.5;
@@ -23,7 +23,11 @@ const UNREAD: f32 = 0.5;
 // The stream before the first opening: that of a refused one.
 pub(crate) fn unopened() -> SonicStream {
     match SonicStream::new(0, 0) {
-        Opened::Refused(_, _, stream) => stream,
+        Opened::Refused {
+            number: _,
+            given: _,
+            stream,
+        } => stream,
         Opened::Done(stream) => stream,
     }
 }
@@ -31,7 +35,11 @@ pub(crate) fn unopened() -> SonicStream {
 // Opens a stream. A refusal carries the number given.
 pub(crate) fn open(rate: u32, channels: u32) -> SonicStream {
     match SonicStream::new(rate, channels) {
-        Opened::Refused(number, given, stream) => {
+        Opened::Refused {
+            number,
+            given,
+            stream,
+        } => {
             print_refused(number);
             print_count(given as u64);
             stream
@@ -93,7 +101,8 @@ fn write(
     let b = of_area(lent.stage, stage);
     let c = of_area(lent.output, output);
     let d = of_area(lent.scratch, scratch);
-    let answer = stream.write_f32(
+    let answer = sonic::write_f32(
+        stream,
         samples,
         &mut input[..a],
         &mut stage[..b],
@@ -131,7 +140,8 @@ pub(crate) fn flush(
     let b = of_area(lent.stage, stage);
     let c = of_area(lent.output, output);
     let d = of_area(lent.scratch, scratch);
-    let answer = stream.flush(
+    let answer = sonic::flush(
+        stream,
         &mut input[..a],
         &mut stage[..b],
         &mut output[..c],
@@ -173,7 +183,7 @@ pub(crate) fn read(
 ) -> SonicStream {
     clear(slice);
     let c = of_area(lent.output, output);
-    let answer = stream.read_f32(Frames(most), slice, &mut output[..c]);
+    let answer = sonic::read_f32(stream, Frames(most), slice, &mut output[..c]);
     let after = gave(answer);
     print_word(slice_sum(slice));
     after

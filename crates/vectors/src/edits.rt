@@ -1,7 +1,7 @@
 // Streams that no call hands back: one field set to a value.
 use crate::sums::float;
 use crate::sums::word;
-use sonic::SonicStream;
+use stream::SonicStream;
 
 // A stream with a field of opening or setting set: its place in the struct, and its number or bits.
 fn with_setting(mut stream: SonicStream, field: u64, value: u64) -> SonicStream {

@@ -16,8 +16,8 @@ use crate::sums::float;
 use crate::sums::word;
 use crate::text::Line;
 use crate::text::parse;
-use sonic::Setting;
-use sonic::SonicStream;
+use stream::Setting;
+use stream::SonicStream;
 
 // What the lines before have left.
 struct Session {

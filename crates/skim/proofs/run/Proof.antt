@@ -1,8 +1,8 @@
 -- `skim::run` is safe: a stream that was opened stays in order, and its plan is usable. Assumes nothing.
 use borrow.Author.Needs.{needs}
 use mathlib.Core.Path.{sym, subst, _∙_}
-use Rattle.sonic.proofs.InOrder.{opened-of}
-use Rattle.sonic.proofs.Stays.{open-in-order}
+use Rattle.stream.proofs.InOrder.{limits-of}
+use Rattle.stream.proofs.Stays.{open-in-order}
 use Rattle.reels.specs.Areas.{Usable}
 use Rattle.skimming.specs.Skimming.{ReelReady}
 use Rattle.reels.proofs.Plans.{usable-of}
@@ -30,7 +30,7 @@ usable : (c : tie.After-plan) → Usable (c .plan .given .0 .0)
 usable c =
     let v = c .before .before in
     let s = v .before .settle in
-    usable-of (s .result) _ (opened-of (s .result) (s .ensures .0)) (sym (v .serve .ensures) ∙ c .plan .given .1)
+    usable-of (s .result) _ (limits-of (s .result) (s .ensures .0)) (sym (v .serve .ensures) ∙ c .plan .given .1)
 
 settle-requires : tie.Need-settle-requires
 settle-requires c κs =

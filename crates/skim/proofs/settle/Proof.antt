@@ -1,8 +1,8 @@
 -- `skim::settle` meets its contract: one setting after the other. Assumes nothing.
 use borrow.Author.Needs.{needs}
 use mathlib.Core.Path.{_≡_, ap, _∙_}
-use Rattle.sonic.specs.declared.Setting.the-variants.{Pitch, Volume}
-use Rattle.sonic.specs.declared.SonicStream.{SonicStream}
+use Rattle.stream.specs.declared.Setting.the-variants.{Pitch, Volume}
+use Rattle.stream.specs.declared.SonicStream.{SonicStream}
 use Rattle.skim.specs.Settings.{withOne}
 use Rattle.skim.proofs.settle.Statement.{statement}
 use Rattle.skim.proofs.settle.Tie as tie

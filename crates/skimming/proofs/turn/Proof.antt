@@ -4,7 +4,7 @@ use mathlib.Core.Path.{ap, subst, _∙_}
 use Prim.Native.Nat.{ℕ, _/_, _%_}
 use native.Mathlib.Omega.{arith}
 use lib.ListN.{length-take}
-use Rattle.sonic.specs.declared.SonicStream.{SonicStream}
+use Rattle.stream.specs.declared.SonicStream.{SonicStream}
 use Rattle.skimming.specs.Skimming.{BlockWritten}
 use Rattle.reels.proofs.Blocks.{front-length}
 use Rattle.skimming.proofs.Turning.{samples-whole, turned}

@@ -7,7 +7,7 @@ use native.Mathlib.Omega.{arith}
 use Rattle.floats.specs.Settings.{minPitch, maxPitch}
 use Rattle.period.specs.Rates.{InLimits}
 use Rattle.rate.proofs.Halving.{Within, rates-within}
-use Rattle.sonic.proofs.InOrder.{opened-of, tests-of, ranges-of, within-range}
+use Rattle.stream.proofs.InOrder.{limits-of, tests-of, ranges-of, within-range}
 use Rattle.reels.proofs.Plans.{period-most, shortest-least, growth-most, staged-most, scaled-most, samples-most, no-input, no-stage, no-output, planned}
 use Rattle.reels.proofs.areas.serve.Statement.{statement}
 use Rattle.reels.proofs.areas.serve.Tie as tie
@@ -20,7 +20,7 @@ cast-rate c = search needs
 
 -- rate and channels
 range : (c : tie.Start) → InLimits (c .args .stream .rate) (c .args .stream .channels)
-range c = opened-of (c .args .stream) (c .pre)
+range c = limits-of (c .args .stream) (c .pre)
 
 required : (c : tie.After-max-required) → c .max-required .result .0 ≤ 15384
 required c =

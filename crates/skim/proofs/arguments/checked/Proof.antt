@@ -4,7 +4,7 @@ use borrow.Author.Tests.{lt-ltb, le-ltb, not-true, not-false}
 use mathlib.Core.Bool.{false}
 use mathlib.Core.Logic.{⊎-elim}
 use mathlib.Core.Path.{_≡_, sym, _∙_}
-use Rattle.sonic.specs.Refusals.{rateBad, channelsBad}
+use Rattle.stream.specs.Refusals.{rateBad, channelsBad}
 use Rattle.skim.specs.Arguments.{askedOf}
 use Rattle.skim.proofs.arguments.checked.Statement.{statement}
 use Rattle.skim.proofs.arguments.checked.Tie as tie

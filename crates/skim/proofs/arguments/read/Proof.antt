@@ -3,7 +3,7 @@ use borrow.Author.Needs.{needs}
 use mathlib.Core.Path.{_≡_, refl}
 use mathlib.Core.Bool.{Bool, true, false, cond}
 use lib.Ieee.{ofBits, le, lt, eq}
-use Rattle.sonic.specs.Refusals.{rateBad, channelsBad, within}
+use Rattle.stream.specs.Refusals.{rateBad, channelsBad, within}
 use Rattle.floats.specs.Settings.{minPitch, maxPitch, minVolume, maxVolume}
 use Rattle.skim.specs.declared.arguments.Job.{Job}
 use Rattle.skim.specs.declared.arguments.Asked.{Asked}

@@ -2,7 +2,7 @@
 use borrow.Author.Needs.{needs}
 use mathlib.Core.Path.{_≡_, refl, sym, ap, _∙_}
 use native.Mathlib.Omega.{arith}
-use Rattle.sonic.specs.declared.SonicStream.{SonicStream}
+use Rattle.stream.specs.declared.SonicStream.{SonicStream}
 use Rattle.sonic.specs.declared.Gave.{Gave}
 use Rattle.sonic.specs.Reading.{readCall, streamAfterRead}
 use Rattle.reels.proofs.FramesRead.{Given, given-of, same-of}
