@@ -4,8 +4,8 @@ use frames::Frames;
 use frames::Samples;
 use libc::STDOUT_FILENO;
 use period::PeriodRecord;
-use stretch::Call;
 use stretch::Stretch;
+use stretch::StretchCall;
 use stretch::Stretched;
 
 const RATE: u32 = 8000;
@@ -47,15 +47,15 @@ fn print_step(label: &[u8], speed: f32) {
     let mut scratch = [0i16; REQUIRED];
     let rate = RATE as usize;
     let sample_period = floats::settings::sample_period(RATE);
-    let call = Call {
+    let call = StretchCall {
         channels: 1,
         rate,
         sample_period,
         speed,
-        play_time: 1.0,
+        input_play_time: 1.0,
         held: Frames(REQUIRED),
     };
-    let record = PeriodRecord {
+    let prev = PeriodRecord {
         period: 0,
         min_diff: 0,
     };
@@ -64,7 +64,7 @@ fn print_step(label: &[u8], speed: f32) {
         &input,
         call,
         0.0,
-        record,
+        prev,
         &mut stage,
         Samples(0),
         Frames(REQUIRED),

@@ -8,7 +8,7 @@ use native.Mathlib.Omega.{arith}
 use borrow.Author.Tests.{ltb-true, eqb-true}
 use lib.Dec.{ltb, eqb}
 use lib.IntN.{ℤ}
-use Rattle.period.specs.Rates.{minPeriod, maxPeriod, maxRequired, amdfFreq, skip, Opened}
+use Rattle.period.specs.Rates.{minPeriod, maxPeriod, maxRequired, amdfFreq, skip, InLimits}
 use Rattle.period.specs.Search.{Searchable}
 use Rattle.period.specs.Averages.{Averageable}
 use Rattle.period.specs.Pitch.{valuesOf, coarse, fine, found, InRange}
@@ -26,7 +26,7 @@ skip-cases true R e l h =
     record { some = omega arith; few = omega arith; lowest = omega arith }
 skip-cases false R e l h = record { some = omega arith; few = omega arith; lowest = omega arith }
 
-pub skip-in : {R channels s : ℕ} → Opened R channels → s ≡ skip R → Skip R s
+pub skip-in : {R channels s : ℕ} → InLimits R channels → s ≡ skip R → Skip R s
 unfolding skip
 skip-in {R} o e = rw e (skip-cases (ltb amdfFreq R) R refl (o .rate-low) (o .rate-high))
 
@@ -38,7 +38,7 @@ div-twice : (a s : ℕ) → 1 ≤ s → 2 * (a / s) ≤ 2 * a / s
 div-twice a s h = le-div-iff-mul-le h .1 (omega (arith, div-mul-le-self a s))
 
 -- ---- what the searches are handed, in the code's numbers: s is the skip, low and high the range, n the frames required
-module _ {R channels s low high n : ℕ} (o : Opened R channels) (s-is : s ≡ skip R) (low-is : low ≡ minPeriod R) (high-is : high ≡ maxPeriod R)
+module _ {R channels s low high n : ℕ} (o : InLimits R channels) (s-is : s ≡ skip R) (low-is : low ≡ minPeriod R) (high-is : high ≡ maxPeriod R)
     (n-is : n ≡ maxRequired R) where
   pub coarse-searchable : Searchable (n / s) (low / s) (high / s)
   coarse-searchable =
@@ -51,7 +51,7 @@ module _ {R channels s low high n : ℕ} (o : Opened R channels) (s-is : s ≡ s
         enough = div-twice (maxPeriod R) (skip R) (k .some);
       })
 
-module _ {R channels given room : ℕ} (o : Opened R channels) (enough : maxRequired R * channels ≤ given) (fits : maxRequired R ≤ room) where
+module _ {R channels given room : ℕ} (o : InLimits R channels) (enough : maxRequired R * channels ≤ given) (fits : maxRequired R ≤ room) where
   pub coarse-averageable : {s n per : ℕ} → s ≡ skip R → n ≡ maxRequired R → per ≡ s * channels → Averageable given room (n / s) per
   coarse-averageable s-is n-is per-is =
       let k = skip-in o refl in
@@ -70,13 +70,13 @@ module _ {R channels given room : ℕ} (o : Opened R channels) (enough : maxRequ
       rw (per-is, n-is) (record { some = omega (arith, o .channels-low); few = omega (arith, o .channels-high); enough = omega (arith, enough); fits = fits })
 
 -- near is a period of the range, or at most a skip shorter
-pub fine-searchable : {R channels near low high n : ℕ} → Opened R channels → near ≤ maxPeriod R → minPeriod R < near + skip R
+pub fine-searchable : {R channels near low high n : ℕ} → InLimits R channels → near ≤ maxPeriod R → minPeriod R < near + skip R
     → low ≡ max (near - 4 * skip R) (minPeriod R) → high ≡ min (near + 4 * skip R) (maxPeriod R) → n ≡ maxRequired R → Searchable n low high
 fine-searchable o near-high near-low low-is high-is n-is =
     record { some = omega (arith, o .rate-low); order = omega arith; short = omega (arith, o .rate-high); enough = omega arith }
 
 -- ---- the period found lies in the range
-module _ (x : List ℤ) {R channels : ℕ} (o : Opened R channels) where
+module _ (x : List ℤ) {R channels : ℕ} (o : InLimits R channels) where
   coarse-in : (minPeriod R / skip R ≤ coarse x channels R .period) × (coarse x channels R .period ≤ maxPeriod R / skip R)
   unfolding coarse
   coarse-in =

@@ -9,7 +9,7 @@ use lib.Dec.{eqb}
 use lib.IntN.{ℤ}
 use Rattle.period.specs.declared.Found.{Found}
 use Rattle.period.specs.declared.PeriodRecord.{PeriodRecord}
-use Rattle.period.specs.Rates.{Opened}
+use Rattle.period.specs.Rates.{InLimits}
 use Rattle.period.specs.Pitch.{found, prevPeriodBetter, chosen, findPitchPeriod, InRange, PeriodIn}
 use Rattle.period.proofs.Ranges.{found-in}
 
@@ -31,11 +31,11 @@ used-cases : {R : ℕ} (t : Bool) (prev : PeriodRecord) (f : Found) → PeriodIn
 used-cases true prev f p i e = prev-in prev f p e
 used-cases false prev f p i e = i
 
-module _ (x : List ℤ) {R channels : ℕ} (prev : PeriodRecord) (o : Opened R channels) (p : PeriodIn R prev) where
+module _ (x : List ℤ) {R channels : ℕ} (prev : PeriodRecord) (o : InLimits R channels) (p : PeriodIn R prev) where
   pub findPitchPeriod-in : InRange R (findPitchPeriod x channels R prev .period .0)
   unfolding findPitchPeriod chosen
   findPitchPeriod-in = used-cases (prevPeriodBetter prev (found x channels R)) prev (found x channels R) p (found-in x o) refl
 
-  pub findPitchPeriod-record-in : PeriodIn R (findPitchPeriod x channels R prev .«record»)
+  pub findPitchPeriod-record-in : PeriodIn R (findPitchPeriod x channels R prev .prev)
   unfolding findPitchPeriod chosen
   findPitchPeriod-record-in = inr (found-in x o)

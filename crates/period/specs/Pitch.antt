@@ -43,7 +43,7 @@ unfoldable pub chosen : PeriodRecord → Found → Chosen
 chosen prev f =
     record {
       period = record { 0 = cond (prevPeriodBetter prev f) (prev .period) (f .period) };
-      «record» = record { period = f .period; «min_diff» = f .«min_diff» };
+      prev = record { period = f .period; «min_diff» = f .«min_diff» };
     }
 
 unfoldable pub findPitchPeriod : List ℤ → ℕ → ℕ → PeriodRecord → Chosen
@@ -59,6 +59,6 @@ abbrev pub PeriodIn : ℕ → PeriodRecord → Type 0
 PeriodIn R prev = (prev .period ≡ 0) ⊎ InRange R (prev .period)
 
 -- the record is in order: its period, and a mean of 16-bit differences
-pub record InOrder (R : ℕ) (prev : PeriodRecord) : Type 0 where
+pub record PrevInOrder (R : ℕ) (prev : PeriodRecord) : Type 0 where
   pub period-in : PeriodIn R prev
   pub min-diff-in : prev .«min_diff» ≤ widestGap

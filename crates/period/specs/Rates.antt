@@ -30,7 +30,7 @@ unfoldable pub skip : ℕ → ℕ
 skip R = cond (ltb amdfFreq R) (R / amdfFreq) 1
 
 -- refusals 1 and 2 are not met
-pub record Opened (R channels : ℕ) : Type 0 where
+pub record InLimits (R channels : ℕ) : Type 0 where
   pub rate-low : 1000 ≤ R
   pub rate-high : R ≤ 500000
   pub channels-low : 1 ≤ channels

@@ -29,5 +29,5 @@ pub struct PeriodRecord {
 // The period that a step uses, and the record after its search.
 pub struct Chosen {
     pub period: Frames,
-    pub record: PeriodRecord,
+    pub prev: PeriodRecord,
 }

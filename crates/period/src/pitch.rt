@@ -8,10 +8,10 @@ use frames::Samples;
 ghost use mathlib.Core.Path.{_≡_};
 ghost use Prim.Native.Nat.{_+_, _-_, _*_, _^_, _≤_, _<_, min, max};
 ghost use lib.ListN.{length};
-ghost use Rattle.period.specs.Rates.{minPeriod, maxPeriod, maxRequired, skip, Opened};
+ghost use Rattle.period.specs.Rates.{minPeriod, maxPeriod, maxRequired, skip, InLimits};
 ghost use Rattle.period.specs.Search.{findPitchPeriodInRange, widestGap, Searchable};
 ghost use Rattle.period.specs.Averages.{Averageable};
-ghost use Rattle.period.specs.Pitch.{valuesOf, coarse, fine, found, prevPeriodBetter, findPitchPeriod, InRange, InOrder};
+ghost use Rattle.period.specs.Pitch.{valuesOf, coarse, fine, found, prevPeriodBetter, findPitchPeriod, InRange, PrevInOrder};
 
 // value − by, but at least `least`.
 fn lowered(value: usize, by: usize, least: usize) -> usize
@@ -58,7 +58,7 @@ fn search_values(
 
 // The first search, over averages of `skip` frames each.
 fn coarse_search(samples: &[i16], channels: usize, rate: usize, scratch: &mut [i16]) -> Found
-    requires { ⌜ Opened rate channels ⌝ }
+    requires { ⌜ InLimits rate channels ⌝ }
     requires { ⌜ (maxRequired rate * channels ≤ length (now samples)) × (maxRequired rate ≤ length (now scratch)) ⌝ }
     ensures { λ r. ⌜ (r ≡ coarse (now (samples .entry)) channels rate) × (r .«min_diff» ≤ widestGap) ⌝ }
 {
@@ -86,7 +86,7 @@ fn fine_search(
     near: usize,
     scratch: &mut [i16],
 ) -> Found
-    requires { ⌜ Opened rate channels ⌝ }
+    requires { ⌜ InLimits rate channels ⌝ }
     requires { ⌜ (near ≤ maxPeriod rate) × (minPeriod rate < near + skip rate) ⌝ }
     requires { ⌜ (maxRequired rate * channels ≤ length (now samples)) × (maxRequired rate ≤ length (now scratch)) ⌝ }
     ensures { λ r. ⌜ (r ≡ fine (now (samples .entry)) channels rate near) × (r .«min_diff» ≤ widestGap) ⌝ }
@@ -102,7 +102,7 @@ fn fine_search(
 
 // The search's answer at the start of the samples: that of the first search, or with a skip above 1 that of the second.
 fn found_at(samples: &[i16], channels: usize, rate: usize, scratch: &mut [i16]) -> Found
-    requires { ⌜ Opened rate channels ⌝ }
+    requires { ⌜ InLimits rate channels ⌝ }
     requires { ⌜ (maxRequired rate * channels ≤ length (now samples)) × (maxRequired rate ≤ length (now scratch)) ⌝ }
     ensures { λ r. ⌜ (r ≡ found (now (samples .entry)) channels rate) × (r .«min_diff» ≤ widestGap) ⌝ }
 {
@@ -139,10 +139,10 @@ pub fn find_pitch_period(
     prev: PeriodRecord,
     scratch: &mut [i16],
 ) -> Chosen
-    requires { ⌜ Opened rate channels ⌝ }
-    requires { ⌜ InOrder rate prev ⌝ }
+    requires { ⌜ InLimits rate channels ⌝ }
+    requires { ⌜ PrevInOrder rate prev ⌝ }
     requires { ⌜ (maxRequired rate * channels ≤ length (now samples)) × (maxRequired rate ≤ length (now scratch)) ⌝ }
-    ensures { λ r. ⌜ (r ≡ findPitchPeriod (now (samples .entry)) channels rate prev) × InRange rate (r .period .0) × InOrder rate (r .«record») ⌝ }
+    ensures { λ r. ⌜ (r ≡ findPitchPeriod (now (samples .entry)) channels rate prev) × InRange rate (r .period .0) × PrevInOrder rate (r .prev) ⌝ }
 {
     let found = found_at(samples, channels, rate, scratch);
     let mut used = found.period;
@@ -151,7 +151,7 @@ pub fn find_pitch_period(
     }
     Chosen {
         period: Frames(used),
-        record: PeriodRecord {
+        prev: PeriodRecord {
             period: found.period,
             min_diff: found.min_diff,
         },

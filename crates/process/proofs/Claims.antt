@@ -11,10 +11,10 @@ use Rattle.frames.specs.Framing.{flat}
 use Rattle.floats.specs.Numbers.{count}
 use Rattle.floats.specs.Settings.{samplePeriod}
 use Rattle.floats.specs.Write.{localSpeed, speedChanges}
-use Rattle.period.specs.Rates.{Opened, maxRequired}
+use Rattle.period.specs.Rates.{InLimits, maxRequired}
 use Rattle.period.specs.Pitch.{PeriodIn}
 use Rattle.stretch.specs.declared.Step.{Step}
-use Rattle.stretch.specs.Steps.{framesOut, Ready}
+use Rattle.stretch.specs.Steps.{framesOut, StretchReady}
 use Rattle.stretch.specs.Speed as Speed
 use Rattle.stretch.proofs.Claims as Stretch
 use Rattle.process.specs.declared.Setup.{Setup}
@@ -25,7 +25,7 @@ use Rattle.process.specs.Process.{Taken, nothing, copied, stretched, tak
 
 -- what the claim asks of a state: an opened setup, few frames, a period record in the range
 pub record Held (u : Setup) (s : State) : Type 0 where
-  pub opened : Opened (u .rate) (u .channels)
+  pub opened : InLimits (u .rate) (u .channels)
   pub period-is : u .«sample_period» ≡ samplePeriod (u .rate)
   pub few : length (s .input) ≤ 2 ^ 24
   pub found : PeriodIn (u .rate) (s .found)
@@ -56,7 +56,7 @@ module _ (u : Setup) (s : State) (h : Held u s) where
   abbrev x : Float
   x = speedAt u s
 
-  ready : Ready (callAt u x s)
+  ready : StretchReady (callAt u x s)
   unfolding localSpeed
   ready = record {
     opened = h .opened;

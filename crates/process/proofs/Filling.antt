@@ -13,7 +13,7 @@ use Rattle.frames.proofs.Framing.{length-framesOf}
 use Rattle.frames.proofs.Behind.{behind-none, behind-paste}
 use Rattle.floats.specs.Write.{localSpeed, speedChanges}
 use Rattle.period.specs.Rates.{maxRequired}
-use Rattle.period.specs.Pitch.{InOrder}
+use Rattle.period.specs.Pitch.{PrevInOrder}
 use Rattle.process.specs.declared.Setup.{Setup}
 use Rattle.process.specs.declared.Kept.{Kept}
 use Rattle.process.specs.declared.Outcome.{Outcome}
@@ -35,11 +35,11 @@ module _ (u : Setup) (k : Kept) (input stage : List ℤ) where
 
   pub speed-same : speedAt u (stateOf (u .channels) k input stage) ≡ speedOf u k
   unfolding stateOf
-  speed-same = ap (λ (n : ℕ). localSpeed n (u .«sample_period») (k .«play_time»)) (length-framesOf (u .channels) (k .held .0) input)
+  speed-same = ap (λ (n : ℕ). localSpeed n (u .«sample_period») (k .«input_play_time»)) (length-framesOf (u .channels) (k .held .0) input)
 
   -- ---- no frames
 
-  module _ (fits : k .tail .0 * u .channels ≤ length stage) (found : InOrder (u .rate) (k .found)) where
+  module _ (fits : k .tail .0 * u .channels ≤ length stage) (found : PrevInOrder (u .rate) (k .found)) where
     nothing-filled : (o : Outcome) → FilledBy u k (nothing o state) input stage stage (nothingFilled k o)
     unfolding nothing stateOf
     nothing-filled o =
@@ -63,7 +63,7 @@ module _ (u : Setup) (k : Kept) (input stage : List ℤ) where
 
   -- ---- all frames
 
-  module _ (some : 1 ≤ k .held .0) (same : speedChanges (speedOf u k) ≡ false) (found : InOrder (u .rate) (k .found)) where
+  module _ (some : 1 ≤ k .held .0) (same : speedChanges (speedOf u k) ≡ false) (found : PrevInOrder (u .rate) (k .found)) where
     copies : (exit : List ℤ) (r : Fill) → FilledBy u k (copied state) input stage exit r → FillEnsures u k input stage exit r
     copies exit r =
         let t = taken-copied u state (omega (arith, held-is)) (ap speedChanges speed-same ∙ same) in

@@ -14,7 +14,7 @@ use Rattle.frames.proofs.Behind.{behind-paste, behind-length, behind-whole, beh
 use Rattle.volume.specs.Volume.{scaled}
 use Rattle.rate.specs.declared.Adjusted.{Adjusted}
 use Rattle.rate.specs.Conversion.{Conversion, adjustRate}
-use Rattle.rate.specs.Adjusting.{AdjustedTo, newFrames}
+use Rattle.rate.specs.Adjusting.{AdjustedAs, newFrames}
 use Rattle.rate.proofs.Chunks.{adjustRate-order}
 use Rattle.process.specs.declared.Setup.{Setup}
 use Rattle.process.specs.declared.Kept.{Kept}
@@ -84,7 +84,7 @@ behind-again : {ch w m : ℕ} {a b c : List ℤ} {fs gs : List Frame} → Behind
 behind-again p q = record { kept = q .kept ∙ p .kept; made = q .made; long = q .long ∙ p .long; fits = p .fits }
 
 module _ (u : Setup) (k : Kept) (d : Filled) (a : Adjusted) (c : Conversion) (staged : ℕ) (input input' stage stage' output middle output' : List ℤ)
-    (j : AdjustedTo (u .channels) (k .waiting .0) staged c stage output middle a) where
+    (j : AdjustedAs (u .channels) (k .waiting .0) staged c stage output middle a) where
   made-is : a .made .0 ≡ length (c .made)
   made-is = sym (behind-length (j .behind))
 

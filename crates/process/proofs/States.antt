@@ -34,7 +34,7 @@ module _ (channels : ℕ) (k : Kept) (input stage : List ℤ) where
     waiting = k .waiting;
     at = k .at;
     found = k .found;
-    «play_time» = k .«play_time»;
+    «input_play_time» = k .«input_play_time»;
     «time_error» = k .«time_error»;
   }
 
@@ -66,7 +66,7 @@ module _ (u : Setup) (fs : List Frame) where
       → stateOf channels (joinedKept u (length fs) k) input' stage ≡ joined u fs (stateOf channels k input stage)
   unfolding stateOf joined joinedKept
   state-joined channels k input input' stage h =
-      let play = playTimeGrown (k .«play_time») (length fs) (u .«sample_period») (k .settings .speed) (k .settings .pitch) in
+      let play = playTimeGrown (k .«input_play_time») (length fs) (u .«sample_period») (k .settings .speed) (k .settings .pitch) in
       ap (λ (l : List Frame). withInput (stateOf channels k input stage) l (k .found) play (k .«time_error»)) h
 
 -- ---- frames leave it

@@ -16,11 +16,11 @@ use Rattle.frames.proofs.Room.{count-le, room-under}
 use Rattle.floats.specs.Numbers.{count}
 use Rattle.floats.specs.Write.{localSpeed, speedChanges}
 use Rattle.period.specs.Rates.{maxRequired}
-use Rattle.stretch.specs.declared.Call.{Call}
+use Rattle.stretch.specs.declared.StretchCall.{StretchCall}
 use Rattle.stretch.specs.declared.Place.{Place}
 use Rattle.stretch.specs.declared.Stretch.{Stretch}
 use Rattle.stretch.specs.declared.Stretched as S
-use Rattle.period.specs.Pitch.{InOrder}
+use Rattle.period.specs.Pitch.{PrevInOrder}
 use Rattle.stretch.specs.declared.Step.{Step}
 use Rattle.stretch.specs.Steps as Steps
 use Rattle.stretch.specs.Speed.{steps, framesMade, stalled, begun, answerFor, changeSpeed, stretchedFrames, Staged}
@@ -41,14 +41,14 @@ use Rattle.process.proofs.Filling.{speed-same}
 -- ---- the call
 
 -- as the code makes it, the frames that it lends, and the place where it begins
-abbrev pub callOf : Setup → Kept → Float → Call
+abbrev pub callOf : Setup → Kept → Float → StretchCall
 callOf u k x =
     record {
       channels = u .channels;
       rate = u .rate;
       «sample_period» = u .«sample_period»;
       speed = x;
-      «play_time» = k .«play_time»;
+      «input_play_time» = k .«input_play_time»;
       held = k .held;
     }
 
@@ -73,7 +73,7 @@ local-fits held period play = div-fits binary32 (mul binary32 (count held) perio
 -- ---- the answer of `change_speed`
 
 -- with room for all frames
-abbrev answered : Call → List ℤ → Place → Stretch
+abbrev answered : StretchCall → List ℤ → Place → Stretch
 answered c l h = answerFor c l h (steps c l h)
 
 answer-full : (b : Bool) (a : Stretch) → S.Stretched.Full ≡ cond b S.Stretched.Full (S.Stretched.Made a) → b ≡ true
@@ -89,7 +89,7 @@ answer-made false a m e = (refl, cc)
 -- steps and frames of an answer a
 abbrev takenFor : Stretch → List Step → List Frame → State → Taken
 takenFor a ss fs s =
-    let t : State = withInput s (s .input) (a .«record») (s .play) (a .«time_error») in
+    let t : State = withInput s (s .input) (a .prev) (s .play) (a .«time_error») in
     record { frames = fs; steps = ss; state = cond (a .stalled) t (removed (a .used .0) t); outcome = cond (a .stalled) Stalled Stretched }
 
 module _ (u : Setup) (k : Kept) (input stage : List ℤ) where
@@ -97,7 +97,7 @@ module _ (u : Setup) (k : Kept) (input stage : List ℤ) where
   state = stateOf (u .channels) k input stage
 
   stepped-state : Stretch → State
-  stepped-state a = withInput state (state .input) (a .«record») (state .play) (a .«time_error»)
+  stepped-state a = withInput state (state .input) (a .prev) (state .play) (a .«time_error»)
 
   stepped-kept : (a : Stretch) → steppedKept k a ≡ keptOf (stepped-state a) (k .waiting .0)
   unfolding stepped-state keptOf
@@ -107,7 +107,7 @@ module _ (u : Setup) (k : Kept) (input stage : List ℤ) where
   removed-kept a = ap (removedKept (a .used .0)) (stepped-kept a) ∙ sym (kept-removed (a .used .0) (stepped-state a) (k .waiting .0))
 
   stepped-filled : (a : Stretch) (ss : List Step) (fs : List Frame) (exit : List ℤ) → a .used .0 ≤ k .held .0
-      → Behind (u .channels) (k .tail .0) (a .made .0) stage exit fs → InOrder (u .rate) (a .«record»)
+      → Behind (u .channels) (k .tail .0) (a .made .0) stage exit fs → PrevInOrder (u .rate) (a .prev)
       → FilledAs u k (takenFor a ss fs state) input stage exit (steppedFill k a)
   unfolding steppedFill stepped-state removed stateOf
   stepped-filled a ss fs exit h b o = go (a .stalled)
@@ -126,19 +126,19 @@ module _ (u : Setup) (k : Kept) (input stage : List ℤ) where
   unfolding stretched answerFor stateOf
   stretched-is x =
       let call : callAt u x state ≡ callOf u k x =
-      ap (λ (n : ℕ). callOf u (withHeld k n (k .found) (k .«play_time») (k .«time_error»)) x) (length-framesOf (u .channels) (k .held .0) input) in
+      ap (λ (n : ℕ). callOf u (withHeld k n (k .found) (k .«input_play_time») (k .«time_error»)) x) (length-framesOf (u .channels) (k .held .0) input) in
       let list = flat-framesOf (u .channels) (k .held .0) input in
       λ i. takenFor (answered (call i) (list i) (placeFor k)) (steps (call i) (list i) (placeFor k)) (stretchedFrames (call i) (list i) (placeFor k)) state
 
 -- ---- how it fills the stage
 
 module _ {u : Setup} {k : Kept} {x : Float} {input stage : List ℤ} (d : Due u k x input stage) where
-  pub call-ready : Steps.Ready (callOf u k x)
+  pub call-ready : Steps.StretchReady (callOf u k x)
   call-ready =
       record {
         opened = d .ready .opened;
         period-is = d .ready .period-is;
-        speed-fits = subst (λ (y : Float). T (fits binary32 y)) (sym (d .speed-is)) (local-fits (k .held .0) (u .«sample_period») (k .«play_time»));
+        speed-fits = subst (λ (y : Float). T (fits binary32 y)) (sym (d .speed-is)) (local-fits (k .held .0) (u .«sample_period») (k .«input_play_time»));
         few = omega (arith, count-le (u .channels) (k .held .0) (d .ready .opened .channels-low));
       }
 

@@ -9,7 +9,7 @@ use lib.Ieee.{le}
 use lib.ListN.{drop}
 use Rattle.frames.specs.Framing.{framesOf, Behind, NoRoom}
 use Rattle.floats.specs.Settings.{samplePeriod, minVolume, maxVolume}
-use Rattle.period.specs.Rates.{Opened}
+use Rattle.period.specs.Rates.{InLimits}
 use Rattle.period.specs.Pitch as Pitch
 use Rattle.rate.specs.Halving.{ratesOf}
 use Rattle.rate.specs.Tail as Tail
@@ -27,12 +27,12 @@ use Rattle.process.specs.Kept.{stateOf, keptOf, withHeld, removedKept}
 
 -- an opened setup, and a stream in order
 pub record Ready (u : Setup) (k : Kept) : Type 0 where
-  pub opened : Opened (u .rate) (u .channels)
+  pub opened : InLimits (u .rate) (u .channels)
   pub period-is : u .«sample_period» ≡ samplePeriod (u .rate)
   pub volume-low : T (le minVolume (k .settings .volume))
   pub volume-high : T (le (k .settings .volume) maxVolume)
-  pub position : Tail.InOrder (ratesOf (u .rate) (k .settings .pitch)) (k .at)
-  pub found : Pitch.InOrder (u .rate) (k .found)
+  pub position : Tail.PositionInOrder (ratesOf (u .rate) (k .settings .pitch)) (k .at)
+  pub found : Pitch.PrevInOrder (u .rate) (k .found)
 
 -- input and tail lie in their areas, given by their lengths
 pub record Room (u : Setup) (k : Kept) (input stage : ℕ) : Type 0 where
@@ -45,7 +45,7 @@ pub record Room (u : Setup) (k : Kept) (input stage : ℕ) : Type 0 where
 
 -- after the steps of a stretch
 abbrev pub steppedKept : Kept → Stretch → Kept
-steppedKept k s = withHeld k (k .held .0) (s .«record») (k .«play_time») (s .«time_error»)
+steppedKept k s = withHeld k (k .held .0) (s .prev) (k .«input_play_time») (s .«time_error»)
 
 unfoldable pub steppedFill : Kept → Stretch → Filled
 steppedFill k s =
@@ -64,7 +64,7 @@ pub record FilledAs (u : Setup) (k : Kept) (t : Taken) (input entry exit : List 
   pub used : d .used .0 ≤ k .held .0
   pub rest : drop (d .used .0) (framesOf (u .channels) (k .held .0) input) ≡ t .state .input
   pub kept : d .kept ≡ keptOf (t .state) (k .waiting .0)
-  pub found-in : Pitch.InOrder (u .rate) (t .state .found)
+  pub found-in : Pitch.PrevInOrder (u .rate) (t .state .found)
 
 -- or the frames do not fit it
 abbrev pub FilledBy : Setup → Kept → Taken → List ℤ → List ℤ → List ℤ → Fill → Type 0

@@ -56,7 +56,7 @@ withOutput k at tail waiting =
       waiting = record { 0 = waiting };
       at = at;
       found = k .found;
-      «play_time» = k .«play_time»;
+      «input_play_time» = k .«input_play_time»;
       «time_error» = k .«time_error»;
     }
 

@@ -20,7 +20,7 @@ stateOf channels k input stage =
       tail = framesOf channels (k .tail .0) stage;
       at = k .at;
       found = k .found;
-      play = k .«play_time»;
+      play = k .«input_play_time»;
       error = k .«time_error»;
     }
 
@@ -34,7 +34,7 @@ keptOf s w =
       waiting = record { 0 = w };
       at = s .at;
       found = s .found;
-      «play_time» = s .play;
+      «input_play_time» = s .play;
       «time_error» = s .error;
     }
 
@@ -48,7 +48,7 @@ withHeld k held found play error =
       waiting = k .waiting;
       at = k .at;
       found = found;
-      «play_time» = play;
+      «input_play_time» = play;
       «time_error» = error;
     }
 
@@ -56,12 +56,12 @@ withHeld k held found play error =
 unfoldable pub joinedKept : Setup → ℕ → Kept → Kept
 joinedKept u n k =
     withHeld k (k .held .0 + n) (k .found)
-    (playTimeGrown (k .«play_time») n (u .«sample_period») (k .settings .speed) (k .settings .pitch)) (k .«time_error»)
+    (playTimeGrown (k .«input_play_time») n (u .«sample_period») (k .settings .speed) (k .settings .pitch)) (k .«time_error»)
 
 -- the first n frames have left it
 unfoldable pub removedKept : ℕ → Kept → Kept
-removedKept n k = withHeld k (k .held .0 - n) (k .found) (playTimeLeft (k .«play_time») (k .held .0 - n) (k .held .0)) (k .«time_error»)
+removedKept n k = withHeld k (k .held .0 - n) (k .found) (playTimeLeft (k .«input_play_time») (k .held .0 - n) (k .held .0)) (k .«time_error»)
 
 -- the local speed
 abbrev pub speedOf : Setup → Kept → Float
-speedOf u k = localSpeed (k .held .0) (u .«sample_period») (k .«play_time»)
+speedOf u k = localSpeed (k .held .0) (u .«sample_period») (k .«input_play_time»)

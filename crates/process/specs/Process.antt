@@ -14,7 +14,7 @@ use Rattle.floats.specs.Flush.{expectedFrames}
 use Rattle.volume.specs.Volume.{scaled}
 use Rattle.rate.specs.Conversion.{Conversion, adjustRate}
 use Rattle.period.specs.Rates.{maxRequired}
-use Rattle.stretch.specs.declared.Call.{Call}
+use Rattle.stretch.specs.declared.StretchCall.{StretchCall}
 use Rattle.stretch.specs.declared.Place.{Place}
 use Rattle.stretch.specs.declared.Step.{Step}
 use Rattle.stretch.specs.declared.Stretch.{Stretch}
@@ -59,14 +59,14 @@ unfoldable pub copied : State → Taken
 copied s = record { frames = s .input; steps = []; state = removed (length (s .input)) s; outcome = Copied }
 
 -- the stretch's call at local speed x, the place where it begins, and its steps
-abbrev pub callAt : Setup → Float → State → Call
+abbrev pub callAt : Setup → Float → State → StretchCall
 callAt u x s =
     record {
       channels = u .channels;
       rate = u .rate;
       «sample_period» = u .«sample_period»;
       speed = x;
-      «play_time» = s .play;
+      «input_play_time» = s .play;
       held = record { 0 = length (s .input) };
     }
 
@@ -80,7 +80,7 @@ stepsAt u x s = Speed.steps (callAt u x s) (flat (s .input)) (placeOf s)
 unfoldable pub stretched : Setup → Float → State → Taken
 stretched u x s =
     let a : Stretch = answerFor (callAt u x s) (flat (s .input)) (placeOf s) (stepsAt u x s) in
-    let t : State = withInput s (s .input) (a .«record») (s .play) (a .«time_error») in
+    let t : State = withInput s (s .input) (a .prev) (s .play) (a .«time_error») in
     record {
       frames = stretchedFrames (callAt u x s) (flat (s .input)) (placeOf s);
       steps = stepsAt u x s;

@@ -4,8 +4,8 @@ use crate::Outcome;
 use crate::Setup;
 use frames::Frames;
 use frames::Samples;
-use stretch::Call;
 use stretch::Stretch;
+use stretch::StretchCall;
 use stretch::Stretched;
 ghost use mathlib.Core.Path.{_≡_};
 ghost use mathlib.Core.Bool.{true, false};
@@ -37,7 +37,7 @@ fn removed(mut kept: Kept, used: Frames) -> Kept
 {
     let held = kept.held;
     let left = kept.held.0 - used.0;
-    kept.play_time = floats::times::play_time_left(kept.play_time, Frames(left), held);
+    kept.input_play_time = floats::times::play_time_left(kept.input_play_time, Frames(left), held);
     kept.held.0 = left;
     kept
 }
@@ -49,7 +49,7 @@ fn stepped(mut kept: Kept, stretch: Stretch) -> Filled
 {
     let frames = stretch.made;
     let used = stretch.used;
-    let found = stretch.record;
+    let found = stretch.prev;
     kept.time_error = stretch.time_error;
     kept.found = found;
     if stretch.stalled {
@@ -85,12 +85,12 @@ fn stretch_input(
     let held = kept.held;
     let tail = kept.tail;
     let found = kept.found;
-    let call = Call {
+    let call = StretchCall {
         channels: setup.channels,
         rate: setup.rate as usize,
         sample_period: setup.sample_period,
         speed,
-        play_time: kept.play_time,
+        input_play_time: kept.input_play_time,
         held,
     };
     let count = held.samples(setup.channels).0;
@@ -168,7 +168,7 @@ pub(crate) fn fill_stage(
     if n == 0 {
         return nothing(kept, Outcome::Empty);
     }
-    let speed = floats::times::local_speed(held, setup.sample_period, kept.play_time);
+    let speed = floats::times::local_speed(held, setup.sample_period, kept.input_play_time);
     if floats::times::speed_changes(speed) {
         if n < period::max_required(setup.rate as usize).0 {
             return nothing(kept, Outcome::Waiting);

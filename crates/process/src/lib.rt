@@ -33,7 +33,7 @@ pub struct Kept {
     pub waiting: Frames,
     pub at: Position,
     pub found: PeriodRecord,
-    pub play_time: f32,
+    pub input_play_time: f32,
     pub time_error: f32,
 }
 
@@ -60,8 +60,8 @@ pub fn joined(setup: Setup, mut kept: Kept, n: Frames) -> Kept
 {
     let held = kept.held.0 + n.0;
     let settings = kept.settings;
-    kept.play_time = floats::times::play_time_grown(
-        kept.play_time,
+    kept.input_play_time = floats::times::play_time_grown(
+        kept.input_play_time,
         n,
         setup.sample_period,
         settings.speed,

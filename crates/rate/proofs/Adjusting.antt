@@ -19,7 +19,7 @@ use Rattle.rate.specs.declared.Adjustment.{Adjustment}
 use Rattle.rate.specs.declared.scan.ScanEnd.{ScanEnd}
 use Rattle.rate.specs.Halving.{ratesOf}
 use Rattle.rate.specs.Conversion.{Conversion, convert, joinTail, adjustRate}
-use Rattle.rate.specs.Adjusting.{ScannedTo, ScannedBy, Scanned, AdjustedBy, newFrames, StraightOut, ConvertedTail, AdjustedRate}
+use Rattle.rate.specs.Adjusting.{ScannedAs, ScannedBy, ScanEnsures, AdjustedBy, newFrames, StraightOutEnsures, ConvertEnsures, AdjustEnsures}
 
 -- the tail as it was
 stays : (ch tail : ℕ) (stage : List ℤ) → framesOf ch tail (drop (0 * ch) stage) ≡ framesOf ch tail stage
@@ -29,7 +29,7 @@ stays ch tail stage = ap (λ (i : ℕ). framesOf ch tail (drop i stage)) (zero-m
 
 pub straight-done : (ch tail new w : ℕ) (at : Position) (stage entry exit : List ℤ) → (tail + new) * ch ≤ length stage → (w + new) * ch ≤ length entry
     → exit ≡ paste entry (w * ch) (drop (tail * ch) stage) (new * ch)
-    → StraightOut ch tail new w at stage entry exit
+    → StraightOutEnsures ch tail new w at stage entry exit
     (Adjustment.Done (record { made = record { 0 = new }; from = record { 0 = 0 }; left = record { 0 = tail }; at = at }))
 straight-done ch tail new w at stage entry exit h k e =
     let l : new * ch ≤ length (drop (tail * ch) stage) = omega (arith, add-mul tail new ch, length-drop (tail * ch) stage) in
@@ -42,25 +42,25 @@ straight-done ch tail new w at stage entry exit h k e =
     }
 
 pub straight-full : (ch tail new w : ℕ) (at : Position) (stage entry : List ℤ) → length entry < (w + new) * ch
-    → StraightOut ch tail new w at stage entry entry Adjustment.Full
+    → StraightOutEnsures ch tail new w at stage entry entry Adjustment.Full
 straight-full ch tail new w at stage entry h =
     record { kept = refl; over = subst (λ (k : ℕ). length entry < (w + k) * ch) (sym (length-framesOf ch new (drop (tail * ch) stage))) h }
 
 -- ---- a scan of the tail
 
 module _ (ch : ℕ) (r : Rates) (tail w : ℕ) (at : Position) (stage entry exit : List ℤ) (e : ScanEnd)
-    (scanned : Scanned ch w r at (framesOf ch tail stage) entry exit e) where
-  pub convert-full : e .full ≡ true → ConvertedTail ch r tail w at stage entry exit Adjustment.Full
+    (scanned : ScanEnsures ch w r at (framesOf ch tail stage) entry exit e) where
+  pub convert-full : e .full ≡ true → ConvertEnsures ch r tail w at stage entry exit Adjustment.Full
   unfolding convert
   convert-full f = subst (λ (b : Bool). ScannedBy b ch w r at (framesOf ch tail stage) entry exit e) f scanned
 
-  scanned-to : e .full ≡ false → ScannedTo ch w r at (framesOf ch tail stage) entry exit e
+  scanned-to : e .full ≡ false → ScannedAs ch w r at (framesOf ch tail stage) entry exit e
   scanned-to f = subst (λ (b : Bool). ScannedBy b ch w r at (framesOf ch tail stage) entry exit e) f scanned
 
   pub consumed-le : e .full ≡ false → e .consumed .0 ≤ tail
   consumed-le f = omega (arith, scanned-to f .consumed, length-framesOf ch tail stage)
 
-  pub convert-done : e .full ≡ false → ConvertedTail ch r tail w at stage entry exit
+  pub convert-done : e .full ≡ false → ConvertEnsures ch r tail w at stage entry exit
       (Adjustment.Done (record { made = e .made; from = record { 0 = e .consumed .0 }; left = record { 0 = tail - e .consumed .0 }; at = e .at }))
   unfolding convert
   convert-done f =
@@ -77,7 +77,7 @@ module _ (ch : ℕ) (r : Rates) (tail w : ℕ) (at : Position) (stage entry exit
 -- ---- by the pitch and the number of new frames
 
 module _ (ch rate : ℕ) (pitch : Float) (at : Position) (tail new w : ℕ) (stage entry exit : List ℤ) (a : Adjustment) where
-  pub pitch-one : eq pitch one ≡ true → StraightOut ch tail new w at stage entry exit a → AdjustedRate ch rate pitch at tail new w stage entry exit a
+  pub pitch-one : eq pitch one ≡ true → StraightOutEnsures ch tail new w at stage entry exit a → AdjustEnsures ch rate pitch at tail new w stage entry exit a
   unfolding adjustRate
   pitch-one e h = rw e h
 
@@ -92,8 +92,8 @@ module _ (ch rate : ℕ) (pitch : Float) (at : Position) (tail new w : ℕ) (sta
   unfolding adjustRate
   other-pitch e fs = rw e
 
-  pub some-new : eq pitch one ≡ false → 0 < new → ConvertedTail ch (ratesOf rate pitch) (tail + new) w at stage entry exit a
-      → AdjustedRate ch rate pitch at tail new w stage entry exit a
+  pub some-new : eq pitch one ≡ false → 0 < new → ConvertEnsures ch (ratesOf rate pitch) (tail + new) w at stage entry exit a
+      → AdjustEnsures ch rate pitch at tail new w stage entry exit a
   some-new e h d =
       let fs : List Frame = newFrames ch tail new stage in
       let joined : adjustRate rate pitch at (framesOf ch tail stage) fs ≡ convert (ratesOf rate pitch) at (framesOf ch (tail + new) stage) =
@@ -103,7 +103,7 @@ module _ (ch rate : ℕ) (pitch : Float) (at : Position) (tail new w : ℕ) (sta
 
 -- nothing new
 pub none-new : (ch rate : ℕ) (pitch : Float) (at : Position) (tail new w : ℕ) (stage entry : List ℤ) → eq pitch one ≡ false → new ≡ 0
-    → w * ch ≤ length entry → AdjustedRate ch rate pitch at tail new w stage entry entry
+    → w * ch ≤ length entry → AdjustEnsures ch rate pitch at tail new w stage entry entry
     (Adjustment.Done (record { made = record { 0 = 0 }; from = record { 0 = 0 }; left = record { 0 = tail }; at = at }))
 unfolding adjustRate joinTail framesOf
 none-new ch rate pitch at tail new w stage entry e z h =

@@ -14,7 +14,7 @@ use Rattle.frames.specs.Framing.{Frame}
 use Rattle.rate.specs.declared.Rates.{Rates}
 use Rattle.rate.specs.declared.Position.{Position}
 use Rattle.rate.specs.Halving.{ratesOf}
-use Rattle.rate.specs.Tail.{InOrder, due, next, steps, interpolated, emit, scan, consumable}
+use Rattle.rate.specs.Tail.{PositionInOrder, due, next, steps, interpolated, emit, scan, consumable}
 use Rattle.rate.specs.Conversion.{Conversion, convert, joinTail, adjustRate}
 use Rattle.rate.proofs.Positions.{steps-order, steps-add}
 
@@ -109,20 +109,20 @@ module _ (r : Rates) where
 
 -- ---- positions stay in order
 
-pub convert-order : (r : Rates) (s : Position) (l : List Frame) → InOrder r s → InOrder r (convert r s l .at)
+pub convert-order : (r : Rates) (s : Position) (l : List Frame) → PositionInOrder r s → PositionInOrder r (convert r s l .at)
 unfolding convert
 convert-order r s l h = steps-order r (consumable l) s h
 
-joinTail-order : (r : Rates) (s : Position) (tail fs : List Frame) → InOrder r s → InOrder r (joinTail r s tail fs .at)
+joinTail-order : (r : Rates) (s : Position) (tail fs : List Frame) → PositionInOrder r s → PositionInOrder r (joinTail r s tail fs .at)
 unfolding joinTail
 joinTail-order r s tail [] h = h
 joinTail-order r s tail (f ∷ fs) h = convert-order r s (tail ++ (f ∷ fs)) h
 
-pub adjustRate-order : (rate : ℕ) (pitch : Float) (s : Position) (tail fs : List Frame) → InOrder (ratesOf rate pitch) s
-    → InOrder (ratesOf rate pitch) (adjustRate rate pitch s tail fs .at)
+pub adjustRate-order : (rate : ℕ) (pitch : Float) (s : Position) (tail fs : List Frame) → PositionInOrder (ratesOf rate pitch) s
+    → PositionInOrder (ratesOf rate pitch) (adjustRate rate pitch s tail fs .at)
 unfolding adjustRate
 adjustRate-order rate pitch s tail fs h = go (eq pitch one)
   where
-    go : (b : Bool) → InOrder (ratesOf rate pitch) (cond b (record { made = fs; rest = tail; at = s }) (joinTail (ratesOf rate pitch) s tail fs) .at)
+    go : (b : Bool) → PositionInOrder (ratesOf rate pitch) (cond b (record { made = fs; rest = tail; at = s }) (joinTail (ratesOf rate pitch) s tail fs) .at)
     go true = h
     go false = joinTail-order (ratesOf rate pitch) s tail fs h

@@ -11,7 +11,7 @@ use borrow.Author.Tests.{eqb-true}
 use Rattle.frames.specs.Framing.{Frame}
 use Rattle.rate.specs.declared.Rates.{Rates}
 use Rattle.rate.specs.declared.Position.{Position}
-use Rattle.rate.specs.Tail.{start, ceilDiv, InOrder, due, next, emit, scan}
+use Rattle.rate.specs.Tail.{start, ceilDiv, PositionInOrder, due, next, emit, scan}
 use Rattle.rate.proofs.Ceiling.{ceilDiv-zero, ceilDiv-mul-add}
 use Rattle.rate.proofs.Positions.{start-order, due-is, next-order}
 use Rattle.rate.proofs.Chunks.{length-emit}
@@ -33,7 +33,7 @@ module _ (r : Rates) where
       ap (λ (x : ℕ). ceilDiv x (r .old)) e ∙ ceilDiv-zero (r .old) h
 
   -- one tail frame's share of the count, over the turn at O
-  turn-count : (s : Position) → InOrder r s → (k m : ℕ) → (next r s) .new + m ≡ reach ((next r s) .old + k)
+  turn-count : (s : Position) → PositionInOrder r s → (k m : ℕ) → (next r s) .new + m ≡ reach ((next r s) .old + k)
       → s .new + due r s + m ≡ reach (s .old + suc k)
   unfolding next
   turn-count s h k m = go (eqb (s .old + 1) (r .old)) refl
@@ -54,7 +54,7 @@ module _ (r : Rates) where
           let g : s .old + 1 + k ≡ s .old + suc k = omega arith in
           ih ∙ ap reach g
 
-  pub scan-count : (k : ℕ) (s : Position) (l : List Frame) → InOrder r s → s .new + length (scan r k s l) ≡ ceilDiv ((s .old + k) * r .new) (r .old)
+  pub scan-count : (k : ℕ) (s : Position) (l : List Frame) → PositionInOrder r s → s .new + length (scan r k s l) ≡ ceilDiv ((s .old + k) * r .new) (r .old)
   unfolding scan
   scan-count zero s l h =
       let e : s .old + 0 ≡ s .old = omega arith in

@@ -15,11 +15,11 @@ use Rattle.floats.specs.Scales.{newRate}
 use Rattle.floats.specs.Settings.{minPitch, maxPitch}
 use Rattle.floats.proofs.RateBounds.{newRate-between}
 use Rattle.rate.specs.declared.Rates.{Rates}
-use Rattle.rate.specs.Halving.{maxRate, halved, ratesOf}
+use Rattle.rate.specs.Halving.{maxHalvedRate, halved, ratesOf}
 
 -- one of the two is still too great
 abbrev pub over : Rates → Bool
-over r = ltb maxRate (r .new) || ltb maxRate (r .old)
+over r = ltb maxHalvedRate (r .new) || ltb maxHalvedRate (r .old)
 
 abbrev pub half : Rates → Rates
 half r = record { new = r .new / 2; old = r .old / 2 }
@@ -28,13 +28,13 @@ halved-over : (k : ℕ) (r : Rates) → over r ≡ true → halved (suc k) r ≡
 unfolding halved
 halved-over k r e = rw e
 
-halved-still : (k : ℕ) (r : Rates) → r .new ≤ maxRate → r .old ≤ maxRate → halved k r ≡ r
+halved-still : (k : ℕ) (r : Rates) → r .new ≤ maxHalvedRate → r .old ≤ maxHalvedRate → halved k r ≡ r
 unfolding halved
 halved-still zero r h g = refl
-halved-still (suc k) r h g = rw (le-ltb maxRate (r .new) h, le-ltb maxRate (r .old) g)
+halved-still (suc k) r h g = rw (le-ltb maxHalvedRate (r .new) h, le-ltb maxHalvedRate (r .old) g)
 
-not-over : (r : Rates) → r .new ≤ maxRate → r .old ≤ maxRate → over r ≡ false
-not-over r h g = rw (le-ltb maxRate (r .new) h, le-ltb maxRate (r .old) g)
+not-over : (r : Rates) → r .new ≤ maxHalvedRate → r .old ≤ maxHalvedRate → over r ≡ false
+not-over r h g = rw (le-ltb maxHalvedRate (r .new) h, le-ltb maxHalvedRate (r .old) g)
 
 half-below : (n k : ℕ) → n < 2 ^ suc k → n / 2 < 2 ^ k
 half-below n k h = div-lt-iff-lt-mul {k = 2} {x = n} {y = 2 ^ k} (omega arith) .1 (subst (λ (m : ℕ). n < m) (pow-suc 2 k) h)
@@ -57,31 +57,31 @@ left-turn first r l e = go (l .k) (l .same) (l .new-below) (l .old-below)
         absurd (omega arith)
     go (suc k) s h g = record { k = k; same = s ∙ halved-over k r e; new-below = half-below (r .new) k h; old-below = half-below (r .old) k g }
 
-pub left-end : (first r : Rates) → Left first r → r .new ≤ maxRate → r .old ≤ maxRate → r ≡ halved 64 first
+pub left-end : (first r : Rates) → Left first r → r .new ≤ maxHalvedRate → r .old ≤ maxHalvedRate → r ≡ halved 64 first
 left-end first r l h g = sym (l .same ∙ halved-still (l .k) r h g)
 
 -- one turn of the definition: one of the two is too great, or none is
-halved-suc : (P : Rates → Type 0) (k : ℕ) (r : Rates) → ((maxRate < r .new) ⊎ (maxRate < r .old) → P (halved k (half r)))
-    → (r .new ≤ maxRate → r .old ≤ maxRate → P r) → P (halved (suc k) r)
+halved-suc : (P : Rates → Type 0) (k : ℕ) (r : Rates) → ((maxHalvedRate < r .new) ⊎ (maxHalvedRate < r .old) → P (halved k (half r)))
+    → (r .new ≤ maxHalvedRate → r .old ≤ maxHalvedRate → P r) → P (halved (suc k) r)
 unfolding halved
-halved-suc P k r on off = go (ltb maxRate (r .new)) (ltb maxRate (r .old)) refl refl
+halved-suc P k r on off = go (ltb maxHalvedRate (r .new)) (ltb maxHalvedRate (r .old)) refl refl
   where
-    go : (a b : Bool) → ltb maxRate (r .new) ≡ a → ltb maxRate (r .old) ≡ b → P (cond (a || b) (halved k (half r)) r)
-    go true b e f = on (inl (ltb-true maxRate (r .new) e))
-    go false true e f = on (inr (ltb-true maxRate (r .old) f))
-    go false false e f = off (ltb-false maxRate (r .new) e) (ltb-false maxRate (r .old) f)
+    go : (a b : Bool) → ltb maxHalvedRate (r .new) ≡ a → ltb maxHalvedRate (r .old) ≡ b → P (cond (a || b) (halved k (half r)) r)
+    go true b e f = on (inl (ltb-true maxHalvedRate (r .new) e))
+    go false true e f = on (inr (ltb-true maxHalvedRate (r .old) f))
+    go false false e f = off (ltb-false maxHalvedRate (r .new) e) (ltb-false maxHalvedRate (r .old) f)
 
 -- ---- both are 16,384 at most
 
 abbrev Most : Rates → Type 0
-Most r = (r .new ≤ maxRate) × (r .old ≤ maxRate)
+Most r = (r .new ≤ maxHalvedRate) × (r .old ≤ maxHalvedRate)
 
 halved-most : (k : ℕ) (r : Rates) → r .new < 2 ^ k → r .old < 2 ^ k → Most (halved k r)
 unfolding halved
 halved-most zero r h g = (omega arith, omega arith)
 halved-most (suc k) r h g = halved-suc Most k r (λ o. halved-most k (half r) (half-below (r .new) k h) (half-below (r .old) k g)) (λ n o. (n, o))
 
-pub rates-most : (rate : ℕ) (pitch : Float) → rate ≤ 2 ^ 24 → ((ratesOf rate pitch) .new ≤ maxRate) × ((ratesOf rate pitch) .old ≤ maxRate)
+pub rates-most : (rate : ℕ) (pitch : Float) → rate ≤ 2 ^ 24 → ((ratesOf rate pitch) .new ≤ maxHalvedRate) × ((ratesOf rate pitch) .old ≤ maxHalvedRate)
 unfolding ratesOf newRate
 rates-most rate pitch h = halved-most 64 (record { new = newRate rate pitch; old = rate }) (toUnsigned-lt 64 (div binary32 (count rate) pitch)) (omega arith)
 

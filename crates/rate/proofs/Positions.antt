@@ -9,29 +9,29 @@ use lib.Dec.{eqb}
 use borrow.Author.Tests.{eqb-false, eq-eqb, ne-eqb}
 use Rattle.rate.specs.declared.Rates.{Rates}
 use Rattle.rate.specs.declared.Position.{Position}
-use Rattle.rate.specs.Tail.{start, ceilDiv, InOrder, due, next, steps}
+use Rattle.rate.specs.Tail.{start, ceilDiv, PositionInOrder, due, next, steps}
 use Rattle.rate.specs.Adjusting.{Placed}
 use Rattle.rate.proofs.Ceiling.{ceilDiv-le, le-ceilDiv-mul, lt-ceilDiv, ceilDiv-mono, ceilDiv-zero}
 
 -- ---- in order
 
-pub start-order : (r : Rates) → 0 < r .old → InOrder r start
+pub start-order : (r : Rates) → 0 < r .old → PositionInOrder r start
 start-order r p = record { below = p; least = sym (ap (λ (x : ℕ). ceilDiv x (r .old)) (zero-mul (r .new)) ∙ ceilDiv-zero (r .old) p) }
 
 -- n after a tail frame, before a turn at O
-pub due-is : (r : Rates) (s : Position) → InOrder r s → s .new + due r s ≡ ceilDiv ((s .old + 1) * r .new) (r .old)
+pub due-is : (r : Rates) (s : Position) → PositionInOrder r s → s .new + due r s ≡ ceilDiv ((s .old + 1) * r .new) (r .old)
 unfolding due
 due-is r s h = omega (arith, h .least, ceilDiv-mono (s .old * r .new) ((s .old + 1) * r .new) (r .old) (omega (arith, h .below)) (omega arith))
 
-pub next-order : (r : Rates) (s : Position) → InOrder r s → InOrder r (next r s)
+pub next-order : (r : Rates) (s : Position) → PositionInOrder r s → PositionInOrder r (next r s)
 unfolding next
 next-order r s h = go (eqb (s .old + 1) (r .old)) refl
   where
-    go : (b : Bool) → eqb (s .old + 1) (r .old) ≡ b → InOrder r (cond b start (record { old = s .old + 1; new = s .new + due r s }))
+    go : (b : Bool) → eqb (s .old + 1) (r .old) ≡ b → PositionInOrder r (cond b start (record { old = s .old + 1; new = s .new + due r s }))
     go true e = start-order r (omega (arith, h .below))
     go false e = record { below = omega (arith, eqb-false (s .old + 1) (r .old) e, h .below); least = due-is r s h }
 
-pub steps-order : (r : Rates) (k : ℕ) (s : Position) → InOrder r s → InOrder r (steps r k s)
+pub steps-order : (r : Rates) (k : ℕ) (s : Position) → PositionInOrder r s → PositionInOrder r (steps r k s)
 unfolding steps
 steps-order r zero s h = h
 steps-order r (suc k) s h = steps-order r k (next r s) (next-order r s h)
@@ -95,7 +95,7 @@ placed-small r s h =
 -- where the scan has come to
 pub steps-placed : (r : Rates) (k : ℕ) (s t : Position) → Placed r s → t ≡ steps r k s → Placed r t
 steps-placed r k s t h e =
-    record { new-most = h .new-most; old-most = h .old-most; order = subst (InOrder r) (sym e) (steps-order r k s (h .order)) }
+    record { new-most = h .new-most; old-most = h .old-most; order = subst (PositionInOrder r) (sym e) (steps-order r k s (h .order)) }
 
 -- a ratio is below N
 pub ratio-lt : (r : Rates) (p m n : ℕ) → p * r .new ≤ m * r .old → m ≤ n → n * r .old < (p + 1) * r .new → (p + 1) * r .new - n * r .old - 1 < r .new

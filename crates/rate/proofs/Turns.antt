@@ -16,7 +16,7 @@ use Rattle.frames.proofs.Behind.{behind-length, behind-none}
 use Rattle.rate.specs.declared.Rates.{Rates}
 use Rattle.rate.specs.declared.Position.{Position}
 use Rattle.rate.specs.Tail.{due, next, steps, interpolated, emit, scan, consumable}
-use Rattle.rate.specs.Adjusting.{ScannedTo}
+use Rattle.rate.specs.Adjusting.{ScannedAs}
 use Rattle.rate.proofs.Positions.{steps-snoc}
 use Rattle.rate.proofs.Chunks.{length-emit, emit-snoc, scan-add, scan-snoc}
 
@@ -139,7 +139,7 @@ module _ {ch w : ℕ} {r : Rates} {s t : Position} {l x : List Frame} {entry out
 
 module _ {ch w : ℕ} {r : Rates} {s t : Position} {entry out : List ℤ} {j m : ℕ} (tail : ℕ) (stage : List ℤ) where
   pub scanned-all : Scanning ch w r s (framesOf ch tail stage) entry out j m t → j ≡ tail - 12
-      → ScannedTo ch w r s (framesOf ch tail stage) entry out (record { full = false; made = record { 0 = m }; consumed = record { 0 = j }; at = t })
+      → ScannedAs ch w r s (framesOf ch tail stage) entry out (record { full = false; made = record { 0 = m }; consumed = record { 0 = j }; at = t })
   scanned-all a e =
       let k : j ≡ consumable (framesOf ch tail stage) = e ∙ ap (λ (i : ℕ). i - 12) (sym (length-framesOf ch tail stage)) in
       record {

@@ -12,34 +12,34 @@ use Rattle.rate.specs.declared.Position.{Position}
 use Rattle.rate.specs.declared.Adjusted.{Adjusted}
 use Rattle.rate.specs.declared.Adjustment.{Adjustment}
 use Rattle.rate.specs.declared.scan.ScanEnd.{ScanEnd}
-use Rattle.rate.specs.Halving.{maxRate, ratesOf}
-use Rattle.rate.specs.Tail.{InOrder, scan, steps, consumable}
+use Rattle.rate.specs.Halving.{maxHalvedRate, ratesOf}
+use Rattle.rate.specs.Tail.{PositionInOrder, scan, steps, consumable}
 use Rattle.rate.specs.Conversion.{Conversion, convert, adjustRate}
 
 -- ---- required
 
 -- the areas hold what they are said to hold: `staged` frames, and the frames waiting
-pub record Lent (ch staged w : ℕ) (stage output : List ℤ) : Type 0 where
+pub record AreasHold (ch staged w : ℕ) (stage output : List ℤ) : Type 0 where
   pub some : 1 ≤ ch
   pub holds : staged * ch ≤ length stage
   pub waits : w * ch ≤ length output
 
 -- rates that were halved, and positions in order
 pub record Placed (r : Rates) (s : Position) : Type 0 where
-  pub new-most : r .new ≤ maxRate
-  pub old-most : r .old ≤ maxRate
-  pub order : InOrder r s
+  pub new-most : r .new ≤ maxHalvedRate
+  pub old-most : r .old ≤ maxHalvedRate
+  pub order : PositionInOrder r s
 
 -- a call of `adjust_rate`: an f32 holds the rate exactly, the positions are in order, and `new` frames stand behind the tail
-pub record Ready (ch rate : ℕ) (pitch : Float) (at : Position) (tail new w : ℕ) (stage output : List ℤ) : Type 0 where
+pub record AdjustReady (ch rate : ℕ) (pitch : Float) (at : Position) (tail new w : ℕ) (stage output : List ℤ) : Type 0 where
   pub exact : rate ≤ 2 ^ 24
-  pub order : InOrder (ratesOf rate pitch) at
-  pub lent : Lent ch (tail + new) w stage output
+  pub order : PositionInOrder (ratesOf rate pitch) at
+  pub lent : AreasHold ch (tail + new) w stage output
 
 -- ---- ensured
 
 -- how a scan of the tail l ended
-pub record ScannedTo (ch w : ℕ) (r : Rates) (s : Position) (l : List Frame) (entry exit : List ℤ) (e : ScanEnd) : Type 0 where
+pub record ScannedAs (ch w : ℕ) (r : Rates) (s : Position) (l : List Frame) (entry exit : List ℤ) (e : ScanEnd) : Type 0 where
   pub behind : Behind ch w (e .made .0) entry exit (scan r (consumable l) s l)
   pub consumed : e .consumed .0 ≡ consumable l
   pub at : e .at ≡ steps r (consumable l) s
@@ -47,13 +47,13 @@ pub record ScannedTo (ch w : ℕ) (r : Rates) (s : Position) (l : List Frame) (e
 -- by whether it was full
 abbrev pub ScannedBy : Bool → ℕ → ℕ → Rates → Position → List Frame → List ℤ → List ℤ → ScanEnd → Type 0
 ScannedBy true ch w r s l entry exit e = NoRoom ch w entry exit (scan r (consumable l) s l)
-ScannedBy false ch w r s l entry exit e = ScannedTo ch w r s l entry exit e
+ScannedBy false ch w r s l entry exit e = ScannedAs ch w r s l entry exit e
 
-abbrev pub Scanned : ℕ → ℕ → Rates → Position → List Frame → List ℤ → List ℤ → ScanEnd → Type 0
-Scanned ch w r s l entry exit e = ScannedBy (e .full) ch w r s l entry exit e
+abbrev pub ScanEnsures : ℕ → ℕ → Rates → Position → List Frame → List ℤ → List ℤ → ScanEnd → Type 0
+ScanEnsures ch w r s l entry exit e = ScannedBy (e .full) ch w r s l entry exit e
 
 -- a conversion was done: its frames stand behind those that wait, and what is left of the tail lies within the stage's first frames
-pub record AdjustedTo (ch w staged : ℕ) (c : Conversion) (stage entry exit : List ℤ) (a : Adjusted) : Type 0 where
+pub record AdjustedAs (ch w staged : ℕ) (c : Conversion) (stage entry exit : List ℤ) (a : Adjusted) : Type 0 where
   pub behind : Behind ch w (a .made .0) entry exit (c .made)
   pub rest : framesOf ch (a .left .0) (drop (a .from .0 * ch) stage) ≡ c .rest
   pub at : a .at ≡ c .at
@@ -62,20 +62,20 @@ pub record AdjustedTo (ch w staged : ℕ) (c : Conversion) (stage entry exit : L
 -- done, or its frames do not fit
 abbrev pub AdjustedBy : ℕ → ℕ → ℕ → Conversion → List ℤ → List ℤ → List ℤ → Adjustment → Type 0
 AdjustedBy ch w staged c stage entry exit Adjustment.Full = NoRoom ch w entry exit (c .made)
-AdjustedBy ch w staged c stage entry exit (Adjustment.Done a) = AdjustedTo ch w staged c stage entry exit a
+AdjustedBy ch w staged c stage entry exit (Adjustment.Done a) = AdjustedAs ch w staged c stage entry exit a
 
 -- the new frames, which stand behind the tail
 abbrev pub newFrames : ℕ → ℕ → ℕ → List ℤ → List Frame
 newFrames ch tail new stage = framesOf ch new (drop (tail * ch) stage)
 
 -- what each function ensures: the frames went straight out, the tail was converted, or one of the two by the pitch
-abbrev pub StraightOut : ℕ → ℕ → ℕ → ℕ → Position → List ℤ → List ℤ → List ℤ → Adjustment → Type 0
-StraightOut ch tail new w at stage entry exit a =
+abbrev pub StraightOutEnsures : ℕ → ℕ → ℕ → ℕ → Position → List ℤ → List ℤ → List ℤ → Adjustment → Type 0
+StraightOutEnsures ch tail new w at stage entry exit a =
     AdjustedBy ch w (tail + new) (record { made = newFrames ch tail new stage; rest = framesOf ch tail stage; at = at }) stage entry exit a
 
-abbrev pub ConvertedTail : ℕ → Rates → ℕ → ℕ → Position → List ℤ → List ℤ → List ℤ → Adjustment → Type 0
-ConvertedTail ch r tail w at stage entry exit a = AdjustedBy ch w tail (convert r at (framesOf ch tail stage)) stage entry exit a
+abbrev pub ConvertEnsures : ℕ → Rates → ℕ → ℕ → Position → List ℤ → List ℤ → List ℤ → Adjustment → Type 0
+ConvertEnsures ch r tail w at stage entry exit a = AdjustedBy ch w tail (convert r at (framesOf ch tail stage)) stage entry exit a
 
-abbrev pub AdjustedRate : ℕ → ℕ → Float → Position → ℕ → ℕ → ℕ → List ℤ → List ℤ → List ℤ → Adjustment → Type 0
-AdjustedRate ch rate pitch at tail new w stage entry exit a =
+abbrev pub AdjustEnsures : ℕ → ℕ → Float → Position → ℕ → ℕ → ℕ → List ℤ → List ℤ → List ℤ → Adjustment → Type 0
+AdjustEnsures ch rate pitch at tail new w stage entry exit a =
     AdjustedBy ch w (tail + new) (adjustRate rate pitch at (framesOf ch tail stage) (newFrames ch tail new stage)) stage entry exit a

@@ -7,13 +7,13 @@ use Rattle.floats.specs.Scales.{newRate}
 use Rattle.rate.specs.declared.Rates.{Rates}
 
 -- the most that either may be
-abbrev pub maxRate : ℕ
-maxRate = 16384
+abbrev pub maxHalvedRate : ℕ
+maxHalvedRate = 16384
 
 -- both halved until neither exceeds 16,384; 64 halvings are enough for any usize
 unfoldable pub halved : ℕ → Rates → Rates
 halved zero r = r
-halved (suc k) r = cond (ltb maxRate (r .new) || ltb maxRate (r .old)) (halved k (record { new = r .new / 2; old = r .old / 2 })) r
+halved (suc k) r = cond (ltb maxHalvedRate (r .new) || ltb maxHalvedRate (r .old)) (halved k (record { new = r .new / 2; old = r .old / 2 })) r
 
 -- N the whole part of R/pitch, O = R; both halved
 unfoldable pub ratesOf : ℕ → Float → Rates

@@ -23,7 +23,7 @@ unfoldable pub ceilDiv : ℕ → ℕ → ℕ
 ceilDiv a b = (a + (b - 1)) / b
 
 -- in order: 0 ≤ p < O, and n the least whole number with n·O ≥ p·N
-pub record InOrder (r : Rates) (s : Position) : Type 0 where
+pub record PositionInOrder (r : Rates) (s : Position) : Type 0 where
   pub below : s .old < r .old
   pub least : s .new ≡ ceilDiv (s .old * r .new) (r .old)
 

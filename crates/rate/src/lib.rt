@@ -5,10 +5,10 @@ use frames::Frames;
 ghost use mathlib.Core.Path.{_≡_};
 ghost use Prim.Native.Nat.{_+_, _^_, _≤_, _<_};
 ghost use Rattle.rate.specs.Halving.{ratesOf};
-ghost use Rattle.rate.specs.Adjusting.{Lent, Placed, Ready, StraightOut, ConvertedTail, AdjustedRate};
+ghost use Rattle.rate.specs.Adjusting.{AreasHold, Placed, AdjustReady, StraightOutEnsures, ConvertEnsures, AdjustEnsures};
 
 // The most that either of the two rates may be.
-const MAX_RATE: usize = 16384;
+const MAX_HALVED_RATE: usize = 16384;
 
 // N and O: the new rate and the old one.
 pub struct Rates {
@@ -43,7 +43,7 @@ pub fn rates_of(rate: u32, pitch: f32) -> Rates
 {
     let mut new = floats::scales::new_rate(rate, pitch);
     let mut old = rate as usize;
-    while new > MAX_RATE || old > MAX_RATE {
+    while new > MAX_HALVED_RATE || old > MAX_HALVED_RATE {
         new = new / 2;
         old = old / 2;
     }
@@ -60,8 +60,8 @@ fn straight_out(
     output: &mut [i16],
     waiting: Frames,
 ) -> Adjustment
-    requires { ⌜ Lent channels (tail .0 + new .0) (waiting .0) (now stage) (now output) ⌝ }
-    ensures { λ r. ⌜ StraightOut channels (tail .0) (new .0) (waiting .0) at (now (stage .entry)) (now (output .entry)) (now (output .exit)) r ⌝ }
+    requires { ⌜ AreasHold channels (tail .0 + new .0) (waiting .0) (now stage) (now output) ⌝ }
+    ensures { λ r. ⌜ StraightOutEnsures channels (tail .0) (new .0) (waiting .0) at (now (stage .entry)) (now (output .entry)) (now (output .exit)) r ⌝ }
 {
     let n = new.0;
     let w = waiting.0;
@@ -93,8 +93,8 @@ fn convert(
     output: &mut [i16],
     waiting: Frames,
 ) -> Adjustment
-    requires { ⌜ Lent channels (tail .0) (waiting .0) (now stage) (now output) × Placed rates at ⌝ }
-    ensures { λ r. ⌜ ConvertedTail channels rates (tail .0) (waiting .0) at (now (stage .entry)) (now (output .entry)) (now (output .exit)) r ⌝ }
+    requires { ⌜ AreasHold channels (tail .0) (waiting .0) (now stage) (now output) × Placed rates at ⌝ }
+    ensures { λ r. ⌜ ConvertEnsures channels rates (tail .0) (waiting .0) at (now (stage .entry)) (now (output .entry)) (now (output .exit)) r ⌝ }
 {
     let table = sinc::sinc_table();
     let end = scan::scan_tail(&table, stage, tail, channels, rates, at, output, waiting);
@@ -125,8 +125,8 @@ pub fn adjust_rate(
     output: &mut [i16],
     waiting: Frames,
 ) -> Adjustment
-    requires { ⌜ Ready channels rate pitch at (tail .0) (new .0) (waiting .0) (now stage) (now output) ⌝ }
-    ensures { λ r. ⌜ AdjustedRate channels rate pitch at (tail .0) (new .0) (waiting .0) (now (stage .entry)) (now (output .entry)) (now (output .exit)) r ⌝ }
+    requires { ⌜ AdjustReady channels rate pitch at (tail .0) (new .0) (waiting .0) (now stage) (now output) ⌝ }
+    ensures { λ r. ⌜ AdjustEnsures channels rate pitch at (tail .0) (new .0) (waiting .0) (now (stage .entry)) (now (output .entry)) (now (output .exit)) r ⌝ }
 {
     if pitch == 1.0 {
         return straight_out(stage, tail, new, channels, at, output, waiting);

@@ -8,9 +8,9 @@ ghost use lib.ListN.{length, drop};
 ghost use lib.Seq.{paste};
 ghost use Rattle.frames.specs.Framing.{framesOf};
 ghost use Rattle.sinc.specs.SincTable.{sincTable};
-ghost use Rattle.rate.specs.Halving.{maxRate};
+ghost use Rattle.rate.specs.Halving.{maxHalvedRate};
 ghost use Rattle.rate.specs.Tail.{interpolateWindow};
-ghost use Rattle.rate.specs.Adjusting.{Lent, Placed, Scanned};
+ghost use Rattle.rate.specs.Adjusting.{AreasHold, Placed, ScanEnsures};
 
 // The taps of the interpolation: the tail frames that a frame is made of.
 const SINC_FILTER_POINTS: usize = 12;
@@ -34,7 +34,7 @@ fn make_frame(
     output: &mut [i16],
     to: Frames,
 )
-    requires { ⌜ (now table ≡ sincTable) × (ratio < width) × (width ≤ maxRate) ⌝ }
+    requires { ⌜ (now table ≡ sincTable) × (ratio < width) × (width ≤ maxHalvedRate) ⌝ }
     requires { ⌜ ((first .0 + 12) * channels ≤ length (now stage)) × ((to .0 + 1) * channels ≤ length (now output)) ⌝ }
     ensures { λ _. ⌜ now (output .exit) ≡ paste (now (output .entry)) (to .0 * channels)
         (interpolateWindow (framesOf channels 12 (drop (first .0 * channels) (now (stage .entry)))) ratio width) channels ⌝ }
@@ -62,8 +62,8 @@ pub(crate) fn scan_tail(
     output: &mut [i16],
     waiting: Frames,
 ) -> ScanEnd
-    requires { ⌜ (now table ≡ sincTable) × Lent channels (tail .0) (waiting .0) (now stage) (now output) × Placed rates at ⌝ }
-    ensures { λ r. ⌜ Scanned channels (waiting .0) rates at (framesOf channels (tail .0) (now (stage .entry))) (now (output .entry)) (now (output .exit)) r ⌝ }
+    requires { ⌜ (now table ≡ sincTable) × AreasHold channels (tail .0) (waiting .0) (now stage) (now output) × Placed rates at ⌝ }
+    ensures { λ r. ⌜ ScanEnsures channels (waiting .0) rates at (framesOf channels (tail .0) (now (stage .entry))) (now (output .entry)) (now (output .exit)) r ⌝ }
 {
     let t = tail.0;
     let w = waiting.0;

@@ -13,7 +13,7 @@ use borrow.Author.Tests.{le-leb, lt-leb}
 use lib.Dec.{leb}
 use lib.Ieee.{Float, binary32, mul, div, toUnsigned}
 use Rattle.floats.specs.Numbers.{two}
-use Rattle.period.specs.Rates.{minPeriod, maxPeriod, maxRequired, Opened}
+use Rattle.period.specs.Rates.{minPeriod, maxPeriod, maxRequired, InLimits}
 use Rattle.sonic.specs.declared.SonicStream.{SonicStream}
 use Rattle.reels.specs.declared.areas.Plan.{Plan}
 use Rattle.reels.specs.declared.areas.Room.{Room}
@@ -71,7 +71,7 @@ module _ (s : SonicStream) where
   planned i t h =
       rw (le-leb (heldMost s * s .channels) 196608 i, le-leb (stagedMost s * s .channels) 524288 t, le-leb (madeMost s * s .channels) 524288 h)
 
-  plan-usable : Opened (s .rate) (s .channels) → Usable (planOf s)
+  plan-usable : InLimits (s .rate) (s .channels) → Usable (planOf s)
   plan-usable o =
       record {
         rate-low = omega (arith, o .rate-low);
@@ -83,7 +83,7 @@ module _ (s : SonicStream) where
             omega (arith, fill-most (s .speed) (s .pitch) (minPeriod (s .rate)) (maxRequired (s .rate)), period-most (s .rate) (o .rate-high));
       }
 
-  pub usable-of : (p : Plan) → Opened (s .rate) (s .channels) → serviceOf s ≡ Room.Planned p → Usable p
+  pub usable-of : (p : Plan) → InLimits (s .rate) (s .channels) → serviceOf s ≡ Room.Planned p → Usable p
   unfolding serviceOf
   usable-of p o = go (served s)
     where

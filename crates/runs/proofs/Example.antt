@@ -29,7 +29,7 @@ use Rattle.sonic.specs.declared.Wrote.{Wrote}
 use Rattle.sonic.specs.declared.Gave.{Gave}
 use Rattle.sonic.specs.Settings.{fresh, settingsWith, positionWith, withSetting}
 use Rattle.sonic.specs.Stream.{Areas, areas, keptIn, stateIn, streamWith, streamOf, keeping}
-use Rattle.sonic.specs.Refusals.{rateBad, channelsBad, openedInOrder, settingsInOrder, recordInOrder, positionsInOrder, inOrder, sizesBad, partsBad}
+use Rattle.sonic.specs.Refusals.{rateBad, channelsBad, openedInOrder, settingsInOrder, prevInOrder, positionsInOrder, inOrder, sizesBad, partsBad}
 use Rattle.sonic.specs.Refusals.{areasBad, outputBad, refusal, readRefusal}
 use Rattle.sonic.specs.Calls.{openCall, changed, setCall, refusedCall, acceptedCall, writeCall, flushCall}
 use Rattle.sonic.specs.Reading.{readCount, fewer, readCall}
@@ -124,7 +124,7 @@ example : RunOf 8000 1
 unfolding no-room small copies fair fair-left softer too-short short takes-one copies-softer large flushes takes-rest samples
     opening after afterSetting afterCall afterRead Agree leave
     setCall changed settingsWith positionWith keeping writeCall flushCall refusedCall acceptedCall readCall readCount fewer
-    refusal readRefusal inOrder openedInOrder settingsInOrder recordInOrder positionsInOrder areasBad sizesBad partsBad outputBad rateBad channelsBad
+    refusal readRefusal inOrder openedInOrder settingsInOrder prevInOrder positionsInOrder areasBad sizesBad partsBad outputBad rateBad channelsBad
     streamOf streamWith keptOf keptIn stateIn stateOf framesOf wholeFrames
     writeWork flushWork process finished taken takenAt copied nothing joined removed expected cleared adjustRate
     sampleIn sampleOut unitClamped playTimeGrown playTimeLeft localSpeed speedChanges expectedFrames gain scaled amplified clampZ clamped

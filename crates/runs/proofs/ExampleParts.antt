@@ -31,7 +31,7 @@ use Rattle.sonic.specs.declared.Changed.{Changed}
 use Rattle.sonic.specs.declared.Wrote.{Wrote}
 use Rattle.sonic.specs.Settings.{fresh, settingsWith, positionWith, withSetting}
 use Rattle.sonic.specs.Stream.{Areas, areas, keptIn, stateIn, streamWith, streamOf, keeping}
-use Rattle.sonic.specs.Refusals.{rateBad, channelsBad, openedInOrder, settingsInOrder, recordInOrder, positionsInOrder, inOrder}
+use Rattle.sonic.specs.Refusals.{rateBad, channelsBad, openedInOrder, settingsInOrder, prevInOrder, positionsInOrder, inOrder}
 use Rattle.sonic.specs.Refusals.{sizesBad, partsBad, areasBad, refusal}
 use Rattle.sonic.specs.Calls.{openCall, changed, setCall, refusedCall, acceptedCall, writeCall, flushCall}
 use Rattle.runs.specs.Ledger.{setting, write, begun, entry, posted, ledgerFrom, ledger}
@@ -113,7 +113,7 @@ at-once : RunOf 8000 1
 unfolding slower deeper lent early late click made made-of-all all-at-once
     opening after afterSetting afterCall Agree leave
     setCall changed settingsWith positionWith keeping writeCall refusedCall acceptedCall
-    refusal inOrder openedInOrder settingsInOrder recordInOrder positionsInOrder areasBad sizesBad partsBad rateBad channelsBad
+    refusal inOrder openedInOrder settingsInOrder prevInOrder positionsInOrder areasBad sizesBad partsBad rateBad channelsBad
     streamOf streamWith keptOf keptIn stateIn stateOf framesOf wholeFrames
     writeWork process finished taken takenAt copied nothing joined removed
     sampleIn unitClamped playTimeGrown playTimeLeft localSpeed speedChanges scaled clampZ clamped
@@ -144,7 +144,7 @@ in-parts : RunOf 8000 1
 unfolding slower deeper lent early late click made made-of-all first-part second-part
     opening after afterSetting afterCall Agree leave
     setCall changed settingsWith positionWith keeping writeCall refusedCall acceptedCall
-    refusal inOrder openedInOrder settingsInOrder recordInOrder positionsInOrder areasBad sizesBad partsBad rateBad channelsBad
+    refusal inOrder openedInOrder settingsInOrder prevInOrder positionsInOrder areasBad sizesBad partsBad rateBad channelsBad
     streamOf streamWith keptOf keptIn stateIn stateOf framesOf wholeFrames
     writeWork process finished taken takenAt copied nothing joined removed
     sampleIn unitClamped playTimeGrown playTimeLeft localSpeed speedChanges scaled clampZ clamped
@@ -182,7 +182,7 @@ with-flush : RunOf 8000 1
 unfolding slower deeper lent early late click made made-of-all all-at-once made-by-flush long flush-behind
     opening after afterSetting afterCall Agree leave
     setCall changed settingsWith positionWith keeping writeCall flushCall refusedCall acceptedCall
-    refusal inOrder openedInOrder settingsInOrder recordInOrder positionsInOrder areasBad sizesBad partsBad rateBad channelsBad
+    refusal inOrder openedInOrder settingsInOrder prevInOrder positionsInOrder areasBad sizesBad partsBad rateBad channelsBad
     streamOf streamWith keptOf keptIn stateIn stateOf framesOf wholeFrames
     writeWork flushWork process finished expected expectedFrames cleared taken takenAt copied nothing joined removed
     sampleIn unitClamped playTimeGrown playTimeLeft localSpeed speedChanges scaled clampZ clamped

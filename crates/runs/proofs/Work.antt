@@ -49,7 +49,7 @@ stretched-leaves : (u : Setup) (x : Float) (s : State) → Leaves s (stretched u
 unfolding stretched
 stretched-leaves u x s =
     let a : Stretch = answerFor (callAt u x s) (flat (s .input)) (placeOf s) (stepsAt u x s) in
-    let t : State = withInput s (s .input) (a .«record») (s .play) (a .«time_error») in
+    let t : State = withInput s (s .input) (a .prev) (s .play) (a .«time_error») in
     let l : Leaves s t = record { settings = refl; tail = refl; at = refl; input = le-refl (length (s .input)) } in
     cond-cases (Leaves s) (stalled (stepsAt u x s)) t (removed (a .used .0) t) (λ e. l) (λ e. removed-leaves (a .used .0) s t l)
 

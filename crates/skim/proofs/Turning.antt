@@ -20,7 +20,7 @@ use Rattle.reels.specs.declared.reading.Read.{Read}
 use Rattle.reels.specs.declared.reel.Reel.{Reel}
 use Rattle.reels.specs.Reels.{going, SameInput, Answered, WrittenOut, Drained, BlockRead}
 use Rattle.skim.specs.Stretching.{flushes, PartWritten, BlockWritten}
-use Rattle.skim.specs.Stretching.{Turned, Flushed, Ready, Complete}
+use Rattle.skim.specs.Stretching.{Turned, Flushed, ReelReady, Complete}
 use Rattle.reels.proofs.Blocks.{counted, full-whole}
 use Rattle.reels.proofs.Going.{failed-once, going-parts, going-of, same-input, input-trans, out-still}
 
@@ -166,7 +166,7 @@ pub record Level (channels : ℕ) (r : Reel) : Type 0 where
   pub partial-last : r .ended ≡ false → r .partial ≡ 0
   pub unflushed : r .flushed ≡ false
 
-pub level-start : {p : Plan} {r : Reel} → Ready p r → Level (p .channels) r
+pub level-start : {p : Plan} {r : Reel} → ReelReady p r → Level (p .channels) r
 level-start s = record { channels-are = s .channels-are; level = λ e. s .level; partial-last = λ e. s .none-left; unflushed = s .unflushed }
 
 pub level-again : {r r' : Reel} {channels : ℕ} → Level channels r → Turned r r' → Level channels r'

@@ -1,7 +1,7 @@
 -- What a whole run promises: no frame is lost unseen. In this order:
 --   flushes, statusOf                  what a run is asked; the status
 --   PartWritten, BlockWritten          after some writes of a block, after all of them
---   Turned, Flushed, Ready, Complete   after a block read and written; after the flush; before and after a whole run
+--   Turned, Flushed, ReelReady, Complete   after a block read and written; after the flush; before and after a whole run
 -- Definitions only. Assumes nothing.
 use mathlib.Core.Path.{_≡_}
 use mathlib.Core.Bool.{Bool, true, false, not, cond, _&&_, _||_}
@@ -52,7 +52,7 @@ pub record Flushed (answer : Wrote) (r r' : Reel) : Type 0 where
   pub done : flushes r ≡ true → Answered (r .written) true r answer r'
 
 -- what a whole run begins with; blocks are of whole frames
-pub record Ready (p : Plan) (r : Reel) : Type 0 where
+pub record ReelReady (p : Plan) (r : Reel) : Type 0 where
   pub channels-are : r .stream .channels ≡ p .channels
   pub block-whole : p .block % p .channels ≡ 0
   pub level : r .written ≡ r .«frames_in»

@@ -13,7 +13,7 @@ ghost use Rattle.sonic.specs.Stream.{areas};
 ghost use Rattle.sonic.specs.Calls.{writeCall, flushCall};
 ghost use Rattle.reels.specs.Areas.{Usable};
 ghost use Rattle.reels.specs.Reels.{Answered};
-ghost use Rattle.skim.specs.Stretching.{BlockWritten, Turned, Flushed, Ready, Complete};
+ghost use Rattle.skim.specs.Stretching.{BlockWritten, Turned, Flushed, ReelReady, Complete};
 
 // Where a write that begins at `at` ends: it fills the input up to `full` frames, or takes all that is left.
 fn write_end(at: usize, len: usize, held: usize, full: usize, channels: usize) -> usize
@@ -141,7 +141,7 @@ fn flush(
 
 // Does a job. A proved loop has to end, and nothing says that the input does: a run that uses up its turns, which none does, has failed.
 pub(crate) fn stretch(mut reel: Reel, plan: Plan) -> Reel
-    requires { ⌜ Usable plan × Ready plan reel ⌝ }
+    requires { ⌜ Usable plan × ReelReady plan reel ⌝ }
     ensures { λ r. ⌜ Complete r ⌝ }
 {
     let mut input = [0i16; areas::INPUT];

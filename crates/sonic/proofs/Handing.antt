@@ -21,7 +21,7 @@ use Rattle.process.specs.Filling.{Ready}
 use Rattle.process.proofs.Taken.{process-settings}
 use Rattle.sonic.specs.declared.SonicStream.{SonicStream}
 use Rattle.sonic.specs.Stream.{Areas, setupOf, settingsOf, keptIn, streamWith}
-use Rattle.sonic.specs.Refusals.{rateBad, channelsBad, openedInOrder, settingsInOrder, recordInOrder, inOrder}
+use Rattle.sonic.specs.Refusals.{rateBad, channelsBad, openedInOrder, settingsInOrder, prevInOrder, inOrder}
 use Rattle.sonic.specs.Calls.{OrderAfter}
 use Rattle.sonic.specs.Working.{keptWith, AddedEnsures, clearedKept}
 use Rattle.sonic.proofs.InOrder.{both, tests-of, in-order-of, opened-of}
@@ -52,8 +52,8 @@ module _ (s : SonicStream) (e : inOrder s ≡ true) (t : Kept) (same : t .settin
   unfolding settingsInOrder after streamWith
   settings-after = rw same (tests-of s e .settings)
 
-  record-after : recordInOrder after ≡ true
-  unfolding recordInOrder after streamWith
+  record-after : prevInOrder after ≡ true
+  unfolding prevInOrder after streamWith
   record-after = rw (period-of (s .rate) (t .found) (r .found .period-in), le-leb (t .found .«min_diff») widestGap (r .found .min-diff-in))
 
   kept-in-order : inOrder (streamWith (setupOf s) t) ≡ true

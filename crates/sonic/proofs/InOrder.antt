@@ -19,7 +19,7 @@ use lib.IntN.{ℤ}
 use lib.Ieee.{Float, le, eq}
 use lib.ListN.{length}
 use Rattle.floats.specs.Settings.{samplePeriod, minPitch, maxPitch, minVolume, maxVolume}
-use Rattle.period.specs.Rates.{minPeriod, maxPeriod, maxRequired, Opened}
+use Rattle.period.specs.Rates.{minPeriod, maxPeriod, maxRequired, InLimits}
 use Rattle.period.specs.Search.{widestGap}
 use Rattle.period.specs.Pitch as Pitch
 use Rattle.rate.specs.declared.Rates.{Rates}
@@ -35,7 +35,7 @@ use Rattle.sonic.specs.Refusals.{
   within,
   openedInOrder,
   settingsInOrder,
-  recordInOrder,
+  prevInOrder,
   positionsInOrder,
   inOrder,
   maxArea,
@@ -66,23 +66,23 @@ holds e = subst T (sym e) tt
 pub record Tests (s : SonicStream) : Type 0 where
   pub opened : openedInOrder s ≡ true
   pub settings : settingsInOrder s ≡ true
-  pub found : recordInOrder s ≡ true
+  pub found : prevInOrder s ≡ true
   pub positions : positionsInOrder (ratesOf (s .rate) (s .pitch)) s ≡ true
 
 pub tests-of : (s : SonicStream) → inOrder s ≡ true → Tests s
 unfolding inOrder
 tests-of s e =
     let positions : Bool = positionsInOrder (ratesOf (s .rate) (s .pitch)) s in
-    let a = both (openedInOrder s) (settingsInOrder s && (recordInOrder s && positions)) e in
-    let b = both (settingsInOrder s) (recordInOrder s && positions) (a .1) in
-    let c = both (recordInOrder s) positions (b .1) in
+    let a = both (openedInOrder s) (settingsInOrder s && (prevInOrder s && positions)) e in
+    let b = both (settingsInOrder s) (prevInOrder s && positions) (a .1) in
+    let c = both (prevInOrder s) positions (b .1) in
     record { opened = a .0; settings = b .0; found = c .0; positions = c .1 }
 
 pub in-order-of : (s : SonicStream) → Tests s → inOrder s ≡ true
 unfolding inOrder
 in-order-of s t = rw (t .opened, t .settings, t .found, t .positions)
 
-pub opened-range : (s : SonicStream) → openedInOrder s ≡ true → Opened (s .rate) (s .channels)
+pub opened-range : (s : SonicStream) → openedInOrder s ≡ true → InLimits (s .rate) (s .channels)
 unfolding openedInOrder rateBad channelsBad
 opened-range s e =
     let same : Bool = eq (s .«sample_period») (samplePeriod (s .rate)) in
@@ -97,7 +97,7 @@ opened-range s e =
       channels-high = ltb-false 32 (s .channels) (c .1);
     }
 
-pub opened-of : (s : SonicStream) → inOrder s ≡ true → Opened (s .rate) (s .channels)
+pub opened-of : (s : SonicStream) → inOrder s ≡ true → InLimits (s .rate) (s .channels)
 opened-of s e = opened-range s (tests-of s e .opened)
 
 -- a setting in its range
@@ -131,14 +131,14 @@ period-in rate q e = go (eqb q 0) refl e
         let r = both (leb (minPeriod rate) q) (leb q (maxPeriod rate)) h in
         inr (record { low = leb-true (minPeriod rate) q (r .0); high = leb-true q (maxPeriod rate) (r .1) })
 
-found-order : (s : SonicStream) → recordInOrder s ≡ true → Pitch.InOrder (s .rate) (keptIn s .found)
-unfolding recordInOrder keptIn
+found-order : (s : SonicStream) → prevInOrder s ≡ true → Pitch.PrevInOrder (s .rate) (keptIn s .found)
+unfolding prevInOrder keptIn
 found-order s e =
     let q = s .«prev_period» in
     let r = both (eqb q 0 || (leb (minPeriod (s .rate)) q && leb q (maxPeriod (s .rate)))) (leb (s .«prev_min_diff») widestGap) e in
     record { period-in = period-in (s .rate) q (r .0); min-diff-in = leb-true (s .«prev_min_diff») widestGap (r .1) }
 
-position-order : (r : Rates) (s : SonicStream) → positionsInOrder r s ≡ true → Tail.InOrder r (keptIn s .at)
+position-order : (r : Rates) (s : SonicStream) → positionsInOrder r s ≡ true → Tail.PositionInOrder r (keptIn s .at)
 unfolding positionsInOrder keptIn
 position-order r s e =
     let least : ℕ = ceilDiv (s .«old_rate_position» * r .new) (r .old) in

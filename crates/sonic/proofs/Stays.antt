@@ -29,7 +29,7 @@ use Rattle.sonic.specs.declared.Setting.the-variants.{Speed, Pitch, Volu
 use Rattle.sonic.specs.declared.Opened.{Opened}
 use Rattle.sonic.specs.Settings.{fresh, settingsWith, positionWith}
 use Rattle.sonic.specs.Stream.{keptIn, keeping, streamOf, streamWith, zeroStream}
-use Rattle.sonic.specs.Refusals.{rateBad, channelsBad, within, openedInOrder, settingsInOrder, recordInOrder, positionsInOrder, inOrder}
+use Rattle.sonic.specs.Refusals.{rateBad, channelsBad, within, openedInOrder, settingsInOrder, prevInOrder, positionsInOrder, inOrder}
 use Rattle.sonic.specs.Calls.{openCall, changed}
 use Rattle.sonic.specs.Reading.{fewer}
 use Rattle.sonic.proofs.InOrder.{neither, tests-of, in-order-of, opened-of, within-range, Ranges, ranges-of, settings-of, ready-of}
@@ -58,13 +58,13 @@ eq-self (inf false) h = refl
 eq-self (fin true m e) h = rw (eq-eqb (m * up e * down e) (m * up e * down e) refl)
 eq-self (fin false m e) h = rw (eq-eqb (m * up e * down e) (m * up e * down e) refl)
 
-pub positions-of : (r : Rates) (s : SonicStream) → Tail.InOrder r (keptIn s .at) → positionsInOrder r s ≡ true
+pub positions-of : (r : Rates) (s : SonicStream) → Tail.PositionInOrder r (keptIn s .at) → positionsInOrder r s ≡ true
 unfolding positionsInOrder keptIn
 positions-of r s h =
     rw (lt-ltb (s .«old_rate_position») (r .old) (h .below), eq-eqb (s .«new_rate_position») (ceilDiv (s .«old_rate_position» * r .new) (r .old)) (h .least))
 
 -- positions of 0 are in order for every pitch
-start-in : (rate : ℕ) (pitch : Float) → 1000 ≤ rate → rate ≤ 500000 → within minPitch maxPitch pitch ≡ true → Tail.InOrder (ratesOf rate pitch) start
+start-in : (rate : ℕ) (pitch : Float) → 1000 ≤ rate → rate ≤ 500000 → within minPitch maxPitch pitch ≡ true → Tail.PositionInOrder (ratesOf rate pitch) start
 start-in rate pitch low high e =
     let p = within-range minPitch maxPitch pitch e in
     let w = rates-within rate pitch low high (p .0) (p .1) in
@@ -89,7 +89,7 @@ fresh-in-order rate channels r c =
     let s : SonicStream = streamOf (setupFor rate channels) fresh 0 in
     let h = rate-in rate r in
     let opened : openedInOrder s ≡ true = unfold openedInOrder in rw (r, c, period-same rate (h .0) (h .1)) in
-    let found : recordInOrder s ≡ true = unfold recordInOrder in refl in
+    let found : prevInOrder s ≡ true = unfold prevInOrder in refl in
     in-order-of s
     (record {
       opened = opened;
@@ -117,9 +117,9 @@ open-in-order rate channels s e = go (rateBad rate) (channelsBad channels) refl 
 
 -- all but settings and positions is as it was
 with-setting : (s : SonicStream) (v : Setting) → inOrder s ≡ true → Ranges (keeping s (changed v (keptIn s)))
-    → Tail.InOrder (ratesOf (s .rate) (keeping s (changed v (keptIn s)) .pitch)) (positionWith v (keptIn s .at))
+    → Tail.PositionInOrder (ratesOf (s .rate) (keeping s (changed v (keptIn s)) .pitch)) (positionWith v (keptIn s .at))
     → inOrder (keeping s (changed v (keptIn s))) ≡ true
-unfolding openedInOrder recordInOrder keeping streamWith changed keptIn
+unfolding openedInOrder prevInOrder keeping streamWith changed keptIn
 with-setting s v e r p =
     let t = tests-of s e in
     let s' : SonicStream = keeping s (changed v (keptIn s)) in
@@ -146,5 +146,5 @@ set-in-order s (Volume x) e =
 -- ---- a read
 
 pub read-in-order : (s : SonicStream) (n : ℕ) → inOrder s ≡ true → inOrder (keeping s (fewer n (keptIn s))) ≡ true
-unfolding inOrder openedInOrder settingsInOrder recordInOrder positionsInOrder keeping streamWith fewer keptIn
+unfolding inOrder openedInOrder settingsInOrder prevInOrder positionsInOrder keeping streamWith fewer keptIn
 read-in-order s n e = e

@@ -40,7 +40,7 @@ changed v k =
       waiting = k .waiting;
       at = positionWith v (k .at);
       found = k .found;
-      «play_time» = k .«play_time»;
+      «input_play_time» = k .«input_play_time»;
       «time_error» = k .«time_error»;
     }
 

@@ -33,7 +33,7 @@ fewer n k =
       waiting = record { 0 = k .waiting .0 - n };
       at = k .at;
       found = k .found;
-      «play_time» = k .«play_time»;
+      «input_play_time» = k .«input_play_time»;
       «time_error» = k .«time_error»;
     }
 

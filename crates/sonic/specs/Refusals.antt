@@ -37,8 +37,8 @@ settingsInOrder s =
     within minPitch maxPitch (s .speed) && (within minPitch maxPitch (s .pitch) && within minVolume maxVolume (s .volume))
 
 -- previous period 0 or in range, previous least mean in 0..=65,535
-unfoldable pub recordInOrder : SonicStream → Bool
-recordInOrder s =
+unfoldable pub prevInOrder : SonicStream → Bool
+prevInOrder s =
     (eqb (s .«prev_period») 0 || (leb (minPeriod (s .rate)) (s .«prev_period») && leb (s .«prev_period») (maxPeriod (s .rate))))
     && leb (s .«prev_min_diff») widestGap
 
@@ -49,7 +49,7 @@ positionsInOrder r s =
 
 -- play time, time error and counts are free
 unfoldable pub inOrder : SonicStream → Bool
-inOrder s = openedInOrder s && (settingsInOrder s && (recordInOrder s && positionsInOrder (ratesOf (s .rate) (s .pitch)) s))
+inOrder s = openedInOrder s && (settingsInOrder s && (prevInOrder s && positionsInOrder (ratesOf (s .rate) (s .pitch)) s))
 
 -- ---- 4 to 7, by the lengths of the areas
 

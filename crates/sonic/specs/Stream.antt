@@ -37,7 +37,7 @@ keptIn s =
       waiting = s .waiting;
       at = record { old = s .«old_rate_position»; new = s .«new_rate_position» };
       found = record { period = s .«prev_period»; «min_diff» = s .«prev_min_diff» };
-      «play_time» = s .«input_play_time»;
+      «input_play_time» = s .«input_play_time»;
       «time_error» = s .«time_error»;
     }
 
@@ -55,7 +55,7 @@ streamWith u k =
       pitch = k .settings .pitch;
       volume = k .settings .volume;
       «sample_period» = u .«sample_period»;
-      «input_play_time» = k .«play_time»;
+      «input_play_time» = k .«input_play_time»;
       «time_error» = k .«time_error»;
       «old_rate_position» = k .at .old;
       «new_rate_position» = k .at .new;
@@ -85,6 +85,6 @@ zeroStream =
       waiting = record { 0 = 0 };
       at = record { old = 0; new = 0 };
       found = record { period = 0; «min_diff» = 0 };
-      «play_time» = zero;
+      «input_play_time» = zero;
       «time_error» = zero;
     })

@@ -36,6 +36,6 @@ clearedKept w k =
       waiting = record { 0 = w };
       at = k .at;
       found = k .found;
-      «play_time» = zero;
+      «input_play_time» = zero;
       «time_error» = zero;
     }

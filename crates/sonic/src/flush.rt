@@ -25,7 +25,7 @@ fn cleared(mut kept: Kept, waiting: Frames, expected: Frames) -> Kept
     let before = waiting.0;
     let made = kept.waiting.0 - before;
     let most = expected.0;
-    kept.play_time = 0.0;
+    kept.input_play_time = 0.0;
     kept.time_error = 0.0;
     kept.held.0 = 0;
     kept.tail.0 = 0;

@@ -92,7 +92,7 @@ fn stream_with(setup: Setup, kept: Kept) -> SonicStream
         pitch: settings.pitch,
         volume: settings.volume,
         sample_period: setup.sample_period,
-        input_play_time: kept.play_time,
+        input_play_time: kept.input_play_time,
         time_error: kept.time_error,
         old_rate_position: at.old,
         new_rate_position: at.new,
@@ -141,7 +141,7 @@ impl SonicStream {
                 period: self.prev_period,
                 min_diff: self.prev_min_diff,
             },
-            play_time: self.input_play_time,
+            input_play_time: self.input_play_time,
             time_error: self.time_error,
         }
     }

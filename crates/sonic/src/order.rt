@@ -3,7 +3,7 @@ use crate::SonicStream;
 ghost use mathlib.Core.Path.{_≡_};
 ghost use Prim.Native.Nat.{_≤_};
 ghost use Rattle.rate.specs.Halving.{ratesOf};
-ghost use Rattle.sonic.specs.Refusals.{inOrder, openedInOrder, settingsInOrder, recordInOrder, positionsInOrder};
+ghost use Rattle.sonic.specs.Refusals.{inOrder, openedInOrder, settingsInOrder, prevInOrder, positionsInOrder};
 
 // Whether rate and channels are in range, and the sample period is that of the rate.
 fn opened_in_order(stream: SonicStream) -> bool
@@ -32,8 +32,8 @@ fn settings_in_order(stream: SonicStream) -> bool
 }
 
 // Whether the previous period is 0 or in the range of the rate, and the previous least mean one of 16-bit differences.
-fn record_in_order(stream: SonicStream) -> bool
-    ensures { λ r. ⌜ r ≡ recordInOrder stream ⌝ }
+fn prev_in_order(stream: SonicStream) -> bool
+    ensures { λ r. ⌜ r ≡ prevInOrder stream ⌝ }
 {
     let rate = stream.rate as usize;
     let period = stream.prev_period;
@@ -73,7 +73,7 @@ pub(crate) fn in_order(stream: SonicStream) -> bool
     if !settings_in_order(stream) {
         return false;
     }
-    if !record_in_order(stream) {
+    if !prev_in_order(stream) {
         return false;
     }
     positions_in_order(stream)

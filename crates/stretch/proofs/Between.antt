@@ -11,12 +11,12 @@ use lib.Seq.{paste, paste-zero}
 use Rattle.frames.specs.declared.Frames.{Frames}
 use Rattle.frames.proofs.Pasted.{paste-front}
 use Rattle.period.specs.Rates.{maxRequired}
-use Rattle.period.specs.Pitch.{InOrder}
-use Rattle.stretch.specs.declared.Call.{Call}
+use Rattle.period.specs.Pitch.{PrevInOrder}
+use Rattle.stretch.specs.declared.StretchCall.{StretchCall}
 use Rattle.stretch.specs.declared.Place.{Place}
 use Rattle.stretch.specs.declared.Step.{Step}
 use Rattle.stretch.specs.declared.Turn.the-variants.{NoRoom, Went}
-use Rattle.stretch.specs.Steps.{nextStep, framesOut, stalls, samplesOut, recordAfter, placeAfter, after, turnFor, stageFor, Ready, Sound}
+use Rattle.stretch.specs.Steps.{nextStep, framesOut, stalls, samplesOut, prevAfter, placeAfter, after, turnFor, stageFor, StretchReady, Sound}
 use Rattle.stretch.specs.Speed.{steps, framesMade, samplesOf, lastPlace, stalled}
 use Rattle.stretch.proofs.Pasting.{paste-append}
 use Rattle.stretch.proofs.Soundness.{nextStep-sound, samplesOut-length, sound-in}
@@ -24,13 +24,13 @@ use Rattle.stretch.proofs.Progress.{next, further, steps-on, steps-end}
 use Rattle.stretch.proofs.Turning.{Gone, gone, no-room, stage-written, stage-left}
 
 -- what a call is lent: the frames held, and room for `room` frames at the place `to` of the stage
-pub record Lent (u : Call) (x stage : List ℤ) (to room : ℕ) : Type 0 where
-  pub ready : Ready u
+pub record StretchLent (u : StretchCall) (x stage : List ℤ) (to room : ℕ) : Type 0 where
+  pub ready : StretchReady u
   pub whole : u .held .0 * u .channels ≤ length x
   pub area : to + room * u .channels ≤ length stage
 
 -- `made` frames of the call that began at h₀ stand at the place `to` of the stage; h is the place that it has come to
-pub record Going (u : Call) (x : List ℤ) (h₀ : Place) (stage₀ stage : List ℤ) (to room : ℕ) (h : Place) (made : ℕ) : Type 0 where
+pub record Going (u : StretchCall) (x : List ℤ) (h₀ : Place) (stage₀ stage : List ℤ) (to room : ℕ) (h : Place) (made : ℕ) : Type 0 where
   pub front : List ℤ
   pub front-length : length front ≡ made * u .channels
   pub stage-is : stage ≡ paste stage₀ to front (made * u .channels)
@@ -39,20 +39,20 @@ pub record Going (u : Call) (x : List ℤ) (h₀ : Place) (stage₀ stage : List
   pub place : lastPlace u x h₀ (steps u x h₀) ≡ lastPlace u x h (steps u x h)
   pub stall : stalled (steps u x h₀) ≡ stalled (steps u x h)
   pub fits : made ≤ room
-  pub in-order : InOrder (u .rate) (h .«record»)
+  pub in-order : PrevInOrder (u .rate) (h .prev)
   pub within : h .position .0 ≤ u .held .0
 
 -- the call has ended at h: all its frames are made and stand in the stage
-pub record Ended (u : Call) (x : List ℤ) (h₀ : Place) (stage₀ stage : List ℤ) (to room : ℕ) (h : Place) (made : ℕ) (t : Bool) : Type 0 where
+pub record Ended (u : StretchCall) (x : List ℤ) (h₀ : Place) (stage₀ stage : List ℤ) (to room : ℕ) (h : Place) (made : ℕ) (t : Bool) : Type 0 where
   pub frames : framesMade (steps u x h₀) ≡ made
   pub samples : stage ≡ paste stage₀ to (samplesOf (u .channels) x (h₀ .position .0) (steps u x h₀)) (made * u .channels)
   pub place : lastPlace u x h₀ (steps u x h₀) ≡ h
   pub stall : stalled (steps u x h₀) ≡ t
   pub fits : made ≤ room
-  pub in-order : InOrder (u .rate) (h .«record»)
+  pub in-order : PrevInOrder (u .rate) (h .prev)
   pub kept : take to stage ≡ take to stage₀
 
-pub going-start : (u : Call) (x : List ℤ) (h : Place) (stage : List ℤ) (to room : ℕ) → InOrder (u .rate) (h .«record») → h .position .0 ≤ u .held .0
+pub going-start : (u : StretchCall) (x : List ℤ) (h : Place) (stage : List ℤ) (to room : ℕ) → PrevInOrder (u .rate) (h .prev) → h .position .0 ≤ u .held .0
     → Going u x h stage stage to room h 0
 going-start u x h stage to room o w =
     record {
@@ -68,8 +68,8 @@ going-start u x h stage to room o w =
       within = w;
     }
 
-module _ {u : Call} {x : List ℤ} {h₀ : Place} {stage₀ stage : List ℤ} {to room : ℕ} {h : Place} {made : ℕ}
-    (l : Lent u x stage₀ to room) (g : Going u x h₀ stage₀ stage to room h made) where
+module _ {u : StretchCall} {x : List ℤ} {h₀ : Place} {stage₀ stage : List ℤ} {to room : ℕ} {h : Place} {made : ℕ}
+    (l : StretchLent u x stage₀ to room) (g : Going u x h₀ stage₀ stage to room h made) where
   -- what is made lies within the room, and what is left of it behind that
   pub going-room : made * u .channels + (room - made) * u .channels ≡ room * u .channels
   going-room =
@@ -121,7 +121,7 @@ module _ {u : Call} {x : List ℤ} {h₀ : Place} {stage₀ stage : List ℤ} {t
     -- the step that is due is taken
     module _ {stage' : List ℤ} {p : Place} {n : Frames} {t : Bool} (w : turnFor u x h (room - made) (nextStep u x h) ≡ Went p n t)
         (wrote : stage' ≡ stageFor u x h (room - made) stage (to + made * u .channels) (nextStep u x h))
-        (o : InOrder (u .rate) (recordAfter u x h (nextStep u x h))) where
+        (o : PrevInOrder (u .rate) (prevAfter u x h (nextStep u x h))) where
       abbrev more : List ℤ
       more = samplesOut (u .channels) x (h .position .0) (nextStep u x h)
 

@@ -9,15 +9,15 @@ use lib.ListN.{length}
 use Rattle.frames.specs.declared.Frames.{Frames}
 use Rattle.period.specs.Rates.{maxRequired}
 use Rattle.period.specs.Pitch.{PeriodIn}
-use Rattle.stretch.specs.declared.Call.{Call}
+use Rattle.stretch.specs.declared.StretchCall.{StretchCall}
 use Rattle.stretch.specs.declared.Place.{Place}
 use Rattle.stretch.specs.declared.Step.{Step}
 use Rattle.stretch.specs.declared.Step.the-variants.{Copied, Inserted}
-use Rattle.stretch.specs.Steps.{framesOut, framesUsed, Ready}
+use Rattle.stretch.specs.Steps.{framesOut, framesUsed, StretchReady}
 use Rattle.stretch.specs.Speed.{steps, framesMade, samplesOf, lastPlace, stalled, answerFor}
 use Rattle.stretch.proofs.Taken.{AllSound, steps-sound, member-sound, front-in, sound-length, stalled-member, member-stalled, steps-ends}
 
-module _ {u : Call} (x : List ℤ) (h : Place) (r : Ready u) (o : PeriodIn (u .rate) (h .«record»)) where
+module _ {u : StretchCall} (x : List ℤ) (h : Place) (r : StretchReady u) (o : PeriodIn (u .rate) (h .prev)) where
   sound : AllSound u x h (steps u x h)
   sound = steps-sound x h r o
 

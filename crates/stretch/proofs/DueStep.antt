@@ -8,12 +8,12 @@ use lib.Ieee.{Float, lt}
 use Rattle.frames.specs.declared.Frames.{Frames}
 use Rattle.floats.specs.Numbers.{one}
 use Rattle.floats.specs.Steps.{copyingDue, copyCount, skipCount, insertCount}
-use Rattle.stretch.specs.declared.Call.{Call}
+use Rattle.stretch.specs.declared.StretchCall.{StretchCall}
 use Rattle.stretch.specs.declared.Place.{Place}
 use Rattle.stretch.specs.declared.Step.the-variants.{Copied, Skipped, Inserted}
-use Rattle.stretch.specs.Steps.{searchAt, periodStep, nextStep, recordAfter}
+use Rattle.stretch.specs.Steps.{searchAt, periodStep, nextStep, prevAfter}
 
-module _ (u : Call) (x : List ℤ) (h : Place) where
+module _ (u : StretchCall) (x : List ℤ) (h : Place) where
   pub nextStep-copied : copyingDue (u .speed) (h .«time_error») ≡ true
       → nextStep u x h ≡ Copied (record { 0 = copyCount (h .«time_error») (u .speed) (u .«sample_period») (u .held .0 - h .position .0) })
   unfolding nextStep
@@ -24,12 +24,12 @@ module _ (u : Call) (x : List ℤ) (h : Place) where
   nextStep-searched e = rw e
 
   -- both steps of a period take the record of the search
-  pub recordAfter-period : (s : Float) (period : Frames) → recordAfter u x h (periodStep s period) ≡ searchAt u x h .«record»
-  unfolding recordAfter
-  recordAfter-period s period = go (lt one s)
+  pub prevAfter-period : (s : Float) (period : Frames) → prevAfter u x h (periodStep s period) ≡ searchAt u x h .prev
+  unfolding prevAfter
+  prevAfter-period s period = go (lt one s)
     where
       go : (t : Bool)
-          → recordAfter u x h (cond t (Skipped period (record { 0 = skipCount s (period .0) })) (Inserted period (record { 0 = insertCount s (period .0) })))
-          ≡ searchAt u x h .«record»
+          → prevAfter u x h (cond t (Skipped period (record { 0 = skipCount s (period .0) })) (Inserted period (record { 0 = insertCount s (period .0) })))
+          ≡ searchAt u x h .prev
       go true = refl
       go false = refl

@@ -10,14 +10,14 @@ use Rattle.frames.proofs.Framing.{length-framesOf}
 use Rattle.frames.proofs.Behind.{behind-paste}
 use Rattle.frames.proofs.Room.{room-over}
 use Rattle.period.specs.Pitch.{PeriodIn}
-use Rattle.stretch.specs.declared.Call.{Call}
+use Rattle.stretch.specs.declared.StretchCall.{StretchCall}
 use Rattle.stretch.specs.declared.Place.{Place}
-use Rattle.stretch.specs.Steps.{Ready}
+use Rattle.stretch.specs.Steps.{StretchReady}
 use Rattle.stretch.specs.Speed.{steps, framesMade, samplesOf, stretchedFrames, Staged}
 use Rattle.stretch.proofs.Claims.{samplesOf-length}
 
-module _ {u : Call} {x : List ℤ} {h : Place} {room w : ℕ} {stage stage' : List ℤ} (g : Staged u x h room stage stage' (w * u .channels)) where
-  pub staged-behind : Ready u → PeriodIn (u .rate) (h .«record») → u .held .0 * u .channels ≤ length x → framesMade (steps u x h) ≤ room
+module _ {u : StretchCall} {x : List ℤ} {h : Place} {room w : ℕ} {stage stage' : List ℤ} (g : Staged u x h room stage stage' (w * u .channels)) where
+  pub staged-behind : StretchReady u → PeriodIn (u .rate) (h .prev) → u .held .0 * u .channels ≤ length x → framesMade (steps u x h) ≤ room
       → (w + framesMade (steps u x h)) * u .channels ≤ length stage → Behind (u .channels) w (framesMade (steps u x h)) stage stage' (stretchedFrames u x h)
   staged-behind r o whole fits area =
       let samples = samplesOf (u .channels) x (h .position .0) (steps u x h) in
@@ -26,7 +26,7 @@ module _ {u : Call} {x : List ℤ} {h : Place} {room w : ℕ} {stage stage' : Li
       let written = behind-paste (u .channels) w n stage samples area enough in
       subst (λ (l : List ℤ). Behind (u .channels) w n stage l (stretchedFrames u x h)) (sym (g .written fits)) written
 
-  pub staged-full : Ready u → length stage / u .channels - w < framesMade (steps u x h) → NoRoom (u .channels) w stage stage' (stretchedFrames u x h)
+  pub staged-full : StretchReady u → length stage / u .channels - w < framesMade (steps u x h) → NoRoom (u .channels) w stage stage' (stretchedFrames u x h)
   staged-full r over =
       let n = length-framesOf (u .channels) (framesMade (steps u x h)) (samplesOf (u .channels) x (h .position .0) (steps u x h)) in
       record {

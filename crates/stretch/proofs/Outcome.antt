@@ -9,14 +9,14 @@ use borrow.Author.Tests.{lt-ltb, le-ltb}
 use lib.IntN.{ℤ}
 use lib.ListN.{take}
 use lib.Seq.{paste}
-use Rattle.period.specs.Pitch.{InOrder}
-use Rattle.stretch.specs.declared.Call.{Call}
+use Rattle.period.specs.Pitch.{PrevInOrder}
+use Rattle.stretch.specs.declared.StretchCall.{StretchCall}
 use Rattle.stretch.specs.declared.Place.{Place}
 use Rattle.stretch.specs.declared.Stretched.the-variants.{Made, Full}
 use Rattle.stretch.specs.Speed.{steps, framesMade, samplesOf, answer, answerFor, changeSpeed, Staged}
 use Rattle.stretch.proofs.Between.{Ended}
 
-module _ {u : Call} {x : List ℤ} {h₀ : Place} {stage₀ stage : List ℤ} {to room : ℕ} {h : Place} {made : ℕ} {t : Bool}
+module _ {u : StretchCall} {x : List ℤ} {h₀ : Place} {stage₀ stage : List ℤ} {to room : ℕ} {h : Place} {made : ℕ} {t : Bool}
     (e : Ended u x h₀ stage₀ stage to room h made t) where
   pub ended-made : Made (answer made (cond t 0 (h .position .0)) h t) ≡ changeSpeed u x h₀ room
   unfolding changeSpeed answerFor
@@ -31,10 +31,10 @@ module _ {u : Call} {x : List ℤ} {h₀ : Place} {stage₀ stage : List ℤ} {t
       record {
         kept = e .kept;
         written = λ _. e .samples ∙ ap (λ (n : ℕ). paste stage₀ to samples (n * u .channels)) (sym (e .frames));
-        in-order = λ _. subst (λ (p : Place). InOrder (u .rate) (p .«record»)) (sym (e .place)) (e .in-order);
+        in-order = λ _. subst (λ (p : Place). PrevInOrder (u .rate) (p .prev)) (sym (e .place)) (e .in-order);
       }
 
-module _ (u : Call) (x : List ℤ) (h₀ : Place) (room : ℕ) (over : room < framesMade (steps u x h₀)) where
+module _ (u : StretchCall) (x : List ℤ) (h₀ : Place) (room : ℕ) (over : room < framesMade (steps u x h₀)) where
   pub full-made : Full ≡ changeSpeed u x h₀ room
   unfolding changeSpeed
   full-made = sym (rw (lt-ltb room (framesMade (steps u x h₀)) over))

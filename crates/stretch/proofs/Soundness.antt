@@ -16,34 +16,34 @@ use Rattle.floats.proofs.StepRules.{copyCount-ge, skipCount-le, insertCount-ge,
 use Rattle.period.specs.Rates.{maxRequired}
 use Rattle.period.specs.Pitch.{InRange, PeriodIn}
 use Rattle.period.proofs.Record.{findPitchPeriod-in, findPitchPeriod-record-in}
-use Rattle.stretch.specs.declared.Call.{Call}
+use Rattle.stretch.specs.declared.StretchCall.{StretchCall}
 use Rattle.stretch.specs.declared.Place.{Place}
 use Rattle.stretch.specs.declared.Step.{Step}
 use Rattle.stretch.specs.declared.Step.the-variants.{Copied, Skipped, Inserted}
-use Rattle.stretch.specs.Steps.{searchAt, nextStep, framesOut, framesUsed, framesRead, samplesOut, recordAfter, placeAfter, after, Ready, Sound}
+use Rattle.stretch.specs.Steps.{searchAt, nextStep, framesOut, framesUsed, framesRead, samplesOut, prevAfter, placeAfter, after, StretchReady, Sound}
 use Rattle.stretch.specs.Crossfade.{skipPitchPeriod, insertPitchPeriod}
 use Rattle.stretch.proofs.Crossfading.{overlapAdd-length, copyUnmodifiedSamples-length}
 use Rattle.stretch.proofs.DueStep.{nextStep-copied, nextStep-searched}
 
 -- ---- the step that is due
 
-module _ {u : Call} (x : List ℤ) (h : Place) (r : Ready u) (o : PeriodIn (u .rate) (h .«record»)) where
+module _ {u : StretchCall} (x : List ℤ) (h : Place) (r : StretchReady u) (o : PeriodIn (u .rate) (h .prev)) where
   period-in : InRange (u .rate) (searchAt u x h .period .0)
   unfolding searchAt
-  period-in = findPitchPeriod-in (drop (h .position .0 * u .channels) x) (h .«record») (r .opened) o
+  period-in = findPitchPeriod-in (drop (h .position .0 * u .channels) x) (h .prev) (r .opened) o
 
-  found-in : PeriodIn (u .rate) (searchAt u x h .«record»)
+  found-in : PeriodIn (u .rate) (searchAt u x h .prev)
   unfolding searchAt
-  found-in = findPitchPeriod-record-in (drop (h .position .0 * u .channels) x) (h .«record») (r .opened) o
+  found-in = findPitchPeriod-record-in (drop (h .position .0 * u .channels) x) (h .prev) (r .opened) o
 
-  record-in : (s : Step) → PeriodIn (u .rate) (recordAfter u x h s)
-  unfolding recordAfter
+  record-in : (s : Step) → PeriodIn (u .rate) (prevAfter u x h s)
+  unfolding prevAfter
   record-in (Copied n) = o
   record-in (Skipped period k) = found-in
   record-in (Inserted period k) = found-in
 
   -- the period record after any step is in the range
-  pub after-in : (s : Step) → PeriodIn (u .rate) (after u x h s .«record»)
+  pub after-in : (s : Step) → PeriodIn (u .rate) (after u x h s .prev)
   unfolding after placeAfter
   after-in s = record-in s
 

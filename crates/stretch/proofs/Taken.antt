@@ -12,26 +12,26 @@ use lib.IntN.{ℤ}
 use lib.ListN.{length, length-append}
 use Rattle.period.specs.Rates.{maxRequired}
 use Rattle.period.specs.Pitch.{PeriodIn}
-use Rattle.stretch.specs.declared.Call.{Call}
+use Rattle.stretch.specs.declared.StretchCall.{StretchCall}
 use Rattle.stretch.specs.declared.Place.{Place}
 use Rattle.stretch.specs.declared.Step.{Step}
 use Rattle.stretch.specs.declared.Step.the-variants.{Copied, Skipped, Inserted}
-use Rattle.stretch.specs.Steps.{framesOut, framesUsed, stalls, samplesOut, after, placeAfter, Ready, Sound}
+use Rattle.stretch.specs.Steps.{framesOut, framesUsed, stalls, samplesOut, after, placeAfter, StretchReady, Sound}
 use Rattle.stretch.specs.Speed.{steps, framesMade, samplesOf, lastPlace, stalled}
 use Rattle.stretch.proofs.Soundness.{nextStep-sound, samplesOut-length, sound-in}
 use Rattle.stretch.proofs.Progress.{steps-induct, after-position}
 
 -- ---- each step of a list is sound where it is taken
 
-abbrev pub AllSound : Call → List ℤ → Place → List Step → Type 0
+abbrev pub AllSound : StretchCall → List ℤ → Place → List Step → Type 0
 AllSound u x h [] = Unit {0}
 AllSound u x h (s ∷ ss) = Sound (u .held .0) (h .position .0) s × AllSound u x (after u x h s) ss
 
-pub steps-sound : {u : Call} (x : List ℤ) (h : Place) → Ready u → PeriodIn (u .rate) (h .«record») → AllSound u x h (steps u x h)
+pub steps-sound : {u : StretchCall} (x : List ℤ) (h : Place) → StretchReady u → PeriodIn (u .rate) (h .prev) → AllSound u x h (steps u x h)
 steps-sound {u} x h r o =
     steps-induct x r (AllSound u x) (λ _ _. tt) (λ p q d _. (nextStep-sound x p r q d, tt)) (λ p ss q d _ k. (nextStep-sound x p r q d, k)) h o
 
-module _ (u : Call) (x : List ℤ) where
+module _ (u : StretchCall) (x : List ℤ) where
   -- a step of the list is sound somewhere
   pub member-sound : (h : Place) (ss : List Step) {s : Step} → AllSound u x h ss → List·Memᴰ s ss → (at : ℕ) × Sound (u .held .0) at s
   member-sound h [] a m = absurd (List·Memᴰ·not-nil m)
@@ -96,7 +96,7 @@ member-stalled (t ∷ ss) {s} m r e =
 
 -- ---- where no step stalls, the list ends because too few frames are left
 
-pub steps-ends : {u : Call} (x : List ℤ) (h : Place) → Ready u → PeriodIn (u .rate) (h .«record»)
+pub steps-ends : {u : StretchCall} (x : List ℤ) (h : Place) → StretchReady u → PeriodIn (u .rate) (h .prev)
     → stalled (steps u x h) ≡ false → u .held .0 < lastPlace u x h (steps u x h) .position .0 + maxRequired (u .rate)
 unfolding stalled lastPlace
 steps-ends {u} x h r o =

@@ -9,7 +9,7 @@ use lib.Dec.{ltb}
 use lib.IntN.{ℤ}
 use lib.Seq.{paste}
 use Rattle.frames.specs.declared.Frames.{Frames}
-use Rattle.stretch.specs.declared.Call.{Call}
+use Rattle.stretch.specs.declared.StretchCall.{StretchCall}
 use Rattle.stretch.specs.declared.Place.{Place}
 use Rattle.stretch.specs.declared.Step.{Step}
 use Rattle.stretch.specs.declared.Turn.{Turn}
@@ -20,13 +20,13 @@ zero-one : _≡_ {A = ℕ} 0 1 → ⊥
 zero-one z = omega arith
 
 -- a turn that went on: the step's frames fit, the place after it, its frames, and whether it stalls
-pub record Gone (u : Call) (x : List ℤ) (h : Place) (room : ℕ) (s : Step) (p : Place) (n : Frames) (t : Bool) : Type 0 where
+pub record Gone (u : StretchCall) (x : List ℤ) (h : Place) (room : ℕ) (s : Step) (p : Place) (n : Frames) (t : Bool) : Type 0 where
   pub fits : framesOut s ≤ room
   pub place : p ≡ after u x h s
   pub frames : n .0 ≡ framesOut s
   pub stall : t ≡ stalls s
 
-module _ (u : Call) (x : List ℤ) (h : Place) (room : ℕ) (s : Step) where
+module _ (u : StretchCall) (x : List ℤ) (h : Place) (room : ℕ) (s : Step) where
   no-room-cases : (b : Bool) (w : Turn) → ltb room (framesOut s) ≡ b → cond b NoRoom w ≡ NoRoom → (w ≡ NoRoom → ⊥) → room < framesOut s
   no-room-cases true w e f g = ltb-true room (framesOut s) e
   no-room-cases false w e f g = absurd (g f)

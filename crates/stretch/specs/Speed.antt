@@ -12,8 +12,8 @@ use lib.Seq.{paste}
 use Rattle.frames.specs.Framing.{Frame, framesOf}
 use Rattle.period.specs.declared.PeriodRecord.{PeriodRecord}
 use Rattle.period.specs.Rates.{maxRequired}
-use Rattle.period.specs.Pitch.{InOrder}
-use Rattle.stretch.specs.declared.Call.{Call}
+use Rattle.period.specs.Pitch.{PrevInOrder}
+use Rattle.stretch.specs.declared.StretchCall.{StretchCall}
 use Rattle.stretch.specs.declared.Place.{Place}
 use Rattle.stretch.specs.declared.Step.{Step}
 use Rattle.stretch.specs.declared.Stretch.{Stretch}
@@ -22,7 +22,7 @@ use Rattle.stretch.specs.declared.Stretched.the-variants.{Made, Full}
 use Rattle.stretch.specs.Steps.{nextStep, framesOut, framesUsed, stalls, samplesOut, after}
 
 -- at most n steps, from a place until position + `max_required` exceeds the frames held or a step stalls
-unfoldable pub stepsIn : ℕ → Call → List ℤ → Place → List Step
+unfoldable pub stepsIn : ℕ → StretchCall → List ℤ → Place → List Step
 stepsIn zero u x h = []
 stepsIn (suc n) u x h =
     cond (leb (h .position .0 + maxRequired (u .rate)) (u .held .0))
@@ -30,7 +30,7 @@ stepsIn (suc n) u x h =
     []
 
 -- all of them: each uses a frame at least, so that there are no more than frames held (`proofs/Claims.antt`, steps-complete)
-unfoldable pub steps : Call → List ℤ → Place → List Step
+unfoldable pub steps : StretchCall → List ℤ → Place → List Step
 steps u x h = stepsIn (u .held .0) u x h
 
 -- the frames that steps give
@@ -44,7 +44,7 @@ samplesOf channels x at [] = []
 samplesOf channels x at (s ∷ ss) = samplesOut channels x at s ++ samplesOf channels x (at + framesUsed s) ss
 
 -- the place after the last
-unfoldable pub lastPlace : Call → List ℤ → Place → List Step → Place
+unfoldable pub lastPlace : StretchCall → List ℤ → Place → List Step → Place
 lastPlace u x h [] = h
 lastPlace u x h (s ∷ ss) = lastPlace u x (after u x h s) ss
 
@@ -55,28 +55,28 @@ stalled (s ∷ ss) = stalls s || stalled ss
 
 -- where a call begins
 abbrev pub begun : Float → PeriodRecord → Place
-begun error prev = record { position = record { 0 = 0 }; «time_error» = error; «record» = prev }
+begun error prev = record { position = record { 0 = 0 }; «time_error» = error; prev = prev }
 
 -- an answer with the time error and the period record of a place
 abbrev pub answer : ℕ → ℕ → Place → Bool → Stretch
 answer made used h stall =
-    record { made = record { 0 = made }; used = record { 0 = used }; «time_error» = h .«time_error»; «record» = h .«record»; stalled = stall }
+    record { made = record { 0 = made }; used = record { 0 = used }; «time_error» = h .«time_error»; prev = h .prev; stalled = stall }
 
 -- the answer for steps ss: a stall removes no input
-unfoldable pub answerFor : Call → List ℤ → Place → List Step → Stretch
+unfoldable pub answerFor : StretchCall → List ℤ → Place → List Step → Stretch
 answerFor u x h ss = answer (framesMade ss) (cond (stalled ss) 0 (lastPlace u x h ss .position .0)) (lastPlace u x h ss) (stalled ss)
 
 -- `change_speed` with room for `room` frames
-unfoldable pub changeSpeed : Call → List ℤ → Place → ℕ → Stretched
+unfoldable pub changeSpeed : StretchCall → List ℤ → Place → ℕ → Stretched
 changeSpeed u x h room = cond (ltb room (framesMade (steps u x h))) Full (Made (answerFor u x h (steps u x h)))
 
 -- the frames that a call makes
-abbrev pub stretchedFrames : Call → List ℤ → Place → List Frame
+abbrev pub stretchedFrames : StretchCall → List ℤ → Place → List Frame
 stretchedFrames u x h = framesOf (u .channels) (framesMade (steps u x h)) (samplesOf (u .channels) x (h .position .0) (steps u x h))
 
 -- the stage after it: what lies before the place `to` stays; if the frames fit, they stand there, and the period record is in order
-pub record Staged (u : Call) (x : List ℤ) (h : Place) (room : ℕ) (stage stage' : List ℤ) (to : ℕ) : Type 0 where
+pub record Staged (u : StretchCall) (x : List ℤ) (h : Place) (room : ℕ) (stage stage' : List ℤ) (to : ℕ) : Type 0 where
   pub kept : take to stage' ≡ take to stage
   pub written : framesMade (steps u x h) ≤ room
       → stage' ≡ paste stage to (samplesOf (u .channels) x (h .position .0) (steps u x h)) (framesMade (steps u x h) * u .channels)
-  pub in-order : framesMade (steps u x h) ≤ room → InOrder (u .rate) (lastPlace u x h (steps u x h) .«record»)
+  pub in-order : framesMade (steps u x h) ≤ room → PrevInOrder (u .rate) (lastPlace u x h (steps u x h) .prev)

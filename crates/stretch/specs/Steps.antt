@@ -15,10 +15,10 @@ use Rattle.floats.specs.Settings.{samplePeriod}
 use Rattle.floats.specs.Steps.{copyingDue, copyCount, skipCount, insertCount, errorCopied, errorSkipped, errorInserted}
 use Rattle.period.specs.declared.PeriodRecord.{PeriodRecord}
 use Rattle.period.specs.declared.Chosen.{Chosen}
-use Rattle.period.specs.Rates.{Opened}
+use Rattle.period.specs.Rates.{InLimits}
 use Rattle.period.specs.Search.{longestPeriod}
 use Rattle.period.specs.Pitch.{findPitchPeriod}
-use Rattle.stretch.specs.declared.Call.{Call}
+use Rattle.stretch.specs.declared.StretchCall.{StretchCall}
 use Rattle.stretch.specs.declared.Place.{Place}
 use Rattle.stretch.specs.declared.Step.{Step}
 use Rattle.stretch.specs.declared.Step.the-variants.{Copied, Skipped, Inserted}
@@ -27,15 +27,15 @@ use Rattle.stretch.specs.declared.Turn.the-variants.{NoRoom, Went}
 use Rattle.stretch.specs.Crossfade.{copyUnmodifiedSamples, skipPitchPeriod, insertPitchPeriod}
 
 -- the search at a place
-unfoldable pub searchAt : Call → List ℤ → Place → Chosen
-searchAt u x h = findPitchPeriod (drop (h .position .0 * u .channels) x) (u .channels) (u .rate) (h .«record»)
+unfoldable pub searchAt : StretchCall → List ℤ → Place → Chosen
+searchAt u x h = findPitchPeriod (drop (h .position .0 * u .channels) x) (u .channels) (u .rate) (h .prev)
 
 -- a skip step (s > 1) or an insert step (any other s)
 abbrev pub periodStep : Float → Frames → Step
 periodStep s period = cond (lt one s) (Skipped period (record { 0 = skipCount s (period .0) })) (Inserted period (record { 0 = insertCount s (period .0) }))
 
 -- the step that is due: a copying step, or one of those
-unfoldable pub nextStep : Call → List ℤ → Place → Step
+unfoldable pub nextStep : StretchCall → List ℤ → Place → Step
 nextStep u x h =
     cond (copyingDue (u .speed) (h .«time_error»))
     (Copied (record { 0 = copyCount (h .«time_error») (u .speed) (u .«sample_period») (u .held .0 - h .position .0) }))
@@ -66,42 +66,42 @@ samplesOut channels x at (Skipped period k) = skipPitchPeriod channels x at (per
 samplesOut channels x at (Inserted period k) = insertPitchPeriod channels x at (period .0) (k .0)
 
 -- the time error after a step
-unfoldable pub errorAfter : Call → Float → Step → Float
+unfoldable pub errorAfter : StretchCall → Float → Step → Float
 errorAfter u error (Copied n) = errorCopied error (u .speed) (u .«sample_period») (n .0)
-errorAfter u error (Skipped period k) = errorSkipped error (u .speed) (u .«sample_period») (u .«play_time») (u .held .0) (period .0) (k .0)
-errorAfter u error (Inserted period k) = errorInserted error (u .speed) (u .«sample_period») (u .«play_time») (u .held .0) (period .0) (k .0)
+errorAfter u error (Skipped period k) = errorSkipped error (u .speed) (u .«sample_period») (u .«input_play_time») (u .held .0) (period .0) (k .0)
+errorAfter u error (Inserted period k) = errorInserted error (u .speed) (u .«sample_period») (u .«input_play_time») (u .held .0) (period .0) (k .0)
 
 -- the period record after a step: a copying step makes no search
-unfoldable pub recordAfter : Call → List ℤ → Place → Step → PeriodRecord
-recordAfter u x h (Copied n) = h .«record»
-recordAfter u x h (Skipped period k) = searchAt u x h .«record»
-recordAfter u x h (Inserted period k) = searchAt u x h .«record»
+unfoldable pub prevAfter : StretchCall → List ℤ → Place → Step → PeriodRecord
+prevAfter u x h (Copied n) = h .prev
+prevAfter u x h (Skipped period k) = searchAt u x h .prev
+prevAfter u x h (Inserted period k) = searchAt u x h .prev
 
 -- the place after a step whose search found a period record
-unfoldable pub placeAfter : Call → Place → Step → PeriodRecord → Place
+unfoldable pub placeAfter : StretchCall → Place → Step → PeriodRecord → Place
 placeAfter u h s found =
-    record { position = record { 0 = h .position .0 + framesUsed s }; «time_error» = errorAfter u (h .«time_error») s; «record» = found }
+    record { position = record { 0 = h .position .0 + framesUsed s }; «time_error» = errorAfter u (h .«time_error») s; prev = found }
 
 -- the place after a step at a place
-unfoldable pub after : Call → List ℤ → Place → Step → Place
-after u x h s = placeAfter u h s (recordAfter u x h s)
+unfoldable pub after : StretchCall → List ℤ → Place → Step → Place
+after u x h s = placeAfter u h s (prevAfter u x h s)
 
 -- ---- one turn, with room for `room` frames
 
 -- whether there is room for the step; the place after it, its frames, and whether it stalls
-unfoldable pub turnFor : Call → List ℤ → Place → ℕ → Step → Turn
+unfoldable pub turnFor : StretchCall → List ℤ → Place → ℕ → Step → Turn
 turnFor u x h room s = cond (ltb room (framesOut s)) NoRoom (Went (after u x h s) (record { 0 = framesOut s }) (stalls s))
 
 -- the stage after it: the step's frames at the place `to`
-unfoldable pub stageFor : Call → List ℤ → Place → ℕ → List ℤ → ℕ → Step → List ℤ
+unfoldable pub stageFor : StretchCall → List ℤ → Place → ℕ → List ℤ → ℕ → Step → List ℤ
 stageFor u x h room stage to s =
     cond (ltb room (framesOut s)) stage (paste stage to (samplesOut (u .channels) x (h .position .0) s) (framesOut s * u .channels))
 
 -- ---- what calls and steps are handed
 
 -- a call: opened, T that of the rate, a local speed that is an f32, and few frames
-pub record Ready (u : Call) : Type 0 where
-  pub opened : Opened (u .rate) (u .channels)
+pub record StretchReady (u : StretchCall) : Type 0 where
+  pub opened : InLimits (u .rate) (u .channels)
   pub period-is : u .«sample_period» ≡ samplePeriod (u .rate)
   pub speed-fits : T (fits binary32 (u .speed))
   pub few : u .held .0 ≤ 2 ^ 24

@@ -10,12 +10,12 @@ use period::PeriodRecord;
 pub use speed::change_speed;
 
 // What is fixed for a call: what follows from the opening, the local speed, the play time and the frames held.
-pub struct Call {
+pub struct StretchCall {
     pub channels: usize,
     pub rate: usize,
     pub sample_period: f32,
     pub speed: f32,
-    pub play_time: f32,
+    pub input_play_time: f32,
     pub held: Frames,
 }
 
@@ -23,7 +23,7 @@ pub struct Call {
 pub struct Place {
     pub position: Frames,
     pub time_error: f32,
-    pub record: PeriodRecord,
+    pub prev: PeriodRecord,
 }
 
 // A step: the frames copied; the period skipped and the frames made; the period inserted and the frames made behind it.
@@ -34,9 +34,9 @@ pub enum Step {
 }
 
 // The step that is due, and the period record after its search.
-pub struct Due {
+pub struct NextStep {
     pub step: Step,
-    pub record: PeriodRecord,
+    pub prev: PeriodRecord,
 }
 
 // One turn of a call: no room for the step's frames; or the place after it, its frames, and whether it stalls.
@@ -50,7 +50,7 @@ pub struct Stretch {
     pub made: Frames,
     pub used: Frames,
     pub time_error: f32,
-    pub record: PeriodRecord,
+    pub prev: PeriodRecord,
     pub stalled: bool,
 }
 

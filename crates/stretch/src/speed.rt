@@ -1,7 +1,7 @@
 // A call: step after step.
-use crate::Call;
 use crate::Place;
 use crate::Stretch;
+use crate::StretchCall;
 use crate::Stretched;
 use crate::Turn;
 use crate::steps::take_step;
@@ -12,20 +12,20 @@ ghost use mathlib.Core.Path.{_≡_};
 ghost use Prim.Native.Nat.{_+_, _*_, _≤_};
 ghost use lib.ListN.{length};
 ghost use Rattle.period.specs.Rates.{maxRequired};
-ghost use Rattle.period.specs.Pitch.{InOrder};
-ghost use Rattle.stretch.specs.Steps.{Ready};
+ghost use Rattle.period.specs.Pitch.{PrevInOrder};
+ghost use Rattle.stretch.specs.Steps.{StretchReady};
 ghost use Rattle.stretch.specs.Speed.{changeSpeed, begun, answer, Staged};
 
 // A call's answer, with the time error and the period record of a place.
 fn answer(made: Frames, used: Frames, place: Place, stalled: bool) -> Stretch
     ensures { λ r. ⌜ r ≡ answer (made .0) (used .0) place stalled ⌝ }
 {
-    let record = place.record;
+    let prev = place.prev;
     Stretch {
         made,
         used,
         time_error: place.time_error,
-        record,
+        prev,
         stalled,
     }
 }
@@ -34,20 +34,20 @@ fn answer(made: Frames, used: Frames, place: Place, stalled: bool) -> Stretch
 // place `to` of the stage, which has room for `room` frames there.
 pub fn change_speed(
     input: &[i16],
-    call: Call,
+    call: StretchCall,
     time_error: f32,
-    record: PeriodRecord,
+    prev: PeriodRecord,
     stage: &mut [i16],
     to: Samples,
     room: Frames,
     scratch: &mut [i16],
 ) -> Stretched
-    requires { ⌜ Ready call ⌝ }
-    requires { ⌜ InOrder (call .rate) «record» ⌝ }
+    requires { ⌜ StretchReady call ⌝ }
+    requires { ⌜ PrevInOrder (call .rate) prev ⌝ }
     requires { ⌜ (call .held .0 * call .channels ≤ length (now input)) × (maxRequired (call .rate) ≤ length (now scratch))
         × (to .0 + room .0 * call .channels ≤ length (now stage)) ⌝ }
-    ensures { λ r. ⌜ (r ≡ changeSpeed call (now (input .entry)) (begun «time_error» «record») (room .0))
-        × Staged call (now (input .entry)) (begun «time_error» «record») (room .0) (now (stage .entry)) (now (stage .exit)) (to .0) ⌝ }
+    ensures { λ r. ⌜ (r ≡ changeSpeed call (now (input .entry)) (begun «time_error» prev) (room .0))
+        × Staged call (now (input .entry)) (begun «time_error» prev) (room .0) (now (stage .entry)) (now (stage .exit)) (to .0) ⌝ }
 {
     let required = period::max_required(call.rate).0;
     let held = call.held.0;
@@ -56,7 +56,7 @@ pub fn change_speed(
     let mut place = Place {
         position: Frames(0),
         time_error,
-        record,
+        prev,
     };
     let mut made: usize = 0;
     while place.position.0 + required <= held {

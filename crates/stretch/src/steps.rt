@@ -1,8 +1,8 @@
 // One turn of a call: the step that is due at a place, and the place after it.
-use crate::Call;
-use crate::Due;
+use crate::NextStep;
 use crate::Place;
 use crate::Step;
+use crate::StretchCall;
 use crate::Turn;
 use frames::Frames;
 use frames::Samples;
@@ -11,10 +11,10 @@ use period::PeriodRecord;
 ghost use mathlib.Core.Path.{_≡_};
 ghost use Prim.Native.Nat.{_+_, _*_, _≤_, _<_, _^_};
 ghost use lib.ListN.{length, drop};
-ghost use Rattle.period.specs.Rates.{Opened, maxRequired};
-ghost use Rattle.period.specs.Pitch.{findPitchPeriod, InRange, InOrder};
+ghost use Rattle.period.specs.Rates.{InLimits, maxRequired};
+ghost use Rattle.period.specs.Pitch.{findPitchPeriod, InRange, PrevInOrder};
 ghost use Rattle.stretch.specs.Steps.{periodStep, nextStep, framesOut, framesUsed, framesRead, stalls, errorAfter};
-ghost use Rattle.stretch.specs.Steps.{recordAfter, placeAfter, turnFor, stageFor, Ready, Sound};
+ghost use Rattle.stretch.specs.Steps.{prevAfter, placeAfter, turnFor, stageFor, StretchReady, Sound};
 
 // The period that a step at the place `from` of the input uses, in frames, and the period record after the search.
 fn search_at(
@@ -25,11 +25,11 @@ fn search_at(
     prev: PeriodRecord,
     scratch: &mut [i16],
 ) -> Chosen
-    requires { ⌜ Opened rate channels ⌝ }
-    requires { ⌜ InOrder rate prev ⌝ }
+    requires { ⌜ InLimits rate channels ⌝ }
+    requires { ⌜ PrevInOrder rate prev ⌝ }
     requires { ⌜ (from .0 + maxRequired rate * channels ≤ length (now input)) × (maxRequired rate ≤ length (now scratch)) ⌝ }
     ensures { λ r. ⌜ (r ≡ findPitchPeriod (drop (from .0) (now (input .entry))) channels rate prev)
-        × InRange rate (r .period .0) × InOrder rate (r .«record») ⌝ }
+        × InRange rate (r .period .0) × PrevInOrder rate (r .prev) ⌝ }
 {
     let first = from.0;
     period::find_pitch_period(&input[first..], channels, rate, prev, scratch)
@@ -49,33 +49,33 @@ fn period_step(s: f32, period: Frames) -> Step
 }
 
 // The step that is due at a place, and the period record after its search.
-fn next_step(input: &[i16], call: Call, place: Place, scratch: &mut [i16]) -> Due
-    requires { ⌜ Ready call ⌝ }
-    requires { ⌜ InOrder (call .rate) (place .«record») ⌝ }
+fn next_step(input: &[i16], call: StretchCall, place: Place, scratch: &mut [i16]) -> NextStep
+    requires { ⌜ StretchReady call ⌝ }
+    requires { ⌜ PrevInOrder (call .rate) (place .prev) ⌝ }
     requires { ⌜ (place .position .0 + maxRequired (call .rate) ≤ call .held .0) × (call .held .0 * call .channels ≤ length (now input))
         × (maxRequired (call .rate) ≤ length (now scratch)) ⌝ }
     ensures { λ r. ⌜ (r .step ≡ nextStep call (now (input .entry)) place)
-        × (r .«record» ≡ recordAfter call (now (input .entry)) place (nextStep call (now (input .entry)) place)) × InOrder (call .rate) (r .«record») ⌝ }
+        × (r .prev ≡ prevAfter call (now (input .entry)) place (nextStep call (now (input .entry)) place)) × PrevInOrder (call .rate) (r .prev) ⌝ }
 {
     let s = call.speed;
     let error = place.time_error;
-    let prev = place.record;
+    let prev = place.prev;
     let position = place.position;
     if floats::steps::copying_due(s, error) {
         let left = call.held.0 - position.0;
         let n = floats::steps::copy_count(error, s, call.sample_period, Frames(left));
-        return Due {
+        return NextStep {
             step: Step::Copied(n),
-            record: prev,
+            prev,
         };
     }
     let from = position.samples(call.channels);
     let chosen = search_at(input, from, call.channels, call.rate, prev, scratch);
     let period = chosen.period;
-    let record = chosen.record;
-    Due {
+    let found = chosen.prev;
+    NextStep {
         step: period_step(s, period),
-        record,
+        prev: found,
     }
 }
 
@@ -115,13 +115,13 @@ fn stalls(step: Step) -> bool
 }
 
 // The time error after a step.
-fn error_after(call: Call, error: f32, step: Step) -> f32
+fn error_after(call: StretchCall, error: f32, step: Step) -> f32
     requires { ⌜ (framesRead step ≤ 2 ^ 24) × (call .held .0 ≤ 2 ^ 24) ⌝ }
     ensures { λ r. ⌜ r ≡ errorAfter call error step ⌝ }
 {
     let s = call.speed;
     let t = call.sample_period;
-    let play = call.play_time;
+    let play = call.input_play_time;
     let held = call.held;
     match step {
         Step::Copied(n) => floats::steps::error_copied(error, s, t, n),
@@ -135,45 +135,45 @@ fn error_after(call: Call, error: f32, step: Step) -> f32
 }
 
 // The place after a step, with the period record after it.
-fn place_after(call: Call, place: Place, step: Step, record: PeriodRecord) -> Place
+fn place_after(call: StretchCall, place: Place, step: Step, prev: PeriodRecord) -> Place
     requires { ⌜ Sound (call .held .0) (place .position .0) step × (call .held .0 ≤ 2 ^ 24) ⌝ }
-    ensures { λ r. ⌜ r ≡ placeAfter call place step «record» ⌝ }
+    ensures { λ r. ⌜ r ≡ placeAfter call place step prev ⌝ }
 {
     let used = frames_used(step);
     let position = place.position.0 + used.0;
     Place {
         position: Frames(position),
         time_error: error_after(call, place.time_error, step),
-        record,
+        prev,
     }
 }
 
 // One turn: the step that is due, its frames written at the place `to` of the stage if there is room for them among `room` frames.
 pub(crate) fn take_step(
     input: &[i16],
-    call: Call,
+    call: StretchCall,
     place: Place,
     stage: &mut [i16],
     to: Samples,
     room: Frames,
     scratch: &mut [i16],
 ) -> Turn
-    requires { ⌜ Ready call ⌝ }
-    requires { ⌜ InOrder (call .rate) (place .«record») ⌝ }
+    requires { ⌜ StretchReady call ⌝ }
+    requires { ⌜ PrevInOrder (call .rate) (place .prev) ⌝ }
     requires { ⌜ (place .position .0 + maxRequired (call .rate) ≤ call .held .0) × (call .held .0 * call .channels ≤ length (now input))
         × (maxRequired (call .rate) ≤ length (now scratch)) × (to .0 + room .0 * call .channels ≤ length (now stage)) ⌝ }
     ensures { λ r. ⌜ (r ≡ turnFor call (now (input .entry)) place (room .0) (nextStep call (now (input .entry)) place))
         × (now (stage .exit) ≡ stageFor call (now (input .entry)) place (room .0) (now (stage .entry)) (to .0) (nextStep call (now (input .entry)) place))
-        × InOrder (call .rate) (recordAfter call (now (input .entry)) place (nextStep call (now (input .entry)) place)) ⌝ }
+        × PrevInOrder (call .rate) (prevAfter call (now (input .entry)) place (nextStep call (now (input .entry)) place)) ⌝ }
 {
     let due = next_step(input, call, place, scratch);
     let step = due.step;
-    let record = due.record;
+    let prev = due.prev;
     let n = frames_out(step);
     if room.0 < n.0 {
         return Turn::NoRoom;
     }
     crate::samples::write_step(step, input, call.channels, place.position, stage, to);
-    let next = place_after(call, place, step, record);
+    let next = place_after(call, place, step, prev);
     Turn::Went(next, n, stalls(step))
 }

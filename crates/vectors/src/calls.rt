@@ -3,7 +3,7 @@ use crate::answers::print_count;
 use crate::answers::print_outcome;
 use crate::answers::print_refused;
 use crate::answers::print_word;
-use crate::lent::Lent;
+use crate::lent::LentLengths;
 use crate::lent::of_area;
 use crate::signal::Signal;
 use crate::signal::fill;
@@ -83,7 +83,7 @@ fn wrote(answer: Wrote) -> SonicStream {
 fn write(
     stream: SonicStream,
     samples: &[f32],
-    lent: Lent,
+    lent: LentLengths,
     input: &mut [i16],
     stage: &mut [i16],
     output: &mut [i16],
@@ -107,7 +107,7 @@ fn write(
 pub(crate) fn write_signal(
     stream: SonicStream,
     signal: Signal,
-    lent: Lent,
+    lent: LentLengths,
     samples: &mut [f32],
     input: &mut [i16],
     stage: &mut [i16],
@@ -121,7 +121,7 @@ pub(crate) fn write_signal(
 // Flushes.
 pub(crate) fn flush(
     stream: SonicStream,
-    lent: Lent,
+    lent: LentLengths,
     input: &mut [i16],
     stage: &mut [i16],
     output: &mut [i16],
@@ -167,7 +167,7 @@ fn gave(answer: Gave) -> SonicStream {
 pub(crate) fn read(
     stream: SonicStream,
     most: usize,
-    lent: Lent,
+    lent: LentLengths,
     slice: &mut [f32],
     output: &mut [i16],
 ) -> SonicStream {

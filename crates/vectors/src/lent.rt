@@ -4,7 +4,7 @@ ghost use Prim.Native.Nat.{_≤_};
 ghost use lib.ListN.{length, take};
 
 // The lengths of the areas, in samples.
-pub struct Lent {
+pub struct LentLengths {
     pub input: usize,
     pub stage: usize,
     pub output: usize,

@@ -9,7 +9,7 @@ use crate::calls::set;
 use crate::calls::unopened;
 use crate::calls::write_signal;
 use crate::edits::with_field;
-use crate::lent::Lent;
+use crate::lent::LentLengths;
 use crate::lent::of_slice;
 use crate::signal::Signal;
 use crate::sums::float;
@@ -22,7 +22,7 @@ use sonic::SonicStream;
 // What the lines before have left.
 struct Session {
     stream: SonicStream,
-    lent: Lent,
+    lent: LentLengths,
 }
 
 // The signal of a write's line.
@@ -36,8 +36,8 @@ fn signal_of(line: Line) -> Signal {
 }
 
 // The lengths of a line.
-fn lengths(line: Line) -> Lent {
-    Lent {
+fn lengths(line: Line) -> LentLengths {
+    LentLengths {
         input: line.a as usize,
         stage: line.b as usize,
         output: line.c as usize,
@@ -62,7 +62,7 @@ fn small_call(stream: SonicStream, line: Line) -> SonicStream {
 fn call(
     stream: SonicStream,
     line: Line,
-    lent: Lent,
+    lent: LentLengths,
     samples: &mut [f32],
     input: &mut [i16],
     stage: &mut [i16],
@@ -139,7 +139,7 @@ pub(crate) fn replay_all(
 ) {
     let mut session = Session {
         stream: unopened(),
-        lent: Lent {
+        lent: LentLengths {
             input: 0,
             stage: 0,
             output: 0,

@@ -7,7 +7,7 @@ use mathlib.Core.Logic.{⊎-elim}
 use Prim.Native.Nat.{ℕ, _+_, _≤_}
 use native.Mathlib.Omega.{arith}
 use Rattle.rate.specs.declared.Rates.{Rates}
-use Rattle.rate.specs.Halving.{maxRate, halved, ratesOf}
+use Rattle.rate.specs.Halving.{maxHalvedRate, halved, ratesOf}
 use Rattle.rate.proofs.Halving.{Left, over, left-turn, left-end}
 use Rattle.rate.proofs.rates_of.Statement.{statement}
 use Rattle.rate.proofs.rates_of.Tie as tie
@@ -27,14 +27,14 @@ loop-holds c = record { k = 64; same = refl; new-below = omega arith; old-below 
 loop-less : tie.Need-loop-less Inv-loop μ-loop
 loop-less c =
     let l = c .before .loop in
-    ⊎-elim (λ w. omega (arith, w .taken)) (λ w. omega (arith, ltb-true maxRate (l .old) (w .1 .taken))) (c .if1 .came)
+    ⊎-elim (λ w. omega (arith, w .taken)) (λ w. omega (arith, ltb-true maxHalvedRate (l .old) (w .1 .taken))) (c .if1 .came)
 
 loop-again : tie.Need-loop-again Inv-loop μ-loop
 loop-again c =
     let l = c .before .loop in
     let r : Rates = record { new = l .new; old = l .old } in
     let e : over r ≡ true =
-    ⊎-elim (λ w. rw (lt-ltb maxRate (l .new) (w .taken))) (λ w. rw (le-ltb maxRate (l .new) (w .0 .left), w .1 .taken)) (c .if1 .came) in
+    ⊎-elim (λ w. rw (lt-ltb maxHalvedRate (l .new) (w .taken))) (λ w. rw (le-ltb maxHalvedRate (l .new) (w .0 .left), w .1 .taken)) (c .if1 .came) in
     left-turn _ r (l .inv) e
 
 returns : tie.Need-returns Inv-loop μ-loop
@@ -42,7 +42,7 @@ unfolding ratesOf
 returns c =
     let l = c .before .before .loop in
     let a = c .before .before .before .before .args in
-    let small : l .old ≤ maxRate = ltb-false maxRate (l .old) (c .if2 .left) in
+    let small : l .old ≤ maxHalvedRate = ltb-false maxHalvedRate (l .old) (c .if2 .left) in
     left-end _ (record { new = l .new; old = l .old }) (l .inv) (c .before .if1 .left) small
     ∙ ap (λ (n : ℕ). halved 64 (record { new = n; old = a .rate })) (c .before .before .before .new-rate .ensures)
 

@@ -4,7 +4,7 @@ use mathlib.Core.Path.{sym, subst, _∙_}
 use Rattle.sonic.proofs.InOrder.{opened-of}
 use Rattle.sonic.proofs.Stays.{open-in-order}
 use Rattle.reels.specs.Areas.{Usable}
-use Rattle.skim.specs.Stretching.{Ready}
+use Rattle.skim.specs.Stretching.{ReelReady}
 use Rattle.reels.proofs.Plans.{usable-of}
 use Rattle.skim.proofs.Starting.{ready-of}
 use Rattle.skim.proofs.run.Statement.{statement}
@@ -62,7 +62,7 @@ stretch-requires c κs =
     let v = k .before .before in
     let s = v .before .settle .result in
     let fresh = ready-of s (k .plan .given .0 .0) (sym (v .serve .ensures) ∙ k .plan .given .1) in
-    (usable k, subst (Ready (k .plan .given .0 .0)) (sym (c .new2 .ensures)) fresh)
+    (usable k, subst (ReelReady (k .plan .given .0 .0)) (sym (c .new2 .ensures)) fresh)
 
 run-requires : tie.Need-run-requires
 run-requires c κs =

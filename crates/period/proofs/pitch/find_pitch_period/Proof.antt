@@ -3,7 +3,7 @@ use borrow.Author.Needs.{needs}
 use mathlib.Core.Logic.{inr}
 use mathlib.Core.Bool.{true, false}
 use mathlib.Core.Path.{_≡_, sym, _∙_}
-use Rattle.period.specs.Pitch.{prevPeriodBetter, chosen, findPitchPeriod, InRange, InOrder}
+use Rattle.period.specs.Pitch.{prevPeriodBetter, chosen, findPitchPeriod, InRange, PrevInOrder}
 use Rattle.period.proofs.Ranges.{found-in}
 use Rattle.period.proofs.Record.{prev-in}
 use Rattle.period.proofs.pitch.find_pitch_period.Statement.{statement}
@@ -20,7 +20,7 @@ module _ (c : tie.After-found-at) where
   period-in : InRange (c .before .before .args .rate) (c .found-at .result .period)
   period-in = rw (c .found-at .ensures .0) (found-in (c .before .before .args .samples .now) (c .before .before .pre .0))
 
-  in-order : InOrder (c .before .before .args .rate) (record { period = c .found-at .result .period; «min_diff» = c .found-at .result .«min_diff» })
+  in-order : PrevInOrder (c .before .before .args .rate) (record { period = c .found-at .result .period; «min_diff» = c .found-at .result .«min_diff» })
   in-order = record { period-in = inr period-in; min-diff-in = c .found-at .ensures .1 }
 
 same-length : tie.Need-same-length

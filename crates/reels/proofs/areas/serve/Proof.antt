@@ -5,7 +5,7 @@ use Prim.Native.Nat.{ℕ, _+_, _*_, _/_, _≤_, _<_}
 use native.Mathlib.Nat.{le-trans, div-le-self}
 use native.Mathlib.Omega.{arith}
 use Rattle.floats.specs.Settings.{minPitch, maxPitch}
-use Rattle.period.specs.Rates.{Opened}
+use Rattle.period.specs.Rates.{InLimits}
 use Rattle.rate.proofs.Halving.{Within, rates-within}
 use Rattle.sonic.proofs.InOrder.{opened-of, tests-of, ranges-of, within-range}
 use Rattle.reels.proofs.Plans.{period-most, shortest-least, growth-most, staged-most, scaled-most, samples-most, no-input, no-stage, no-output, planned}
@@ -19,7 +19,7 @@ cast-rate : tie.Need-cast-rate
 cast-rate c = search needs
 
 -- rate and channels
-range : (c : tie.Start) → Opened (c .args .stream .rate) (c .args .stream .channels)
+range : (c : tie.Start) → InLimits (c .args .stream .rate) (c .args .stream .channels)
 range c = opened-of (c .args .stream) (c .pre)
 
 required : (c : tie.After-max-required) → c .max-required .result .0 ≤ 15384

@@ -3,7 +3,7 @@ use borrow.Author.Needs.{needs}
 use mathlib.Core.Path.{_≡_, sym, _∙_}
 use mathlib.Core.Bool.{true}
 use borrow.Author.Tests.{not-true, not-false}
-use Rattle.sonic.specs.Refusals.{openedInOrder, settingsInOrder, recordInOrder, inOrder}
+use Rattle.sonic.specs.Refusals.{openedInOrder, settingsInOrder, prevInOrder, inOrder}
 use Rattle.sonic.proofs.InOrder.{opened-range}
 use Rattle.sonic.proofs.order.in_order.Statement.{statement}
 use Rattle.sonic.proofs.order.in_order.Tie as tie
@@ -32,18 +32,18 @@ returns-2 c =
 settings : (c : tie.Else2) → settingsInOrder (c .before .before .before .before .args .stream) ≡ true
 settings c = let test = c .before .settings-in-order in sym (test .ensures) ∙ not-false (test .result) (c .if2 .left)
 
-record-in-order-requires : tie.Need-record-in-order-requires
-record-in-order-requires c κs = search needs
+prev-in-order-requires : tie.Need-prev-in-order-requires
+prev-in-order-requires c κs = search needs
 
 returns-3 : tie.Need-returns-3
 unfolding inOrder
 returns-3 c =
-    let test = c .before .record-in-order in
+    let test = c .before .prev-in-order in
     let s = c .before .before in
     simp (opened (s .before .before), settings s, sym (test .ensures) ∙ not-true (test .result) (c .if3 .taken))
 
-found : (c : tie.Else3) → recordInOrder (c .before .before .before .before .before .before .args .stream) ≡ true
-found c = let test = c .before .record-in-order in sym (test .ensures) ∙ not-false (test .result) (c .if3 .left)
+found : (c : tie.Else3) → prevInOrder (c .before .before .before .before .before .before .args .stream) ≡ true
+found c = let test = c .before .prev-in-order in sym (test .ensures) ∙ not-false (test .result) (c .if3 .left)
 
 positions-in-order-requires : tie.Need-positions-in-order-requires
 positions-in-order-requires c κs =
@@ -60,4 +60,4 @@ returns-4 c =
 pub in-order-spec : {M : Type 1} → statement M
 in-order-spec =
     tie.close
-    (tie.spec opened-in-order-requires returns settings-in-order-requires returns-2 record-in-order-requires returns-3 positions-in-order-requires returns-4)
+    (tie.spec opened-in-order-requires returns settings-in-order-requires returns-2 prev-in-order-requires returns-3 positions-in-order-requires returns-4)

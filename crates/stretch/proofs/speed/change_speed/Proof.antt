@@ -14,7 +14,7 @@ use Rattle.stretch.specs.declared.Turn.the-variants.{NoRoom, Went}
 use Rattle.stretch.specs.Steps.{nextStep, turnFor, stageFor}
 use Rattle.stretch.specs.Speed.{begun}
 use Rattle.stretch.proofs.Progress.{required-some}
-use Rattle.stretch.proofs.Between.{Lent, Going, going-start, going-room, going-end, going-full, going-full-kept}
+use Rattle.stretch.proofs.Between.{StretchLent, Going, going-start, going-room, going-end, going-full, going-full-kept}
 use Rattle.stretch.proofs.Between.{going-on, going-stall, going-fits, going-further}
 use Rattle.stretch.proofs.Outcome.{ended-made, ended-staged, full-made, full-staged}
 use Rattle.stretch.proofs.speed.change_speed.Statement.{statement}
@@ -33,11 +33,11 @@ max-required-requires c κs = search needs
 loop-holds : tie.Need-loop-holds Inv-loop μ-loop
 loop-holds c =
     let a = c .before .args in
-    let begin = begun (a .time-error) (a .«record») in
+    let begin = begun (a .time-error) (a .prev) in
     (going-start (a .call) (a .input .now) begin (a .stage .now) (a .to .0) (a .room .0) (c .before .pre .1 .0) (omega arith), refl, refl)
 
 -- what the call is lent
-lent : (c : tie.Start Inv-loop μ-loop) → Lent (c .args .call) (c .args .input .now) (c .args .stage .now) (c .args .to .0) (c .args .room .0)
+lent : (c : tie.Start Inv-loop μ-loop) → StretchLent (c .args .call) (c .args .input .now) (c .args .stage .now) (c .args .to .0) (c .args .room .0)
 lent c = record { ready = c .pre .0; whole = c .pre .1 .1 .0; area = c .pre .1 .1 .2 }
 
 add-if1 : tie.Need-add-if1 Inv-loop μ-loop
@@ -114,7 +114,7 @@ returns c =
     let a = start t .args in
     let l = here t .loop in
     let x = a .input .now in
-    let begin = begun (a .time-error) (a .«record») in
+    let begin = begun (a .time-error) (a .prev) in
     let none : turnFor (a .call) x (l .place) (a .room .0 - l .made) (nextStep (a .call) x (l .place)) ≡ NoRoom =
     sym (k .take-step .ensures .0) ∙ c .enum-told .given .1 in
     let over = going-full (lent (start t)) (l .inv .0) (due t) none in

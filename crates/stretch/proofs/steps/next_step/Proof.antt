@@ -10,8 +10,8 @@ use Rattle.floats.specs.Steps.{copyingDue}
 use Rattle.period.specs.declared.Chosen.{Chosen}
 use Rattle.period.specs.Rates.{maxRequired}
 use Rattle.stretch.specs.declared.Step.the-variants.{Copied}
-use Rattle.stretch.specs.Steps.{searchAt, periodStep, nextStep, recordAfter}
-use Rattle.stretch.proofs.DueStep.{nextStep-copied, nextStep-searched, recordAfter-period}
+use Rattle.stretch.specs.Steps.{searchAt, periodStep, nextStep, prevAfter}
+use Rattle.stretch.proofs.DueStep.{nextStep-copied, nextStep-searched, prevAfter-period}
 use Rattle.stretch.proofs.steps.next_step.Statement.{statement}
 use Rattle.stretch.proofs.steps.next_step.Tie as tie
 
@@ -25,7 +25,7 @@ copy-count-requires : tie.Need-copy-count-requires
 copy-count-requires c κs = search needs
 
 returns : tie.Need-returns
-unfolding recordAfter
+unfolding prevAfter
 returns c =
     let b = c .before .before .before .before .before .before .before in
     let a = b .args in
@@ -33,7 +33,7 @@ returns c =
     let due = sym (c .before .before .before .before .copying-due .ensures) ∙ c .before .before .before .if1 .taken in
     let step : Copied (c .copy-count .result) ≡ nextStep (a .call) x (a .place) =
     (λ i. Copied (record { 0 = c .copy-count .ensures .0 i })) ∙ sym (nextStep-copied (a .call) x (a .place) due) in
-    (step, ap (recordAfter (a .call) x (a .place)) step, b .pre .1 .0)
+    (step, ap (prevAfter (a .call) x (a .place)) step, b .pre .1 .0)
 
 -- the search stays within the frames held
 inside : (c : tie.Start)
@@ -80,8 +80,8 @@ returns-2 c =
     let step : c .period-step .result ≡ nextStep (a .call) x (a .place) =
     c .period-step .ensures ∙ ap (λ (z : Chosen). periodStep (a .call .speed) (z .period)) (searched found) ∙ sym due in
     let period = searchAt (a .call) x (a .place) .period in
-    let same = ap (recordAfter (a .call) x (a .place)) due ∙ recordAfter-period (a .call) x (a .place) (a .call .speed) period in
-    (step, ap (λ (z : Chosen). z .«record») (searched found) ∙ sym same, found .search-at .ensures .2)
+    let same = ap (prevAfter (a .call) x (a .place)) due ∙ prevAfter-period (a .call) x (a .place) (a .call .speed) period in
+    (step, ap (λ (z : Chosen). z .prev) (searched found) ∙ sym same, found .search-at .ensures .2)
 
 pub next-step-spec : {M : Type 1} → statement M
 next-step-spec =

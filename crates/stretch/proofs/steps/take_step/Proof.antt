@@ -5,10 +5,10 @@ use Prim.Native.Nat.{_*_, _≤_}
 use native.Mathlib.Nat.{mul-le-mul-right, le-trans}
 use native.Mathlib.Omega.{arith}
 use borrow.Author.Tests.{lt-ltb, le-ltb}
-use Rattle.period.specs.Pitch.{InOrder}
+use Rattle.period.specs.Pitch.{PrevInOrder}
 use Rattle.stretch.specs.declared.Step.{Step}
 use Rattle.stretch.specs.declared.Turn.the-variants.{Went}
-use Rattle.stretch.specs.Steps.{nextStep, framesOut, stalls, recordAfter, after, turnFor, stageFor, Sound}
+use Rattle.stretch.specs.Steps.{nextStep, framesOut, stalls, prevAfter, after, turnFor, stageFor, Sound}
 use Rattle.stretch.proofs.Soundness.{nextStep-sound, framesOut-le}
 use Rattle.stretch.proofs.steps.take_step.Statement.{statement}
 use Rattle.stretch.proofs.steps.take_step.Tie as tie
@@ -30,8 +30,8 @@ module _ (c : tie.After-next-step) where
       subst (Sound (a .call .held .0) (a .place .position .0)) (sym (c .next-step .ensures .0))
       (nextStep-sound (a .input .now) (a .place) (start .pre .0) (start .pre .1 .0 .period-in) (start .pre .1 .1 .0))
 
-  in-order : InOrder (start .args .call .rate) (recordAfter (start .args .call) (start .args .input .now) (start .args .place) step)
-  in-order = subst (InOrder (start .args .call .rate)) (c .next-step .ensures .1) (c .next-step .ensures .2)
+  in-order : PrevInOrder (start .args .call .rate) (prevAfter (start .args .call) (start .args .input .now) (start .args .place) step)
+  in-order = subst (PrevInOrder (start .args .call .rate)) (c .next-step .ensures .1) (c .next-step .ensures .2)
 
 -- its frames, as counted
 out : (c : tie.After-frames-out) → c .frames-out .result .0 ≡ framesOut (step (c .before .before .before))

@@ -1,4 +1,4 @@
--- `sonic::order::record_in_order` meets its contract. Assumes nothing.
+-- `sonic::order::prev_in_order` meets its contract. Assumes nothing.
 use borrow.Author.Needs.{needs}
 use mathlib.Core.Path.{_≡_}
 use mathlib.Core.Bool.{true, false}
@@ -6,9 +6,9 @@ use mathlib.Core.Logic.{⊎-elim}
 use borrow.Author.Tests.{lt-leb, le-leb, eq-eqb, ne-eqb}
 use lib.Dec.{leb}
 use Rattle.period.specs.Rates.{minPeriod, maxPeriod}
-use Rattle.sonic.specs.Refusals.{recordInOrder}
-use Rattle.sonic.proofs.order.record_in_order.Statement.{statement}
-use Rattle.sonic.proofs.order.record_in_order.Tie as tie
+use Rattle.sonic.specs.Refusals.{prevInOrder}
+use Rattle.sonic.proofs.order.prev_in_order.Statement.{statement}
+use Rattle.sonic.proofs.order.prev_in_order.Tie as tie
 
 cast-rate : tie.Need-cast-rate
 cast-rate c = search needs
@@ -17,7 +17,7 @@ min-period-requires : tie.Need-min-period-requires
 min-period-requires c κs = search needs
 
 returns : tie.Need-returns
-unfolding recordInOrder
+unfolding prevInOrder
 returns c =
     let s = c .before .before .before .before .args .stream in
     let short : leb (minPeriod (s .rate)) (s .«prev_period») ≡ false = lt-leb _ _ (rw (c .before .min-period .ensures) at (c .if2 .taken)) in
@@ -27,7 +27,7 @@ max-period-requires : tie.Need-max-period-requires
 max-period-requires c κs = search needs
 
 returns-2 : tie.Need-returns-2
-unfolding recordInOrder
+unfolding prevInOrder
 returns-2 c =
     let below = c .before .before in
     let s = below .before .before .before .before .args .stream in
@@ -36,7 +36,7 @@ returns-2 c =
     simp (ne-eqb _ _ (below .before .before .if1 .taken), low, long)
 
 returns-3 : tie.Need-returns-3
-unfolding recordInOrder
+unfolding prevInOrder
 returns-3 c =
     let s = c .before .before .before .args .stream in
     ⊎-elim
@@ -46,5 +46,5 @@ returns-3 c =
     (λ w. simp (eq-eqb _ _ (w .left)))
     (c .before .if1 .came)
 
-pub record-in-order-spec : {M : Type 1} → statement M
-record-in-order-spec = tie.close (tie.spec cast-rate min-period-requires returns max-period-requires returns-2 returns-3)
+pub prev-in-order-spec : {M : Type 1} → statement M
+prev-in-order-spec = tie.close (tie.spec cast-rate min-period-requires returns max-period-requires returns-2 returns-3)
