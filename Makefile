@@ -1,5 +1,6 @@
-# make skim: the tool, on a reel. make test: the gate. make test-long: its comparisons at full size. make bench: the tool, whole jobs and
-# kernels, timed. make rust: the Rust binding's tests. make vectors: the stored answers, made again. make picture: docs/reels.png.
+# make skim: the tool, on a reel. make test: the gate. make test-long: its comparisons at full size, and every wrong program.
+# make refusals: the wrong programs alone. make bench: the tool, whole jobs and kernels, timed. make rust: the Rust binding's tests.
+# make vectors: the stored answers, made again. make picture: docs/reels.png.
 SHELL := /bin/bash
 RUSTC := rustc --edition 2021 -O
 LINK_KERNELS := -L target/staticlib -l static=kernels_c
@@ -7,9 +8,14 @@ LINK_STREAM := -L target/staticlib -l static=sonic_c
 
 # The Rust original, unchanged: src/lib.rs of libsonic-rs. What needs it says so in one line where it is not at hand.
 ORIGINAL ?= ../shared/docs/src/src/lib.rs
+AT_HAND := $(wildcard $(ORIGINAL))
 
-.PHONY: skim test test-long compare differential bites tool bench rust vectors picture program kernels stream
+# A command of rt, $(1): a line for each crate once it is proved, and where it fails all that it wrote. $(2) keeps that.
+told = set -o pipefail; $(1) 2>&1 | tee $(2) | sed -un '/unchanged since it was last proved/d; /^rt: /p' || { cat $(2); exit 1; }
+
+.PHONY: skim test test-long compare differential bites tool refusals refusals-from-nothing bench rust vectors picture program kernels stream
 .SILENT:
+.NOTPARALLEL:
 
 # Proves and builds the skim tool, and skims the reel of its crate: five seconds, two voices made by tools/make_reel.py. That it stalls at
 # the second voice is the reel's point, and no failure.
@@ -18,11 +24,14 @@ skim: program
 	echo "the reel crates/skim/stdin is skimmed to target/reel.pcm (8,000 Hz, mono, 16-bit little-endian PCM)"
 	echo "to skim your own: tools/skim.sh < in.pcm > out.pcm; tools/skim.sh --help tells more"
 
-# Layout; then every proof, must-fail edit and program from nothing; then the comparisons. The last line is that of `rt ci`.
+# Layout; then every proof, must-fail edit and program from nothing, and beside them, at low priority, the other wrong programs; then the
+# comparisons. The last line is that of `rt ci`. target/ goes first, so that no stamp of an earlier run is read beside `rt ci`.
 test:
 	rt fmt --check
-	set -o pipefail; log=$$(mktemp); trap 'rm -f "$$log"' EXIT; \
-	rt ci 2>&1 | tee "$$log" | sed '$$d' && \
+	rm -rf target
+	log=$$(mktemp); nice -n 19 tools/refusals.py --beside & refusals=$$!; \
+	trap 'kill $$refusals 2> /dev/null; rm -f "$$log"' EXIT; \
+	{ $(call told,rt ci,"$$log"); } && wait $$refusals && \
 	$(MAKE) --no-print-directory compare && tail -n 1 "$$log"
 
 compare: target/tests/floats target/tests/narrowing target/tests/header differential rust tool
@@ -30,27 +39,38 @@ compare: target/tests/floats target/tests/narrowing target/tests/header differen
 	target/tests/floats 5
 	target/tests/header
 
-test-long: target/tests/floats target/tests/narrowing
+test-long: RUNS := long
+test-long: JOBS := 5000
+test-long: target/tests/floats target/tests/narrowing differential tool refusals
 	target/tests/narrowing 1000
 	target/tests/floats 200
-	$(MAKE) --no-print-directory differential RUNS=long
-	$(MAKE) --no-print-directory tool JOBS=5000
+
+# Every wrong program and wrong definition, over the modules that the proofs left; or from nothing, each proving its whole crate again.
+refusals refusals-from-nothing:
+	mkdir -p target
+	$(call told,rt check,target/check.log)
+	tools/refusals.py --long --must-fail $(if $(findstring nothing,$@),--from-nothing)
 
 # The stream for C beside the original, call by call: fixed runs, or random ones with the seed of the day; and two reels.
 RUNS := fixed
-differential: stream
-	if test -f $(ORIGINAL); then \
-	  $(MAKE) --no-print-directory target/tests/differential && target/tests/differential reels && target/tests/differential $(RUNS); \
-	else echo "differential: no original at $(ORIGINAL), not compared"; fi
+differential: $(if $(AT_HAND),target/tests/differential)
+ifdef AT_HAND
+	target/tests/differential reels
+	target/tests/differential $(RUNS)
+else
+	echo "differential: no original at $(ORIGINAL), not compared"
+endif
 
 # The skim tool as its users meet it, and beside the original on random jobs.
 JOBS := 300
-tool: program target/tests/skim_in_c
+tool: program target/tests/skim_in_c $(if $(AT_HAND),target/tests/skim)
 	tools/make_reel.py 62:24000 34:16000 | cmp - crates/skim/stdin
 	tests/skim.py tools/skim.sh target/tests/skim_in_c tools/make_reel.py
-	if test -f $(ORIGINAL); then \
-	  $(MAKE) --no-print-directory target/tests/skim && tests/skim_original.py target/bin/skim target/tests/skim $(JOBS); \
-	else echo "tool: no original at $(ORIGINAL), not compared"; fi
+ifdef AT_HAND
+	tests/skim_original.py target/bin/skim target/tests/skim $(JOBS)
+else
+	echo "tool: no original at $(ORIGINAL), not compared"
+endif
 
 # That the fixed runs find every wrong edit of the model.
 bites: target/tests/differential
@@ -66,16 +86,18 @@ rust: stream
 
 program:
 	echo "proving and building the skim tool; from nothing that takes some minutes"
-	mkdir -p target
-	rt check skim > target/skim.log 2>&1 || { cat target/skim.log; exit 1; }
+	mkdir -p target/tests
+	$(call told,rt check skim,target/skim.log)
 
 kernels:
+	echo "proving and building the entry points to inner functions"
 	mkdir -p target/tests target/bench
-	rt staticlib kernels_c > target/kernels.log 2>&1 || { cat target/kernels.log; exit 1; }
+	$(call told,rt staticlib kernels_c,target/kernels.log)
 
 stream:
+	echo "proving and building the library for C"
 	mkdir -p target/tests target/bench
-	rt staticlib sonic_c > target/stream.log 2>&1 || { cat target/stream.log; exit 1; }
+	$(call told,rt staticlib sonic_c,target/stream.log)
 
 target/tests/floats: tests/floats.rs kernels
 	$(RUSTC) $< -o $@ $(LINK_KERNELS)
