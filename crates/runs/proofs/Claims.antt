@@ -25,9 +25,9 @@ use Rattle.runs.specs.Demand.{RunOf, last, ledgerOf, acceptedOf, All, Co
 use Rattle.runs.specs.Demand.{LedgerClaim, SameCallsClaim, SameFramesClaim, CountClaim}
 use Rattle.runs.proofs.Simulation.{opened-as, run-is-ledger}
 use Rattle.runs.proofs.Passage.{Passage}
-use Rattle.runs.proofs.Quiet.{passageIn, Calm}
+use Rattle.runs.proofs.Quiet.{passageIn, NothingHeld}
 use Rattle.runs.proofs.Entries.{entries, ledger-entries, QuietCalls, entries-quiet, passedJoined, entries-pass}
-use Rattle.runs.proofs.Counting.{Counted, Untouched, calls-counted, counted-is}
+use Rattle.runs.proofs.Counting.{FramesCounted, Untouched, calls-counted, counted-is}
 
 -- ---- the ledger
 
@@ -61,7 +61,7 @@ same-calls rate channels a b e =
 -- ---- the same joined frames
 
 module _ (rate channels : ℕ) where
-  begun-calm : Calm rate channels (begun rate channels)
+  begun-calm : NothingHeld rate channels (begun rate channels)
   unfolding begun fresh
   begun-calm = record { rate-is = refl; channels-is = refl; input = refl; short = omega arith }
 
@@ -109,9 +109,9 @@ count rate channels a q before behind x e w n other k =
     let cs : List Call = before ++ setting (Pitch x) ∷ behind in
     let quiet : QuietCalls start cs = subst (QuietCalls start) e (quiet-calls a q) in
     let r : Rates = ratesOf rate (heldPitch x) in
-    let counted : Counted r (framesIn channels cs) (entries start cs .made) =
+    let counted : FramesCounted r (framesIn channels cs) (entries start cs .made) =
     calls-counted rate channels x other before behind start (begun-calm rate channels) (begun-untouched rate channels) quiet w n (subst (All NoFlush) e k) in
-    let in-run : Counted r (framesIn channels (acceptedOf a)) (book a .made) =
-    subst (λ (c : List Call). Counted r (framesIn channels c) (entries start c .made)) (sym e) counted in
+    let in-run : FramesCounted r (framesIn channels (acceptedOf a)) (book a .made) =
+    subst (λ (c : List Call). FramesCounted r (framesIn channels c) (entries start c .made)) (sym e) counted in
     let positive : 0 < r .old = old-positive rate x (opened-as rate channels (a .stream) (a .opens) .rate-good) in
     ap length (total-is-book a) ∙ length-map (book a .made) (map sampleOut) ∙ counted-is r (framesIn channels (acceptedOf a)) (book a .made) positive in-run

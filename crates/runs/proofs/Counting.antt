@@ -27,7 +27,7 @@ use Rattle.runs.specs.Ledger.{Call, setting, write, flush, read, Ledger,
 use Rattle.runs.specs.Demand.{All, NoWrite, NoFlush, NoPitch, NotPitch, framesIn, heldPitch}
 use Rattle.runs.proofs.Work.{setting-cases, bare}
 use Rattle.runs.proofs.Passage.{Passage, passed, all, adjustBy, joinTail-convert, scaledBy}
-use Rattle.runs.proofs.Quiet.{passageIn, Calm, QuietCall, samplesIn, setting-passes, write-passes}
+use Rattle.runs.proofs.Quiet.{passageIn, NothingHeld, QuietCall, samplesIn, setting-passes, write-passes}
 use Rattle.runs.proofs.Entries.{entries, QuietCalls}
 
 -- ---- frames converted from the last pitch on
@@ -40,13 +40,13 @@ record Converted (rate : ℕ) (pitch : Float) (l : Ledger) (fs : List Frame) : T
   made : length (l .made) ≡ length (convert (ratesOf rate pitch) start fs .made)
 
 -- F frames in all, converted to as many as were made
-pub record Counted (r : Rates) (F : ℕ) (made : List Frame) : Type 0 where
+pub record FramesCounted (r : Rates) (F : ℕ) (made : List Frame) : Type 0 where
   pub frames : List Frame
   pub number : length frames ≡ F
   pub counted : length made ≡ length (convert r start frames .made)
 
 -- k·N/O rounded up, of k = F − 12 tail frames consumed
-pub counted-is : (r : Rates) (F : ℕ) (made : List Frame) → 0 < r .old → Counted r F made → length made ≡ ceilDiv ((F - 12) * r .new) (r .old)
+pub counted-is : (r : Rates) (F : ℕ) (made : List Frame) → 0 < r .old → FramesCounted r F made → length made ≡ ceilDiv ((F - 12) * r .new) (r .old)
 unfolding convert
 counted-is r F made p k =
     k .counted ∙ start-count r (consumable (k .frames)) (k .frames) p ∙ ap (λ (n : ℕ). ceilDiv ((n - 12) * r .new) (r .old)) (k .number)
@@ -56,7 +56,7 @@ module _ (rate channels : ℕ) (pitch : Float) (other : eq pitch one ≡ false) 
   r = ratesOf rate pitch
 
   -- and converts new ones behind these
-  converts-more : (l : Ledger) (fs new : List Frame) → Converted rate pitch l fs → Calm rate channels l
+  converts-more : (l : Ledger) (fs new : List Frame) → Converted rate pitch l fs → NothingHeld rate channels l
       → adjustRate (l .state .rate) (l .state .pitch) (l .state .at) (l .state .tail) new
       ≡ convert r (convert r start fs .at) (convert r start fs .rest ++ new)
   unfolding adjustRate
@@ -69,7 +69,7 @@ module _ (rate channels : ℕ) (pitch : Float) (other : eq pitch one ≡ false) 
       ∙ ap (λ (x : Position). convert r x (t .tail ++ new)) (converted .at)
       ∙ ap (λ (x : List Frame). convert r (convert r start fs .at) (x ++ new)) (converted .tail)
 
-  write-converts : (l : Ledger) (fs : List Frame) (samples : List Float) → Converted rate pitch l fs → Calm rate channels l → QuietCall l (write samples)
+  write-converts : (l : Ledger) (fs : List Frame) (samples : List Float) → Converted rate pitch l fs → NothingHeld rate channels l → QuietCall l (write samples)
       → Converted rate pitch (entry l (write samples)) (fs ++ samplesIn (wholeFrames channels samples))
   unfolding bare passed andThen
   write-converts l fs samples converted calm quiet =
@@ -104,9 +104,9 @@ module _ (rate channels : ℕ) (pitch : Float) (other : eq pitch one ≡ false) 
   setting-converts l fs (Pitch x) n c = absurd n
   setting-converts l fs (Volume x) n c = record { held = c .held; tail = c .tail; at = c .at; made = c .made }
 
-  behind-counted : (cs : List Call) (l : Ledger) (fs : List Frame) → Calm rate channels l → QuietCalls l cs
+  behind-counted : (cs : List Call) (l : Ledger) (fs : List Frame) → NothingHeld rate channels l → QuietCalls l cs
       → All NoPitch cs → All NoFlush cs → Converted rate pitch l fs
-      → Counted r (length fs + framesIn channels cs) (entries l cs .made)
+      → FramesCounted r (length fs + framesIn channels cs) (entries l cs .made)
   unfolding entries framesIn entry
   behind-counted [] l fs calm quiet no-pitch no-flush converted = record { frames = fs; number = omega arith; counted = converted .made }
   behind-counted (setting x ∷ cs) l fs calm quiet no-pitch no-flush converted =
@@ -117,7 +117,7 @@ module _ (rate channels : ℕ) (pitch : Float) (other : eq pitch one ≡ false) 
       let new : List Frame = samplesIn whole in
       let e : length (fs ++ new) + framesIn channels cs ≡ length fs + (length whole + framesIn channels cs) =
       omega (arith, length-append fs new, length-map whole (map sampleIn)) in
-      subst (λ (F : ℕ). Counted r F (entries (entry l (write samples)) cs .made)) e
+      subst (λ (F : ℕ). FramesCounted r F (entries (entry l (write samples)) cs .made)) e
       (behind-counted cs (entry l (write samples)) (fs ++ new) (write-passes calm samples (quiet .0) .1) (quiet .1) (no-pitch .1) (no-flush .1)
       (write-converts l fs samples converted calm (quiet .0)))
   behind-counted (flush ∷ cs) l fs calm quiet no-pitch no-flush converted = absurd (no-flush .0)
@@ -143,14 +143,14 @@ module _ (rate channels : ℕ) (x : Float) (other : eq (heldPitch x) one ≡ fal
   unfolding entry withSetting convert scan steps
   pitch-converts l t = record { held = refl; tail = t .tail; at = refl; made = ap length (t .made) }
 
-  pub calls-counted : (before behind : List Call) (l : Ledger) → Calm rate channels l → Untouched l
+  pub calls-counted : (before behind : List Call) (l : Ledger) → NothingHeld rate channels l → Untouched l
       → QuietCalls l (before ++ setting (Pitch x) ∷ behind)
       → All NoWrite before → All NoPitch behind → All NoFlush (before ++ setting (Pitch x) ∷ behind)
-      → Counted (ratesOf rate (heldPitch x)) (framesIn channels (before ++ setting (Pitch x) ∷ behind))
+      → FramesCounted (ratesOf rate (heldPitch x)) (framesIn channels (before ++ setting (Pitch x) ∷ behind))
       (entries l (before ++ setting (Pitch x) ∷ behind) .made)
   unfolding entries framesIn entry
   calls-counted [] behind l calm untouched quiet no-write no-pitch no-flush =
-      subst (λ (F : ℕ). Counted (ratesOf rate (heldPitch x)) F (entries (entry l (setting (Pitch x))) behind .made)) (zero-add (framesIn channels behind))
+      subst (λ (F : ℕ). FramesCounted (ratesOf rate (heldPitch x)) F (entries (entry l (setting (Pitch x))) behind .made)) (zero-add (framesIn channels behind))
       (behind-counted rate channels (heldPitch x) other behind (entry l (setting (Pitch x))) [] (setting-passes calm (Pitch x) .1) (quiet .1)
       no-pitch (no-flush .1) (pitch-converts l untouched))
   calls-counted (setting v ∷ before) behind l calm untouched quiet no-write no-pitch no-flush =

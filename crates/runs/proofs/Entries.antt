@@ -11,7 +11,7 @@ use Rattle.runs.specs.Ledger.{Call, setting, write, flush, read, Fed, Le
 use Rattle.runs.specs.Demand.{unlessRead, acceptedIn, All, CopiedOrEmpty, Mark, at-setting, at-flush, Segment, Joined, marked, joinedFrames}
 use Rattle.runs.proofs.Work.{bare}
 use Rattle.runs.proofs.Passage.{Passage, passed, all, passed-none, passed-append}
-use Rattle.runs.proofs.Quiet.{passageIn, Calm, QuietCall, passedSetting, passedFlush, samplesIn, setting-passes, write-passes, flush-passes}
+use Rattle.runs.proofs.Quiet.{passageIn, NothingHeld, QuietCall, passedSetting, passedFlush, samplesIn, setting-passes, write-passes, flush-passes}
 
 -- ---- accepted calls, one after another
 
@@ -88,7 +88,7 @@ unfolding passedJoined passedSegments marked
 passed-marked mark q j =
     ap (λ (c : Passage). passedSegments (passed all (passedMark mark c) (samplesIn (j .first))) (j .segments)) (sym (passed-none q))
 
-pub entries-pass : {rate channels : ℕ} (l : Ledger) (cs : List Call) → Calm rate channels l → QuietCalls l cs
+pub entries-pass : {rate channels : ℕ} (l : Ledger) (cs : List Call) → NothingHeld rate channels l → QuietCalls l cs
     → passageIn (entries l cs) ≡ passedJoined (passageIn l) (joinedFrames channels cs)
 unfolding entries joinedFrames passedMark passedJoined passedSegments bare entry
 entries-pass l [] h q = sym (passed-none (passageIn l))

@@ -77,7 +77,7 @@ process-passes s made cut q =
 -- ---- calls of a ledger
 
 -- of this rate and channels, with nothing held and a short tail
-pub record Calm (rate channels : ℕ) (l : Ledger) : Type 0 where
+pub record NothingHeld (rate channels : ℕ) (l : Ledger) : Type 0 where
   pub rate-is : l .state .rate ≡ rate
   pub channels-is : l .state .channels ≡ channels
   pub input : l .state .input ≡ []
@@ -111,18 +111,18 @@ bare-setting (Speed x) s = refl
 bare-setting (Pitch x) s = refl
 bare-setting (Volume x) s = refl
 
-module _ {rate channels : ℕ} {l : Ledger} (h : Calm rate channels l) where
-  pub setting-passes : (v : Setting) → (passageIn (entry l (setting v)) ≡ passedSetting v (passageIn l)) × Calm rate channels (entry l (setting v))
+module _ {rate channels : ℕ} {l : Ledger} (h : NothingHeld rate channels l) where
+  pub setting-passes : (v : Setting) → (passageIn (entry l (setting v)) ≡ passedSetting v (passageIn l)) × NothingHeld rate channels (entry l (setting v))
   unfolding entry passedSetting
   setting-passes v = (
     ap (λ (s : State). record { state = s; made = l .made }) (bare-setting v (l .state)),
-    setting-cases (λ (s : State). Calm rate channels (record { state = s; made = l .made; outcomes = l .outcomes })) (l .state)
+    setting-cases (λ (s : State). NothingHeld rate channels (record { state = s; made = l .made; outcomes = l .outcomes })) (l .state)
         (λ speed pitch volume at. record { rate-is = h .rate-is; channels-is = h .channels-is; input = h .input; short = h .short }) v,
   )
 
   pub write-passes : (samples : List Float) → QuietCall l (write samples)
       → (passageIn (entry l (write samples)) ≡ passed all (passageIn l) (samplesIn (wholeFrames channels samples)))
-      × Calm rate channels (entry l (write samples))
+      × NothingHeld rate channels (entry l (write samples))
   unfolding entry writeWork joined bare
   write-passes samples q =
       let new : ℕ → List Frame = λ k. samplesIn (wholeFrames k samples) in
@@ -137,7 +137,7 @@ module _ {rate channels : ℕ} {l : Ledger} (h : Calm rate channels l) where
       subst Short (sym (ap (λ (c : Passage). c .state .tail) e)) (passed-short (passageIn l) all (new channels) (h .short)) in
       (e, record { rate-is = process-rate s ∙ h .rate-is; channels-is = process-channels s ∙ h .channels-is; input = p .1; short = short })
 
-  pub flush-passes : QuietCall l flush → (passageIn (entry l flush) ≡ passedFlush (passageIn l)) × Calm rate channels (entry l flush)
+  pub flush-passes : QuietCall l flush → (passageIn (entry l flush) ≡ passedFlush (passageIn l)) × NothingHeld rate channels (entry l flush)
   unfolding entry flushWork joined cleared expected bare passedFlush
   flush-passes q =
       let fs : List Frame = silence (l .state) in
