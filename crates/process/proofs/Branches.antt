@@ -1,15 +1,23 @@
--- Which frames a call takes, by what it tests. Assumes nothing.
+-- Which frames a call takes, by what it tests; the local speed is an f32. Assumes nothing.
 use mathlib.Core.Path.{_≡_, _∙_}
 use mathlib.Core.Bool.{true, false}
-use Prim.Native.Nat.{_≤_, _<_}
+use Prim.Native.Nat.{ℕ, _≤_, _<_}
 use native.Mathlib.Omega.{arith}
 use borrow.Author.Tests.{lt-ltb, le-ltb, eq-eqb, ne-eqb}
+use lib.Dec.{T}
+use lib.Ieee.{Float, binary32, mul, fits}
+use lib.Ieee.Fits.{div-fits}
 use lib.ListN.{length}
-use Rattle.floats.specs.Write.{speedChanges}
+use Rattle.floats.specs.Numbers.{count}
+use Rattle.floats.specs.Write.{localSpeed, speedChanges}
 use Rattle.period.specs.Rates.{maxRequired}
 use Rattle.stream.specs.State.{State}
 use Rattle.process.specs.declared.Outcome.the-variants.{Empty, Waiting}
 use Rattle.process.specs.Process.{nothing, copied, stretched, takenAt, speedAt, taken}
+
+pub speed-fits : (held : ℕ) (period play : Float) → T (fits binary32 (localSpeed held period play))
+unfolding localSpeed
+speed-fits held period play = div-fits binary32 (mul binary32 (count held) period) play
 
 pub taken-empty : (s : State) → length (s .input) ≡ 0 → taken s ≡ nothing Empty s
 unfolding taken

@@ -4,13 +4,11 @@ use mathlib.Core.Bool.{Bool, true, false, cond, false≢true}
 use mathlib.Core.List.{List, [], List·Memᴰ, List·Memᴰ·not-nil}
 use Prim.Native.Nat.{_^_, _≤_}
 use lib.Dec.{eqb, ltb}
-use lib.Ieee.{Float, binary32, mul}
-use lib.Ieee.Fits.{div-fits}
+use lib.Ieee.{Float}
 use lib.ListN.{length}
 use Rattle.frames.specs.Framing.{flat}
-use Rattle.floats.specs.Numbers.{count}
 use Rattle.floats.specs.Settings.{samplePeriod}
-use Rattle.floats.specs.Write.{localSpeed, speedChanges}
+use Rattle.floats.specs.Write.{speedChanges}
 use Rattle.period.specs.Rates.{InLimits, maxRequired}
 use Rattle.period.specs.Pitch.{PeriodIn}
 use Rattle.stretch.specs.declared.Step.{Step}
@@ -21,6 +19,7 @@ use Rattle.stream.specs.State.{State}
 use Rattle.process.specs.declared.Outcome.{Outcome}
 use Rattle.process.specs.declared.Outcome.the-variants.{Empty, Copied, Waiting, Stretched, Stalled}
 use Rattle.process.specs.Process.{Taken, nothing, copied, stretched, takenAt, taken, speedAt, callAt, placeOf, stepsAt, finished, process}
+use Rattle.process.proofs.Branches.{speed-fits}
 
 -- what the claim asks of a state: rate and channels in range, few frames, a period record in the range
 pub record Held (s : State) : Type 0 where
@@ -55,11 +54,10 @@ module _ (s : State) (h : Held s) where
   x = speedAt s
 
   ready : StretchReady (callAt x s)
-  unfolding localSpeed
   ready = record {
     opened = h .limits;
     period-is = refl;
-    speed-fits = div-fits binary32 (mul binary32 (count (length (s .input))) (samplePeriod (s .rate))) (s .«input_play_time»);
+    speed-fits = speed-fits (length (s .input)) (samplePeriod (s .rate)) (s .«input_play_time»);
     few = h .few;
   }
 

@@ -1,12 +1,13 @@
 -- No frames and copied frames, in the words of the contracts: how they fill the stage. Here:
---   speed-same                       the local speed of a stream and of its state
---   empty-filled, waiting-filled     no frames
---   copied-full, copied-filled       all frames
+--   ready-limits, held-few, tail-le     counts of a stream in order, whose input and tail lie in their areas
+--   speed-same                          the local speed of a stream and of its state
+--   empty-filled, waiting-filled        no frames
+--   allFilled, copied-full, copied-filled     all frames
 -- Assumes nothing.
 use mathlib.Core.Path.{_≡_, refl, sym, ap, _∙_, subst}
 use mathlib.Core.Bool.{true, false}
 use mathlib.Core.List.{List}
-use Prim.Native.Nat.{ℕ, _+_, _*_, _≤_, _<_, zero-le}
+use Prim.Native.Nat.{ℕ, _+_, _*_, _/_, _^_, _≤_, _<_, zero-le}
 use native.Mathlib.Nat.{le-of-eq}
 use native.Mathlib.Omega.{arith}
 use lib.IntN.{ℤ}
@@ -15,9 +16,10 @@ use lib.Seq.{paste}
 use Rattle.frames.specs.Framing.{framesOf, Behind}
 use Rattle.frames.proofs.Framing.{length-framesOf}
 use Rattle.frames.proofs.Behind.{behind-none, behind-paste}
+use Rattle.frames.proofs.Room.{frames-le, count-le}
 use Rattle.floats.specs.Settings.{samplePeriod}
 use Rattle.floats.specs.Write.{localSpeed, speedChanges}
-use Rattle.period.specs.Rates.{maxRequired}
+use Rattle.period.specs.Rates.{InLimits, maxRequired}
 use Rattle.stream.specs.declared.SonicStream.{SonicStream}
 use Rattle.stream.specs.State.{State}
 use Rattle.stream.specs.Stream.{stateOf, streamOf, ChangedBy}
@@ -30,6 +32,21 @@ use Rattle.process.specs.Process.{Taken, nothing, removed, copied, speed
 use Rattle.process.specs.Streams.{speedOf}
 use Rattle.process.specs.Filling.{AreasFit, nothingFilled, FilledBy, FillEnsures}
 use Rattle.process.proofs.Branches.{taken-empty, taken-waiting, taken-copied}
+
+-- ---- counts
+
+pub ready-limits : {s : SonicStream} → StreamReady s → InLimits (s .rate) (s .channels)
+unfolding stateOf
+ready-limits r = r .state .limits
+
+module _ {s : SonicStream} {input stage : List ℤ} (r : StreamReady s) (fit : AreasFit s input stage) where
+  pub held-few : s .held .0 ≤ 2 ^ 24
+  held-few = omega (arith, count-le (s .channels) (s .held .0) (ready-limits r .channels-low), fit .held, fit .input-short)
+
+  pub tail-le : s .tail .0 ≤ length stage / s .channels
+  tail-le = frames-le (s .channels) (s .tail .0) (length stage) (ready-limits r .channels-low) (fit .tail)
+
+-- ---- the local speed
 
 pub speed-same : (s : SonicStream) (input stage : List ℤ) → speedAt (stateOf s input stage) ≡ speedOf s
 unfolding stateOf

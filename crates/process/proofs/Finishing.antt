@@ -1,9 +1,9 @@
 -- The second half of a call's work, in the words of the contracts. Here:
---   mapped-behind                                  volume
---   TailedBy, used-fits, left-fits, commit-done    the commit
---   commit-ready, finish-done                      the finish, which the commit ends
+--   mapped-behind                 volume
+--   TailedBy, moved-as, used-fits, left-fits, commit-done     the commit
+--   commit-ready, finish-done     the finish, which the commit ends
 -- Assumes nothing.
-use mathlib.Core.Path.{_≡_, refl, sym, ap, _∙_, subst}
+use mathlib.Core.Path.{_≡_, refl, ap, _∙_, subst}
 use mathlib.Core.List.{List, [], map}
 use Prim.Native.Nat.{ℕ, _+_, _-_, _*_, _≤_}
 use native.Mathlib.Nat.{add-mul, mul-le-mul-right}
@@ -15,24 +15,17 @@ use Rattle.frames.specs.Areas.{Areas, areas}
 use Rattle.frames.specs.Framing.{Frame, framesOf, Behind}
 use Rattle.frames.proofs.Framing.{length-framesOf, framesOf-cong, framesOf-map}
 use Rattle.frames.proofs.Pasted.{paste-part}
-use Rattle.frames.proofs.Behind.{behind-paste, behind-length, behind-whole, behind-front, removed-frames}
+use Rattle.frames.proofs.Behind.{behind-paste, removed-frames}
 use Rattle.volume.specs.Volume.{scaled}
 use Rattle.rate.specs.declared.Adjusted.{Adjusted}
-use Rattle.rate.specs.Conversion.{Conversion, adjustRate}
+use Rattle.rate.specs.Conversion.{Conversion}
 use Rattle.rate.specs.Adjusting.{AdjustedAs, newFrames}
-use Rattle.rate.proofs.Chunks.{adjustRate-order}
 use Rattle.stream.specs.declared.SonicStream.{SonicStream}
 use Rattle.stream.specs.State.{State, withTail}
 use Rattle.stream.specs.Stream.{stateOf, streamOf, ChangedBy}
-use Rattle.stream.specs.Order.{StreamReady}
-use Rattle.process.specs.declared.Outcome.{Outcome}
 use Rattle.process.specs.declared.Work.{Work}
 use Rattle.process.specs.declared.fill.Filled.{Filled}
-use Rattle.process.specs.Process.{Taken, Made, taken, finished, process}
-use Rattle.process.specs.Filling.{FilledAs}
-use Rattle.process.specs.Finishing.{FinishReady, CommitReady, FinishedAs, FinishedBy, adjustedAs, conversionOf}
-use Rattle.process.specs.Working.{AreasReady, Unchanged, WorkedAs, WorkedBy, WorkEnsures}
-use Rattle.process.proofs.Taken.{taken-keeps}
+use Rattle.process.specs.Finishing.{FinishReady, CommitReady, FinishedBy, adjustedAs}
 
 -- ---- volume: a map over the samples of frames
 
@@ -70,7 +63,11 @@ committed x c w =
       waiting = record { 0 = w };
     }
 
--- frames of an area moved to its front
+-- samples of an area moved to its front: the counts n and m are k and l
+pub moved-as : (area exit : List ℤ) {n m k l : ℕ} → exit ≡ paste area 0 (drop n area) m → n ≡ k → m ≡ l → exit ≡ paste area 0 (drop k area) l
+moved-as area exit e p q = e ∙ (λ i. paste area 0 (drop (p i) area) (q i))
+
+-- they are frames
 moved-frames : (ch from left : ℕ) (area : List ℤ) → from * ch + left * ch ≤ length area
     → framesOf ch left (paste area 0 (drop (from * ch) area) (left * ch)) ≡ framesOf ch left (drop (from * ch) area)
 moved-frames ch from left area h =

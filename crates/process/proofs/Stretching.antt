@@ -12,15 +12,13 @@ use native.Mathlib.Omega.{arith}
 use borrow.Author.Tests.{ltb-true, ltb-false}
 use lib.Dec.{T, ltb}
 use lib.IntN.{ℤ}
-use lib.Ieee.{Float, binary32, mul, fits}
-use lib.Ieee.Fits.{div-fits}
+use lib.Ieee.{Float, binary32, fits}
 use lib.ListN.{length, take, drop, length-take}
 use Rattle.frames.specs.Framing.{Frame, flat}
 use Rattle.frames.proofs.Framing.{length-framesOf, flat-framesOf}
-use Rattle.frames.proofs.Room.{count-le, room-under}
-use Rattle.floats.specs.Numbers.{count}
+use Rattle.frames.proofs.Room.{room-under}
 use Rattle.floats.specs.Settings.{samplePeriod}
-use Rattle.floats.specs.Write.{localSpeed, speedChanges}
+use Rattle.floats.specs.Write.{speedChanges}
 use Rattle.period.specs.declared.PeriodRecord.{PeriodRecord}
 use Rattle.period.specs.Rates.{maxRequired}
 use Rattle.stretch.specs.declared.StretchCall.{StretchCall}
@@ -38,11 +36,11 @@ use Rattle.stream.specs.Order.{StreamReady}
 use Rattle.stream.proofs.Streams.{held-is}
 use Rattle.process.specs.declared.fill.Filled.{Filled}
 use Rattle.process.specs.declared.fill.Fill.{Fill}
-use Rattle.process.specs.Process.{Taken, removed, stretched, stepped, callAt, placeOf, stepsAt, speedAt, taken}
+use Rattle.process.specs.Process.{Taken, removed, stretched, stepped, callAt, placeOf, speedAt, taken}
 use Rattle.process.specs.Streams.{speedOf}
 use Rattle.process.specs.Filling.{AreasFit, SteppedAs, FilledBy, FillEnsures}
-use Rattle.process.proofs.Branches.{taken-stretched}
-use Rattle.process.proofs.Filling.{speed-same}
+use Rattle.process.proofs.Branches.{speed-fits, taken-stretched}
+use Rattle.process.proofs.Filling.{ready-limits, held-few, speed-same}
 
 -- ---- the call
 
@@ -72,10 +70,6 @@ pub record Due (s : SonicStream) (x : Float) (input stage : List ℤ) : Type 0 w
   pub speed-is : x ≡ speedOf s
   pub changes : speedChanges x ≡ true
 
-local-fits : (held : ℕ) (period play : Float) → T (fits binary32 (localSpeed held period play))
-unfolding localSpeed
-local-fits held period play = div-fits binary32 (mul binary32 (count held) period) play
-
 -- `change_speed`, handed such a call, the samples l and the place h, answered r and left the stage as `exit`
 abbrev AnsweredTo : StretchCall → List ℤ → Place → SonicStream → List ℤ → List ℤ → S.Stretched → Type 0
 AnsweredTo c l h s stage exit r =
@@ -90,13 +84,12 @@ module _ {s : SonicStream} {x : Float} {input stage : List ℤ} (d : Due s x inp
   state = stateOf s input stage
 
   pub call-ready : StretchReady (callOf s x)
-  unfolding stateOf
   call-ready =
       record {
-        opened = d .ready .state .limits;
+        opened = ready-limits (d .ready);
         period-is = d .ready .period-is;
-        speed-fits = subst (λ (y : Float). T (fits binary32 y)) (sym (d .speed-is)) (local-fits (s .held .0) (samplePeriod (s .rate)) (s .«input_play_time»));
-        few = omega (arith, count-le (s .channels) (s .held .0) (d .ready .state .limits .channels-low), d .fit .held, d .fit .input-short);
+        speed-fits = subst (λ (y : Float). T (fits binary32 y)) (sym (d .speed-is)) (speed-fits (s .held .0) (samplePeriod (s .rate)) (s .«input_play_time»));
+        few = held-few (d .ready) (d .fit);
       }
 
   pub lent-long : s .held .0 * s .channels ≤ length (lentOf s input)
@@ -137,7 +130,7 @@ module _ {s : SonicStream} {x : Float} {input stage : List ℤ} (d : Due s x inp
   taken-is =
       let held = held-is s input stage in
       let same : speedAt state ≡ x = speed-same s input stage ∙ sym (d .speed-is) in
-      let low : 1 ≤ maxRequired (s .rate) = omega (arith, d .ready .state .limits .rate-low) in
+      let low : 1 ≤ maxRequired (s .rate) = omega (arith, ready-limits (d .ready) .rate-low) in
       taken-stretched state (omega (arith, held, d .enough)) (ap speedChanges same ∙ d .changes) (omega (arith, held, d .enough))
       ∙ ap (λ (y : Float). stretched y state) same
 
@@ -226,7 +219,7 @@ module _ {s : SonicStream} {x : Float} {input stage : List ℤ} (d : Due s x inp
     unfolding stretched stateOf answerFor
     stretched-filled f g =
         let t : State = stateOf s input stage in
-        let fits = room-under (s .channels) (s .tail .0) made (length stage) (d .ready .state .limits .channels-low) (d .fit .tail) (made-all .0) in
+        let fits = room-under (s .channels) (s .tail .0) made (length stage) (ready-limits (d .ready) .channels-low) (d .fit .tail) (made-all .0) in
         let behind = staged-behind (answers .1) ready (d .ready .state .prev .period-in) (list-long d) (made-all .0) fits in
         let h : SteppedAs s answer f = subst (λ (a : Stretch). SteppedAs s a f) (sym (made-all .1)) g in
         fills d exit (Fill.Done f)

@@ -10,13 +10,12 @@ use Rattle.frames.proofs.Framing.{length-framesOf, framesOf-cong}
 use Rattle.frames.proofs.Behind.{behind-length, behind-whole, behind-front}
 use Rattle.volume.specs.Volume.{scaled}
 use Rattle.rate.specs.Conversion.{Conversion, adjustRate}
-use Rattle.rate.specs.Adjusting.{newFrames}
 use Rattle.rate.proofs.Chunks.{adjustRate-order}
 use Rattle.stream.specs.declared.SonicStream.{SonicStream}
 use Rattle.stream.specs.State.{State, withTail}
-use Rattle.stream.specs.Stream.{stateOf, streamOf}
+use Rattle.stream.specs.Stream.{stateOf, streamOf, ChangedBy}
 use Rattle.stream.specs.Order.{StateReady, StreamReady}
-use Rattle.stream.proofs.Streams.{back-alike, tail-alike, streamOf-same, ready-stream, ready-tail}
+use Rattle.stream.proofs.Streams.{changed-back, tail-alike, ready-stream, ready-tail}
 use Rattle.process.specs.declared.Outcome.{Outcome}
 use Rattle.process.specs.declared.Work.{Work}
 use Rattle.process.specs.declared.fill.Filled.{Filled}
@@ -94,10 +93,11 @@ module _ (s : SonicStream) (d : Filled) (a : Areas) (middle : List ℤ)
   stream-is : (x : SonicStream) → TailedBy s d c x → x ≡ streamOf (finished t c .state) (s .waiting .0 + length (finished t c .frames))
   unfolding finished t
   stream-is x e =
+      let tailed : State → State = λ y. withTail y (c .rest) (c .at) in
       let w : ℕ = s .waiting .0 + length (c .made) in
-      e [] [] ∙ ap (λ (y : SonicStream). streamOf (withTail (stateOf y [] []) (c .rest) (c .at)) w) (f .stream)
-      ∙ streamOf-same (tail-alike (back-alike (t .state) (s .waiting .0) [] []) (c .rest) (c .rest) refl refl) w
-      ∙ ap (λ (n : ℕ). streamOf (withTail (t .state) (c .rest) (c .at)) (s .waiting .0 + n)) (sym scaled-length)
+      changed-back tailed (λ y z h. tail-alike h (c .rest) (c .rest) refl refl) (t .state) (s .waiting .0) w x
+      (subst (λ (y : SonicStream). ChangedBy tailed y w x) (f .stream) e)
+      ∙ ap (λ (n : ℕ). streamOf (tailed (t .state)) (s .waiting .0 + n)) (sym scaled-length)
 
   module _ (r : StreamReady s) where
     taken-ready : StateReady (t .state)

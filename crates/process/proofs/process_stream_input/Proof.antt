@@ -2,7 +2,9 @@
 -- Assumes nothing.
 use borrow.Author.Needs.{needs}
 use mathlib.Core.Path.{_≡_, refl, subst}
-use Rattle.frames.specs.Areas.{areas}
+use mathlib.Core.List.{List}
+use lib.IntN.{ℤ}
+use Rattle.frames.specs.Areas.{Areas, areas}
 use Rattle.process.specs.declared.fill.Fill.{Fill}
 use Rattle.process.specs.Filling.{FillEnsures}
 use Rattle.process.proofs.Working.{finish-ready, work-done, work-full}
@@ -18,46 +20,52 @@ start c = c .before .before .before .before
 abbrev filled : tie.After-scratch → tie.After-fill-stage
 filled c = c .before .before
 
-abbrev filled-at : tie.After-finish-arg3 → tie.After-filled
-filled-at c = c .before .before .before .before
+abbrev finishing : tie.After-finish-arg3 → tie.After-filled
+finishing c = c .before .before .before .before
 
 -- ---- how the stage was filled
 
+abbrev lent : tie.Start → Areas
+lent s = areas (s .args .input .now) (s .args .stage .now) (s .args .output .now) (s .args .scratch .now)
+
+-- the stage after it
+abbrev middle : tie.After-fill-stage → List ℤ
+middle c = c .fill-stage .last .1 .1 .0
+
 answer-is : (c : tie.After-fill-stage) (r : Fill) → c .fill-stage .result ≡ r
-    → let a = start c .args in FillEnsures (a .stream) (a .input .now) (a .stage .now) (c .fill-stage .last .1 .1 .0) r
+    → let s = start c in FillEnsures (s .args .stream) (lent s .input) (lent s .stage) (middle c) r
 answer-is c r e =
-    let a = start c .args in subst (FillEnsures (a .stream) (a .input .now) (a .stage .now) (c .fill-stage .last .1 .1 .0)) e (c .fill-stage .ensures)
+    let s = start c in
+    subst (FillEnsures (s .args .stream) (lent s .input) (lent s .stage) (middle c)) e (c .fill-stage .ensures)
 
 -- ---- answered here
 
 finish-requires : tie.Need-finish-requires
 finish-requires c κs =
-    let done = filled-at c in
+    let done = finishing c in
     let fill = filled (done .before .before) in
     let s = start fill in
-    let a = s .args in
-    finish-ready (a .stream) (done .filled .given .0 .0) (areas (a .input .now) (a .stage .now) (a .output .now) (a .scratch .now))
-    (fill .fill-stage .last .1 .1 .0) (answer-is fill (Fill.Done (done .filled .given .0 .0)) (done .filled .given .1)) (s .pre .0) (s .pre .1)
+    let d = done .filled .given .0 .0 in
+    finish-ready (s .args .stream) d (lent s) (middle fill) (answer-is fill (Fill.Done d) (done .filled .given .1)) (s .pre .0) (s .pre .1)
 
 returns : tie.Need-returns
 returns c =
     let fill = filled (c .before .before) in
-    let a = start fill .args in
-    let last = fill .fill-stage .last .1 .1 in
-    work-full (a .stream) (areas (a .input .now) (a .stage .now) (a .output .now) (a .scratch .now))
-    (areas (a .input .now) (last .0) (a .output .now) (last .1 .0)) refl refl (answer-is fill Fill.Full (c .enum-told .given .1))
+    let s = start fill in
+    let after = areas (lent s .input) (middle fill) (lent s .output) (fill .fill-stage .last .1 .1 .1 .0) in
+    work-full (s .args .stream) (lent s) after refl refl (answer-is fill Fill.Full (c .enum-told .given .1))
 
 returns-2 : tie.Need-returns-2
 returns-2 c =
     let finished = c .before .before .before in
-    let done = filled-at (finished .before) in
+    let done = finishing (finished .before) in
     let fill = filled (done .before .before) in
     let s = start fill in
-    let a = s .args in
+    let d = done .filled .given .0 .0 in
     let last = finished .finish .last .1 .1 in
-    work-done (a .stream) (done .filled .given .0 .0) (areas (a .input .now) (a .stage .now) (a .output .now) (a .scratch .now))
-    (fill .fill-stage .last .1 .1 .0) (answer-is fill (Fill.Done (done .filled .given .0 .0)) (done .filled .given .1)) (s .pre .0)
-    (areas (last .0) (last .1 .0) (last .1 .1 .0) (fill .fill-stage .last .1 .1 .1 .0)) (finished .finish .result) (finished .finish .ensures)
+    let after = areas (last .0) (last .1 .0) (last .1 .1 .0) (fill .fill-stage .last .1 .1 .1 .0) in
+    work-done (s .args .stream) d (lent s) (middle fill) (answer-is fill (Fill.Done d) (done .filled .given .1)) (s .pre .0) after
+    (finished .finish .result) (finished .finish .ensures)
 
 -- ---- closed by search
 
@@ -94,17 +102,5 @@ same-length-7 c = search needs
 pub process-stream-input-spec : {M : Type 1} → statement M
 process-stream-input-spec =
     tie.close
-    (tie.spec
-    fill-stage-requires
-    enum-told
-    enum-known-filled
-    finish-requires
-    same-length
-    same-length-2
-    same-length-3
-    returns
-    same-length-4
-    same-length-5
-    same-length-6
-    same-length-7
-    returns-2)
+    (tie.spec fill-stage-requires enum-told enum-known-filled finish-requires same-length same-length-2 same-length-3 returns same-length-4
+    same-length-5 same-length-6 same-length-7 returns-2)

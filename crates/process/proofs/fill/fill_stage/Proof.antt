@@ -6,13 +6,10 @@ use mathlib.Core.Bool.{true}
 use Prim.Native.Nat.{_≤_}
 use native.Mathlib.Omega.{arith}
 use lib.Ieee.{Float}
-use Rattle.frames.proofs.Room.{count-le}
 use Rattle.floats.specs.Write.{localSpeed, speedChanges}
 use Rattle.period.specs.Rates.{maxRequired}
-use Rattle.stream.specs.declared.SonicStream.{SonicStream}
-use Rattle.stream.specs.Stream.{stateOf}
 use Rattle.process.specs.Streams.{speedOf}
-use Rattle.process.proofs.Filling.{empty-filled, waiting-filled}
+use Rattle.process.proofs.Filling.{held-few, empty-filled, waiting-filled}
 use Rattle.process.proofs.fill.fill_stage.Statement.{statement}
 use Rattle.process.proofs.fill.fill_stage.Tie as tie
 
@@ -46,11 +43,7 @@ returns c =
     rw (c .nothing .ensures) (empty-filled (a .stream) (s .pre .0) (a .input .now) (a .stage .now) (s .pre .1 .fit) (c .before .if1 .taken))
 
 local-speed-requires : tie.Need-local-speed-requires
-unfolding stateOf
-local-speed-requires c κs =
-    let s = c .before .before in
-    let fit = s .pre .1 .fit in
-    omega (arith, count-le (s .args .stream .channels) (s .args .stream .held .0) (s .pre .0 .state .limits .channels-low), fit .held, fit .input-short)
+local-speed-requires c κs = let r = c .before .before .pre in held-few (r .0) (r .1 .fit)
 
 returns-2 : tie.Need-returns-2
 returns-2 c =

@@ -2,13 +2,16 @@
 -- closed by search. Assumes nothing.
 use borrow.Author.Needs.{needs}
 use mathlib.Core.Path.{_≡_, sym, subst}
-use Prim.Native.Nat.{ℕ, _-_, _*_, _/_, _≤_, _<_}
+use mathlib.Core.List.{List}
+use Prim.Native.Nat.{ℕ, _-_, _*_, _≤_}
 use native.Mathlib.Nat.{add-mul}
 use native.Mathlib.Omega.{arith}
+use lib.IntN.{ℤ}
 use lib.ListN.{length, take}
-use Rattle.frames.proofs.Room.{frames-le, room-under}
+use Rattle.frames.proofs.Room.{room-under}
 use Rattle.stretch.specs.declared.Stretched as S
 use Rattle.stream.specs.Stream.{stateOf}
+use Rattle.process.proofs.Filling.{ready-limits, tail-le}
 use Rattle.process.proofs.Stretching.{Due, Answered, call-ready, lent-long, stretched-full, stretched-used, stretched-filled}
 use Rattle.process.proofs.fill.stretch_input.Statement.{statement}
 use Rattle.process.proofs.fill.stretch_input.Tie as tie
@@ -25,50 +28,44 @@ counted c = c .before .before .before .before .before
 abbrev called : tie.After-change-speed → tie.Start
 called c = start (counted (c .before .before) .before)
 
--- it answered
+-- it answered, and left the stage
 abbrev answered : tie.After-scratch → tie.After-change-speed
 answered c = c .before .before
+
+abbrev exit : tie.After-change-speed → List ℤ
+exit c = c .change-speed .last .1 .1 .1 .1 .0
 
 -- ---- what the stretch is handed
 
 due : (s : tie.Start) → Due (s .args .stream) (s .args .speed) (s .args .input .now) (s .args .stage .now)
 due s = record { ready = s .pre .0 .0; fit = s .pre .0 .1 .fit; enough = s .pre .1 .0; speed-is = s .pre .1 .1; changes = s .pre .1 .2 }
 
-some : (s : tie.Start) → 0 < s .args .stream .channels
-unfolding stateOf
-some s = s .pre .0 .0 .state .limits .channels-low
-
 -- the samples lent are those of the frames held
 lent : (c : tie.After-samples) → let x = start c .args .stream in c .samples .result .0 - 0 ≡ x .held .0 * x .channels
 lent c = omega (arith, c .samples .ensures)
 
--- the tail lies in the stage
-tail-le : (c : tie.After-frames) → start (c .before) .args .stream .tail .0 ≤ c .frames .result .0
-tail-le c =
-    let s = start (c .before) in
-    let x = s .args .stream in
-    rw (c .frames .ensures) (frames-le (x .channels) (x .tail .0) (length (s .args .stage .now)) (some s) (s .pre .0 .1 .fit .tail))
-
 -- ---- what it answers
 
 answer-is : (c : tie.After-scratch) (r : S.Stretched) → answered c .change-speed .result ≡ r
-    → let a = called (answered c) .args in
-    Answered (a .stream) (a .speed) (a .input .now) (a .stage .now) (answered c .change-speed .last .1 .1 .1 .1 .0) r
+    → let a = called (answered c) .args in Answered (a .stream) (a .speed) (a .input .now) (a .stage .now) (exit (answered c)) r
 answer-is c r e =
     let answer = answered c in
     let to = answer .before .before in
     let count = counted to in
     let a = called answer .args in
-    subst (Answered (a .stream) (a .speed) (a .input .now) (a .stage .now) (answer .change-speed .last .1 .1 .1 .1 .0)) e
+    subst (Answered (a .stream) (a .speed) (a .input .now) (a .stage .now) (exit answer)) e
     (rw (← lent (count .before), ← to .samples2 .ensures, ← count .frames .ensures) (answer .change-speed .ensures))
 
 -- ---- answered here
 
 frames-requires : tie.Need-frames-requires
-frames-requires c κs = some (start c)
+frames-requires c κs = ready-limits (start c .pre .0 .0) .channels-low
 
 sub-room : tie.Need-sub-room
-sub-room c = tail-le (c .before .before)
+sub-room c =
+    let count = c .before .before in
+    let r = start (count .before) .pre .0 in
+    omega (arith, count .frames .ensures, tail-le (r .0) (r .1 .fit))
 
 change-speed-requires : tie.Need-change-speed-requires
 unfolding stateOf
@@ -76,13 +73,14 @@ change-speed-requires c κs =
     let to = c .before in
     let count = counted to in
     let s = start (count .before) in
+    let r = s .pre .0 in
     let a = s .args in
     let x = a .stream in
     let room : ℕ = count .frames .result .0 - x .tail .0 in
-    let whole = room-under (x .channels) (x .tail .0) room (length (a .stage .now)) (some s) (s .pre .0 .1 .fit .tail) (omega (arith, count .frames .ensures)) in
-    let apart = add-mul (x .tail .0) room (x .channels) in
+    let whole = room-under (x .channels) (x .tail .0) room (length (a .stage .now)) (ready-limits (r .0) .channels-low) (r .1 .fit .tail)
+    (omega (arith, count .frames .ensures)) in
     let list = subst (λ (n : ℕ). x .held .0 * x .channels ≤ length (take n (a .input .now))) (sym (lent (count .before))) (lent-long (due s)) in
-    (call-ready (due s), (s .pre .0 .0 .state .prev, (list, s .pre .0 .1 .scratch-fits, omega (arith, to .samples2 .ensures))))
+    (call-ready (due s), (r .0 .state .prev, (list, r .1 .scratch-fits, omega (arith, add-mul (x .tail .0) room (x .channels), whole, to .samples2 .ensures))))
 
 stepped-requires : tie.Need-stepped-requires
 stepped-requires c κs =
@@ -91,13 +89,12 @@ stepped-requires c κs =
     let s = called answer in
     let m = made .made .given .0 .0 in
     let is = answer-is (made .before .before) (S.Stretched.Made m) (made .made .given .1) in
-    (stretched-used (due s) (answer .change-speed .last .1 .1 .1 .1 .0) m is, call-ready (due s) .few, s .pre .0 .0 .period-is)
+    (stretched-used (due s) (exit answer) m is, call-ready (due s) .few, s .pre .0 .0 .period-is)
 
 returns : tie.Need-returns
 returns c =
     let answer = answered (c .before .before) in
-    stretched-full (due (called answer)) (answer .change-speed .last .1 .1 .1 .1 .0)
-    (answer-is (c .before .before) S.Stretched.Full (c .enum-told .given .1))
+    stretched-full (due (called answer)) (exit answer) (answer-is (c .before .before) S.Stretched.Full (c .enum-told .given .1))
 
 returns-2 : tie.Need-returns-2
 returns-2 c =
@@ -105,7 +102,7 @@ returns-2 c =
     let answer = answered (made .before .before) in
     let m = made .made .given .0 .0 in
     let is = answer-is (made .before .before) (S.Stretched.Made m) (made .made .given .1) in
-    stretched-filled (due (called answer)) (answer .change-speed .last .1 .1 .1 .1 .0) m is (c .stepped .result) (c .stepped .ensures)
+    stretched-filled (due (called answer)) (exit answer) m is (c .stepped .result) (c .stepped .ensures)
 
 -- ---- closed by search
 

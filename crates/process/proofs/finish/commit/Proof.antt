@@ -1,16 +1,13 @@
--- `process::finish::commit` meets its contract: places, the areas after it, the needs that it answers, what is closed by search. Assumes nothing.
+-- `process::finish::commit` meets its contract: places, the needs that it answers, what is closed by search. Assumes nothing.
 use borrow.Author.Needs.{needs}
-use mathlib.Core.Path.{_≡_, _∙_}
 use mathlib.Core.List.{List, []}
-use Prim.Native.Nat.{_+_, _*_}
+use Prim.Native.Nat.{_+_}
 use native.Mathlib.Omega.{arith}
 use lib.IntN.{ℤ}
-use lib.ListN.{drop}
-use lib.Seq.{paste}
 use Rattle.frames.specs.Areas.{areas}
 use Rattle.frames.proofs.Room.{count-le}
-use Rattle.stream.specs.Stream.{stateOf}
-use Rattle.process.proofs.Finishing.{used-fits, left-fits, commit-done}
+use Rattle.process.proofs.Filling.{ready-limits}
+use Rattle.process.proofs.Finishing.{moved-as, used-fits, left-fits, commit-done}
 use Rattle.process.proofs.finish.commit.Statement.{statement}
 use Rattle.process.proofs.finish.commit.Tie as tie
 
@@ -28,24 +25,6 @@ rested c = c .before .before
 
 abbrev stage-start : tie.After-remove-front-arg2 → tie.Start
 stage-start c = input-start (rested c .before .before .before)
-
--- ---- the areas after it
-
-input-is : (c : tie.After-remove-front)
-    → let a = input-start (c .before .before .before) .args in
-    c .remove-front .last .0
-    ≡ paste (a .input .now) 0 (drop (a .filled .used .0 * a .stream .channels) (a .input .now)) (a .filled .stream .held .0 * a .stream .channels)
-input-is c =
-    let input : List ℤ = input-start (c .before .before .before) .args .input .now in
-    c .remove-front .ensures ∙ (λ i. paste input 0 (drop (c .before .before .samples .ensures i) input) (c .before .samples2 .ensures i))
-
-stage-is : (c : tie.After-remove-front2)
-    → let a = stage-start (c .before .before .before) .args in
-    c .remove-front2 .last .0
-    ≡ paste (a .stage .now) 0 (drop (a .adjusted .from .0 * a .stream .channels) (a .stage .now)) (a .adjusted .left .0 * a .stream .channels)
-stage-is c =
-    let stage : List ℤ = stage-start (c .before .before .before) .args .stage .now in
-    c .remove-front2 .ensures ∙ (λ i. paste stage 0 (drop (c .before .before .samples3 .ensures i) stage) (c .before .samples4 .ensures i))
 
 -- ---- answered here
 
@@ -70,21 +49,27 @@ remove-front-requires-2 c κs =
     omega (arith, left-fits (stage-start (c .before .before) .pre), c .before .samples3 .ensures, c .samples4 .ensures)
 
 add-waiting : tie.Need-add-waiting
-unfolding stateOf
 add-waiting c =
     let s = stage-start (c .before .before .before .before .before .before) in
     let r = s .pre in
     let x = s .args .stream in
-    let count = count-le (x .channels) (x .waiting .0 + s .args .adjusted .made .0) (r .finish .ready .state .limits .channels-low) in
+    let count = count-le (x .channels) (x .waiting .0 + s .args .adjusted .made .0) (ready-limits (r .finish .ready) .channels-low) in
     record { fits = omega (arith, count, r .fits, r .finish .output-short) }
 
 returns : tie.Need-returns
 returns c =
     let staged = c .before .before .before .before in
-    let rest = rested (staged .before .before .before) in
-    let scaled = rest .before .before .before .before .before in
-    commit-done (start scaled .pre) (areas (rest .remove-front .last .0) (staged .remove-front2 .last .0) (scaled .scale-made .last .1 .1 .0) [])
-    (input-is rest) (stage-is staged) (scaled .scale-made .ensures)
+    let left = staged .before in
+    let rest = rested (left .before .before) in
+    let used = rest .before in
+    let scaled = used .before .before .before .before in
+    let s = start scaled in
+    let input : List ℤ = rest .remove-front .last .0 in
+    let stage : List ℤ = staged .remove-front2 .last .0 in
+    commit-done (s .pre) (areas input stage (scaled .scale-made .last .1 .1 .0) [])
+    (moved-as (s .args .input .now) input (rest .remove-front .ensures) (used .before .samples .ensures) (used .samples2 .ensures))
+    (moved-as (s .args .stage .now) stage (staged .remove-front2 .ensures) (left .before .samples3 .ensures) (left .samples4 .ensures))
+    (scaled .scale-made .ensures)
 
 -- ---- closed by search
 

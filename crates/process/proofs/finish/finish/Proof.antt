@@ -2,11 +2,13 @@
 -- Assumes nothing.
 use borrow.Author.Needs.{needs}
 use mathlib.Core.Path.{_≡_, refl, subst}
-use mathlib.Core.List.{[]}
+use mathlib.Core.List.{List, []}
 use Prim.Native.Nat.{_+_}
 use native.Mathlib.Omega.{arith}
-use Rattle.frames.specs.Areas.{areas}
+use lib.IntN.{ℤ}
+use Rattle.frames.specs.Areas.{Areas, areas}
 use Rattle.rate.specs.declared.Adjustment.{Adjustment}
+use Rattle.rate.specs.Conversion.{Conversion}
 use Rattle.rate.specs.Adjusting.{AdjustedBy}
 use Rattle.stream.specs.Stream.{stateOf}
 use Rattle.process.specs.Finishing.{conversionOf}
@@ -23,23 +25,30 @@ start c = c .before .before .before .before .before .before .before
 abbrev rated : tie.After-output → tie.After-adjust-rate
 rated c = c .before
 
-abbrev adjusted-at : tie.After-commit-arg3 → tie.After-adjusted
-adjusted-at c = c .before .before .before .before
+abbrev committing : tie.After-commit-arg3 → tie.After-adjusted
+committing c = c .before .before .before .before
 
 -- ---- what the conversion answers
 
-answer-is : (c : tie.After-adjust-rate) (r : Adjustment) → c .adjust-rate .result ≡ r
-    → let a = start c .args in
-    AdjustedBy (a .stream .channels) (a .stream .waiting .0) (a .stream .tail .0 + a .filled .frames .0)
-    (conversionOf (a .stream) (a .filled .frames .0) (areas (a .input .now) (a .stage .now) (a .output .now) [])) (a .stage .now) (a .output .now)
-    (c .adjust-rate .last .1 .1 .1 .1 .1 .1 .1 .0) r
+abbrev lent : tie.Start → Areas
+lent s = areas (s .args .input .now) (s .args .stage .now) (s .args .output .now) []
+
+abbrev converted : tie.Start → Conversion
+converted s = conversionOf (s .args .stream) (s .args .filled .frames .0) (lent s)
+
+-- the output after it
+abbrev middle : tie.After-adjust-rate → List ℤ
+middle c = c .adjust-rate .last .1 .1 .1 .1 .1 .1 .1 .0
+
+abbrev Answered : tie.After-adjust-rate → Adjustment → Type 0
+Answered c r =
+    let s = start c in
+    let x = s .args .stream in
+    AdjustedBy (x .channels) (x .waiting .0) (x .tail .0 + s .args .filled .frames .0) (converted s) (lent s .stage) (lent s .output) (middle c) r
+
+answer-is : (c : tie.After-adjust-rate) (r : Adjustment) → c .adjust-rate .result ≡ r → Answered c r
 unfolding stateOf
-answer-is c r e =
-    let a = start c .args in
-    subst
-    (AdjustedBy (a .stream .channels) (a .stream .waiting .0) (a .stream .tail .0 + a .filled .frames .0)
-    (conversionOf (a .stream) (a .filled .frames .0) (areas (a .input .now) (a .stage .now) (a .output .now) [])) (a .stage .now) (a .output .now)
-    (c .adjust-rate .last .1 .1 .1 .1 .1 .1 .1 .0)) e (c .adjust-rate .ensures)
+answer-is c r e = subst (Answered c) e (c .adjust-rate .ensures)
 
 -- ---- answered here
 
@@ -56,13 +65,11 @@ adjust-rate-requires c κs =
 
 commit-requires : tie.Need-commit-requires
 commit-requires c κs =
-    let done = adjusted-at c in
+    let done = committing c in
     let rate = rated (done .before .before) in
     let s = start rate in
-    let a = s .args in
-    commit-ready (a .stream) (a .filled) (conversionOf (a .stream) (a .filled .frames .0) (areas (a .input .now) (a .stage .now) (a .output .now) []))
-    (areas (a .input .now) (a .stage .now) (a .output .now) []) (rate .adjust-rate .last .1 .1 .1 .1 .1 .1 .1 .0)
-    (answer-is rate (Adjustment.Done (done .adjusted .given .0 .0)) (done .adjusted .given .1)) (s .pre)
+    let is = answer-is rate (Adjustment.Done (done .adjusted .given .0 .0)) (done .adjusted .given .1) in
+    commit-ready (s .args .stream) (s .args .filled) (converted s) (lent s) (middle rate) is (s .pre)
 
 returns : tie.Need-returns
 returns c = (refl, refl, answer-is (rated (c .before .before)) Adjustment.Full (c .enum-told .given .1))
@@ -70,15 +77,13 @@ returns c = (refl, refl, answer-is (rated (c .before .before)) Adjustment.Full (
 returns-2 : tie.Need-returns-2
 returns-2 c =
     let committed = c .before .before .before in
-    let done = adjusted-at (committed .before) in
+    let done = committing (committed .before) in
     let rate = rated (done .before .before) in
     let s = start rate in
-    let a = s .args in
+    let is = answer-is rate (Adjustment.Done (done .adjusted .given .0 .0)) (done .adjusted .given .1) in
     let last = committed .commit .last .1 .1 .1 in
-    finish-done (a .stream) (a .filled) (conversionOf (a .stream) (a .filled .frames .0) (areas (a .input .now) (a .stage .now) (a .output .now) []))
-    (areas (a .input .now) (a .stage .now) (a .output .now) []) (rate .adjust-rate .last .1 .1 .1 .1 .1 .1 .1 .0)
-    (answer-is rate (Adjustment.Done (done .adjusted .given .0 .0)) (done .adjusted .given .1))
-    (areas (last .0) (last .1 .0) (last .1 .1 .0) []) (committed .commit .result) (committed .commit .ensures)
+    finish-done (s .args .stream) (s .args .filled) (converted s) (lent s) (middle rate) is (areas (last .0) (last .1 .0) (last .1 .1 .0) [])
+    (committed .commit .result) (committed .commit .ensures)
 
 -- ---- closed by search
 
@@ -109,16 +114,5 @@ same-length-5 c = search needs
 pub finish-spec : {M : Type 1} → statement M
 finish-spec =
     tie.close
-    (tie.spec
-    cast-adjust-rate
-    adjust-rate-requires
-    enum-told
-    enum-known-adjusted
-    commit-requires
-    same-length
-    same-length-2
-    returns
-    same-length-3
-    same-length-4
-    same-length-5
-    returns-2)
+    (tie.spec cast-adjust-rate adjust-rate-requires enum-told enum-known-adjusted commit-requires same-length same-length-2 returns same-length-3
+    same-length-4 same-length-5 returns-2)
