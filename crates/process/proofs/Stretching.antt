@@ -1,7 +1,7 @@
 -- Stretched frames, in the words of the contracts: how they fill the stage. Here:
---   Due                                  what a stretch of the frames held asks for
+--   StretchDue                                  what a stretch of the frames held asks for
 --   call-ready, lent-long                the call that the code makes, and the samples that it lends
---   Answered                             what `change_speed` answers
+--   StretchAnswered                             what `change_speed` answers
 --   stretched-full, stretched-used, stretched-filled     by the answer
 -- Assumes nothing.
 use mathlib.Core.Path.{_≡_, refl, sym, ap, _∙_, subst}
@@ -63,7 +63,7 @@ abbrev pub placeFor : SonicStream → Place
 placeFor s = begun (s .«time_error») (record { period = s .«prev_period»; «min_diff» = s .«prev_min_diff» })
 
 -- a stretch of the frames held is due, at speed x
-pub record Due (s : SonicStream) (x : Float) (input stage : List ℤ) : Type 0 where
+pub record StretchDue (s : SonicStream) (x : Float) (input stage : List ℤ) : Type 0 where
   pub ready : StreamReady s
   pub fit : AreasFit s input stage
   pub enough : maxRequired (s .rate) ≤ s .held .0
@@ -76,10 +76,10 @@ AnsweredTo c l h s stage exit r =
     let room : ℕ = length stage / s .channels - s .tail .0 in
     (r ≡ changeSpeed c l h room) × Staged c l h room stage exit (s .tail .0 * s .channels)
 
-abbrev pub Answered : SonicStream → Float → List ℤ → List ℤ → List ℤ → S.Stretched → Type 0
-Answered s x input stage exit r = AnsweredTo (callOf s x) (lentOf s input) (placeFor s) s stage exit r
+abbrev pub StretchAnswered : SonicStream → Float → List ℤ → List ℤ → List ℤ → S.Stretched → Type 0
+StretchAnswered s x input stage exit r = AnsweredTo (callOf s x) (lentOf s input) (placeFor s) s stage exit r
 
-module _ {s : SonicStream} {x : Float} {input stage : List ℤ} (d : Due s x input stage) where
+module _ {s : SonicStream} {x : Float} {input stage : List ℤ} (d : StretchDue s x input stage) where
   abbrev state : State
   state = stateOf s input stage
 
@@ -116,7 +116,7 @@ module _ {s : SonicStream} {x : Float} {input stage : List ℤ} (d : Due s x inp
   unfolding stateOf
   list-long = rw (length-framesOf (s .channels) (s .held .0) input, flat-framesOf (s .channels) (s .held .0) input) lent-long
 
-  answered-by : (exit : List ℤ) (r : S.Stretched) → Answered s x input stage exit r
+  answered-by : (exit : List ℤ) (r : S.Stretched) → StretchAnswered s x input stage exit r
       → AnsweredTo (callAt x state) (flat (state .input)) (placeOf state) s stage exit r
   unfolding stateOf
   answered-by exit r e =
@@ -172,7 +172,7 @@ answer-made : (b : Bool) (a m : Stretch) → S.Stretched.Made m ≡ cond b S.Str
 answer-made true a m e = (cc, cc)
 answer-made false a m e = (refl, cc)
 
-module _ {s : SonicStream} {x : Float} {input stage : List ℤ} (d : Due s x input stage) (exit : List ℤ) where
+module _ {s : SonicStream} {x : Float} {input stage : List ℤ} (d : StretchDue s x input stage) (exit : List ℤ) where
   abbrev call : StretchCall
   call = callAt x (stateOf s input stage)
 
@@ -194,13 +194,13 @@ module _ {s : SonicStream} {x : Float} {input stage : List ℤ} (d : Due s x inp
   ready : StretchReady call
   ready = subst StretchReady (call-is d) (call-ready d)
 
-  pub stretched-full : Answered s x input stage exit S.Stretched.Full → FillEnsures s input stage exit Fill.Full
+  pub stretched-full : StretchAnswered s x input stage exit S.Stretched.Full → FillEnsures s input stage exit Fill.Full
   unfolding changeSpeed stretched stateOf
   stretched-full e =
       let f = answered-by d exit S.Stretched.Full e in
       fills d exit Fill.Full (staged-full (f .1) ready (ltb-true room made (answer-full (ltb room made) answer (f .0))))
 
-  module _ (m : Stretch) (e : Answered s x input stage exit (S.Stretched.Made m)) where
+  module _ (m : Stretch) (e : StretchAnswered s x input stage exit (S.Stretched.Made m)) where
     answers : AnsweredTo call list place s stage exit (S.Stretched.Made m)
     answers = answered-by d exit (S.Stretched.Made m) e
 

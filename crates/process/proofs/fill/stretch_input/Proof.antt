@@ -12,7 +12,7 @@ use Rattle.frames.proofs.Room.{room-under}
 use Rattle.stretch.specs.declared.Stretched as S
 use Rattle.stream.specs.Stream.{stateOf}
 use Rattle.process.proofs.Filling.{ready-limits, tail-le}
-use Rattle.process.proofs.Stretching.{Due, Answered, call-ready, lent-long, stretched-full, stretched-used, stretched-filled}
+use Rattle.process.proofs.Stretching.{StretchDue, StretchAnswered, call-ready, lent-long, stretched-full, stretched-used, stretched-filled}
 use Rattle.process.proofs.fill.stretch_input.Statement.{statement}
 use Rattle.process.proofs.fill.stretch_input.Tie as tie
 
@@ -37,7 +37,7 @@ exit c = c .change-speed .last .1 .1 .1 .1 .0
 
 -- ---- what the stretch is handed
 
-due : (s : tie.Start) → Due (s .args .stream) (s .args .speed) (s .args .input .now) (s .args .stage .now)
+due : (s : tie.Start) → StretchDue (s .args .stream) (s .args .speed) (s .args .input .now) (s .args .stage .now)
 due s = record { ready = s .pre .0 .0; fit = s .pre .0 .1 .fit; enough = s .pre .1 .0; speed-is = s .pre .1 .1; changes = s .pre .1 .2 }
 
 -- the samples lent are those of the frames held
@@ -47,13 +47,13 @@ lent c = omega (arith, c .samples .ensures)
 -- ---- what it answers
 
 answer-is : (c : tie.After-scratch) (r : S.Stretched) → answered c .change-speed .result ≡ r
-    → let a = called (answered c) .args in Answered (a .stream) (a .speed) (a .input .now) (a .stage .now) (exit (answered c)) r
+    → let a = called (answered c) .args in StretchAnswered (a .stream) (a .speed) (a .input .now) (a .stage .now) (exit (answered c)) r
 answer-is c r e =
     let answer = answered c in
     let to = answer .before .before in
     let count = counted to in
     let a = called answer .args in
-    subst (Answered (a .stream) (a .speed) (a .input .now) (a .stage .now) (exit answer)) e
+    subst (StretchAnswered (a .stream) (a .speed) (a .input .now) (a .stage .now) (exit answer)) e
     (rw (← lent (count .before), ← to .samples2 .ensures, ← count .frames .ensures) (answer .change-speed .ensures))
 
 -- ---- answered here
