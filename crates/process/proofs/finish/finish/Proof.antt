@@ -40,15 +40,15 @@ converted s = conversionOf (s .args .stream) (s .args .filled .frames .0) (lent 
 abbrev middle : tie.After-adjust-rate → List ℤ
 middle c = c .adjust-rate .last .1 .1 .1 .1 .1 .1 .1 .0
 
-abbrev StretchAnswered : tie.After-adjust-rate → Adjustment → Type 0
-StretchAnswered c r =
+abbrev FinishAnswered : tie.After-adjust-rate → Adjustment → Type 0
+FinishAnswered c r =
     let s = start c in
     let x = s .args .stream in
     AdjustedBy (x .channels) (x .waiting .0) (x .tail .0 + s .args .filled .frames .0) (converted s) (lent s .stage) (lent s .output) (middle c) r
 
-answer-is : (c : tie.After-adjust-rate) (r : Adjustment) → c .adjust-rate .result ≡ r → StretchAnswered c r
+answer-is : (c : tie.After-adjust-rate) (r : Adjustment) → c .adjust-rate .result ≡ r → FinishAnswered c r
 unfolding stateOf
-answer-is c r e = subst (StretchAnswered c) e (c .adjust-rate .ensures)
+answer-is c r e = subst (FinishAnswered c) e (c .adjust-rate .ensures)
 
 -- ---- answered here
 
