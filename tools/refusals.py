@@ -49,7 +49,7 @@ STAMP = re.compile(r"[0-9a-f]{64}\n")
 ERROR = re.compile(r"(?P<path>\S+):\d+:\d+: error: (?:`(?P<fact>[^`]+)`: )?(?P<text>.*)")
 NOTE = re.compile(r"note: (?P<path>\S+):\d+:\d+: it is not proved (?P<text>.*) \(`(?P<fact>[^`]+)`\)")
 FOLLOWS = re.compile(r"was not admitted \(.*\), so this cannot be checked")
-MISFIT = re.compile(r"can be named from here|record `\S+\.Lts\.\S+` has no field|expected type `tie\.Need-")
+MISFIT = re.compile(r"can be named from here|record `\S+\.Lts\.\S+` has no field|expected type `tie\.Need-|`(Inv|μ)-")
 
 # The runs of `rt dev` under way.
 RUNNING = set()
@@ -246,7 +246,7 @@ def refused_at(status, lines):
     if not told:
         raise Wrong("BAD EDIT: the prover names no fact that it refuses")
     place = place_of(told[0], lines)
-    if MISFIT.search(told[0]["text"]):
+    if MISFIT.search(place) or MISFIT.search(told[0]["text"]):
         raise Wrong(f"SHAPE: refused at {place}, where the proof does not fit the edited code")
     return place
 
