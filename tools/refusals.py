@@ -46,7 +46,7 @@ FLAGS = {"--beside", "--from-nothing", *OPTIONAL.values()}
 # What `rt` and the prover write: a stamp; a refusal in a proof, and one where the prover makes the proof itself; one
 # that only follows from another; those of a proof that does not fit the code.
 STAMP = re.compile(r"[0-9a-f]{64}\n")
-ERROR = re.compile(r"(?P<path>\S+):\d+:\d+: error: (?:`(?P<fact>[^`]+)`: )?(?P<text>.*)")
+ERROR = re.compile(r"(?P<path>\S+):\d+:\d+: error: `(?P<fact>[^`]+)`: (?P<text>.*)")
 NOTE = re.compile(r"note: (?P<path>\S+):\d+:\d+: it is not proved (?P<text>.*) \(`(?P<fact>[^`]+)`\)")
 FOLLOWS = re.compile(r"was not admitted \(.*\), so this cannot be checked")
 MISFIT = re.compile(r"can be named from here|record `\S+\.Lts\.\S+` has no field|expected type `tie\.Need-")
@@ -245,8 +245,11 @@ def refused_at(status, lines):
     told = [match for line in lines if (match := ERROR.match(line) or NOTE.match(line)) and not FOLLOWS.search(line)]
     if not told:
         raise Wrong("BAD EDIT: the prover names no fact that it refuses")
-    place = place_of(told[0], lines)
-    if MISFIT.search(told[0]["text"]):
+    first = told[0]
+    place = place_of(first, lines)
+    if first.re is ERROR and "/proofs/" not in first["path"]:
+        raise Wrong(f"BAD EDIT: refused at {place}, in the edited text itself")
+    if MISFIT.search(first["text"]) or first["fact"].startswith(("Inv-", "μ-")):
         raise Wrong(f"SHAPE: refused at {place}, where the proof does not fit the edited code")
     return place
 
