@@ -1,6 +1,6 @@
 // Streams that no call hands back: one field set to a value.
-use crate::sums::float;
-use crate::sums::word;
+use scripts::sums::float;
+use scripts::sums::word;
 use stream::SonicStream;
 
 // A stream with a field of opening or setting set: its place in the struct, and its number or bits.

@@ -1,38 +1,29 @@
 // The replay: line after line, each on the stream and the lengths that the lines before have left.
-use crate::answers::print;
-use crate::answers::print_stream;
-use crate::calls::available;
-use crate::calls::flush;
-use crate::calls::open;
-use crate::calls::read;
-use crate::calls::set;
-use crate::calls::unopened;
-use crate::calls::write_signal;
 use crate::edits::with_field;
-use crate::lent::LentLengths;
-use crate::lent::of_slice;
-use crate::signal::Signal;
-use crate::sums::float;
-use crate::sums::word;
-use crate::text::Line;
-use crate::text::parse;
+use scripts::signal::fill;
+use scripts::signal::signal_of;
+use scripts::sums::float;
+use scripts::sums::word;
+use scripts::text::Line;
+use scripts::text::parse;
 use stream::Setting;
 use stream::SonicStream;
+use transcripts::answers::print;
+use transcripts::answers::print_stream;
+use transcripts::calls::available;
+use transcripts::calls::flush;
+use transcripts::calls::open;
+use transcripts::calls::read;
+use transcripts::calls::set;
+use transcripts::calls::unopened;
+use transcripts::calls::write;
+use transcripts::lent::LentLengths;
+use transcripts::lent::of_slice;
 
 // What the lines before have left.
 struct Session {
     stream: SonicStream,
     lent: LentLengths,
-}
-
-// The signal of a write's line.
-fn signal_of(line: Line) -> Signal {
-    Signal {
-        kind: line.a,
-        seed: word(line.b),
-        period: word(line.c),
-        divisor: (line.d % 65536) as u16,
-    }
 }
 
 // The lengths of a line.
@@ -42,6 +33,32 @@ fn lengths(line: Line) -> LentLengths {
         stage: line.b as usize,
         output: line.c as usize,
         scratch: line.d as usize,
+    }
+}
+
+// The session after a line: lengths and a field are noted.
+fn noted(session: Session, line: Line) -> Session {
+    let lent = session.lent;
+    let stream = session.stream;
+    let letter = line.letter;
+    match letter {
+        b'l' => Session {
+            stream,
+            lent: lengths(line),
+        },
+        b'e' => Session {
+            stream: with_field(stream, line.a, line.b),
+            lent,
+        },
+        _ => session,
+    }
+}
+
+// Whether a line is a call: it is no title, and names no lengths and no field.
+fn is_call(letter: u8) -> bool {
+    match letter {
+        b'#' | b'l' | b'e' => false,
+        _ => true,
     }
 }
 
@@ -72,18 +89,10 @@ fn call(
     let letter = line.letter;
     match letter {
         b'w' => {
-            let n = of_slice(line.e as usize, samples);
-            let signal = signal_of(line);
-            write_signal(
-                stream,
-                signal,
-                lent,
-                &mut samples[..n],
-                input,
-                stage,
-                output,
-                scratch,
-            )
+            let count = line.e as usize;
+            let n = of_slice(count, samples);
+            fill(signal_of(line), &mut samples[..n]);
+            write(stream, count, samples, lent, input, stage, output, scratch)
         }
         b'f' => flush(stream, lent, input, stage, output, scratch),
         b'r' => {
@@ -94,38 +103,23 @@ fn call(
     }
 }
 
-// Follows a line: a title is passed over, lengths and a field are noted, a call is made and its answer printed.
+// Makes the call of a line, if it is one, and prints its answer.
 fn follow(
+    stream: SonicStream,
     line: Line,
-    session: Session,
+    lent: LentLengths,
     samples: &mut [f32],
     input: &mut [i16],
     stage: &mut [i16],
     output: &mut [i16],
     scratch: &mut [i16],
-) -> Session {
-    let lent = session.lent;
-    let stream = session.stream;
-    let letter = line.letter;
-    match letter {
-        b'#' => session,
-        b'l' => Session {
-            stream,
-            lent: lengths(line),
-        },
-        b'e' => Session {
-            stream: with_field(stream, line.a, line.b),
-            lent,
-        },
-        _ => {
-            let after = call(stream, line, lent, samples, input, stage, output, scratch);
-            print_stream(after, input, stage, output);
-            Session {
-                stream: after,
-                lent,
-            }
-        }
+) -> SonicStream {
+    if !is_call(line.letter) {
+        return stream;
     }
+    let after = call(stream, line, lent, samples, input, stage, output, scratch);
+    print_stream(after, input, stage, output);
+    after
 }
 
 // Prints and follows every line of a text.
@@ -151,7 +145,11 @@ pub(crate) fn replay_all(
         let line = parse(text, at);
         let next = line.next;
         print(&text[at..next]);
-        session = follow(line, session, samples, input, stage, output, scratch);
+        session = noted(session, line);
+        let stream = session.stream;
+        let lent = session.lent;
+        let after = follow(stream, line, lent, samples, input, stage, output, scratch);
+        session.stream = after;
         at = next;
     }
 }

@@ -2,9 +2,21 @@
 use borrow.Author.Needs.{needs}
 use mathlib.Core.Path.{_≡_}
 use Prim.Native.Nat.{_-_, _≤_}
+use native.Mathlib.Omega.{arith}
 use lib.ListN.{length}
 use Rattle.vectors.proofs.replay.replay_all.Statement.{statement}
 use Rattle.vectors.proofs.replay.replay_all.Tie as tie
+
+-- ---- the places: after a line was read, and after it was followed
+
+module _ {I : tie.InvT-loop} {μ : tie.MeasureT-loop} where
+  abbrev after-parse : tie.After-follow I μ → tie.After-parse I μ
+  after-parse f = f .before .before .before .before .before .before .before .before .before .before .before
+
+  abbrev after-follow : tie.After-scratch I μ → tie.After-follow I μ
+  after-follow c = c .before .before .before .before .before .before
+
+-- ---- the invariant
 
 abbrev Inv-loop : tie.InvT-loop
 Inv-loop text samples₀ input₀ stage₀ output₀ scratch₀ session₀ at₀ samples input stage output scratch session at =
@@ -35,6 +47,9 @@ part-print-end c = search needs
 print-requires : tie.Need-print-requires Inv-loop μ-loop
 print-requires c κs = search needs
 
+noted-requires : tie.Need-noted-requires Inv-loop μ-loop
+noted-requires c κs = search needs
+
 follow-requires : tie.Need-follow-requires Inv-loop μ-loop
 follow-requires c κs = search needs
 
@@ -42,7 +57,17 @@ loop-less : tie.Need-loop-less Inv-loop μ-loop
 loop-less c = search needs
 
 loop-again : tie.Need-loop-again Inv-loop μ-loop
-loop-again c = search needs
+loop-again c =
+    let f = after-follow c in
+    let p = after-parse f in
+    let inv = p .before .before .loop .inv in (
+      omega (arith, p .parse .ensures .1),
+      omega (arith, f .follow .kept .1 .1 .1 .0, inv .1),
+      omega (arith, f .follow .kept .1 .1 .1 .1 .0, inv .2),
+      omega (arith, f .follow .kept .1 .1 .1 .1 .1 .0, inv .3),
+      omega (arith, f .follow .kept .1 .1 .1 .1 .1 .1 .0, inv .4),
+      omega (arith, f .follow .kept .1 .1 .1 .1 .1 .1 .1 .0, inv .5),
+    )
 
 same-length : tie.Need-same-length Inv-loop μ-loop
 same-length c = search needs
@@ -75,6 +100,7 @@ replay-all-spec =
     part-print-start
     part-print-end
     print-requires
+    noted-requires
     follow-requires
     loop-less
     loop-again

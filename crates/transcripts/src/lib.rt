@@ -1,0 +1,5 @@
+// The calls of stored runs, each with its answer printed (docs/VECTORS.md): `calls` makes them, with the areas lent as far as `lent` says, and
+// `answers` prints the lines.
+pub mod answers;
+pub mod calls;
+pub mod lent;
