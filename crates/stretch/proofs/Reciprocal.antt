@@ -11,10 +11,10 @@ use lib.Dec.{T}
 use borrow.Author.Tests.{ltb-true}
 use Rattle.laws.proofs.Reciprocal as law
 use Rattle.period.specs.Search.{longestPeriod}
-use Rattle.stretch.specs.Reciprocal.{reciprocalOf}
+use Rattle.laws.specs.Reciprocal.{reciprocalParts, reciprocalOf}
 
 module _ (n k : ℕ) (some : 1 ≤ k) (short : k ≤ longestPeriod) (size : n ≤ 32768 * k) where
-  pub reciprocal-divides : n * reciprocalOf k / 2 ^ 44 ≡ n / k
+  pub reciprocal-divides : n * reciprocalOf k / reciprocalParts ≡ n / k
   reciprocal-divides =
       let sum : n + k ≤ 32769 * longestPeriod = omega arith in
       law.reciprocal-divides n k some (le-trans (mul-le-mul sum short) (omega arith))

@@ -1,4 +1,3 @@
 pub mod Crossfade
-pub mod Reciprocal
 pub mod Steps
 pub mod Speed

@@ -8,15 +8,18 @@ ghost use lib.Signed.{quotZ};
 ghost use lib.ListN.{length, drop};
 ghost use lib.Seq.{paste};
 ghost use Rattle.stretch.specs.Crossfade.{crossfadeSample, crossfadeFrame, overlapAdd};
-ghost use Rattle.stretch.specs.Reciprocal.{reciprocalOf};
+ghost use Rattle.laws.specs.Reciprocal.{reciprocalOf};
 ghost use Rattle.period.specs.Search.{longestPeriod};
 
-// The reciprocal of k, in parts of 2^44.
-fn reciprocal_of(k: Frames) -> u64
-    ensures { λ r. ⌜ r ≡ reciprocalOf (k .0) ⌝ }
+// The parts of 1 in which a reciprocal is counted.
+const RECIPROCAL_PARTS: u64 = 0x1000_0000_0000;
+
+// The reciprocal of k.
+fn reciprocal_of(k: usize) -> u64
+    ensures { λ r. ⌜ r ≡ reciprocalOf k ⌝ }
 {
-    let n = k.0 as u64;
-    if n == 0 { 1 } else { 0x1000_0000_0000 / n + 1 }
+    let n = k as u64;
+    if n == 0 { 1 } else { RECIPROCAL_PARTS / n + 1 }
 }
 
 // |sum|
@@ -32,29 +35,29 @@ fn size_of(sum: i32) -> u64
 }
 
 // A sum of k samples divided by k, toward zero: a multiplication by the reciprocal of k.
-fn divide(sum: i32, k: Frames, reciprocal: u64) -> i32
-    requires { ⌜ (1 ≤ k .0) × (k .0 ≤ longestPeriod) × (natAbs sum ≤ 32768 * k .0) × (reciprocal ≡ reciprocalOf (k .0)) ⌝ }
-    ensures { λ r. ⌜ r ≡ quotZ sum (pos (k .0)) ⌝ }
+fn divide(sum: i32, k: usize, reciprocal: u64) -> i32
+    requires { ⌜ (1 ≤ k) × (k ≤ longestPeriod) × (natAbs sum ≤ 32768 * k) × (reciprocal ≡ reciprocalOf k) ⌝ }
+    ensures { λ r. ⌜ r ≡ quotZ sum (pos k) ⌝ }
 {
-    let share = (size_of(sum) * reciprocal / 0x1000_0000_0000) as i32;
+    let share = (size_of(sum) * reciprocal / RECIPROCAL_PARTS) as i32;
     if sum < 0 { 0 - share } else { share }
 }
 
-// A sample of frame t of a crossfade of k frames.
-fn crossfade_sample(down: i16, up: i16, k: Frames, t: Frames, reciprocal: u64) -> i16
-    requires { ⌜ (t .0 < k .0) × (k .0 ≤ longestPeriod) × (reciprocal ≡ reciprocalOf (k .0)) ⌝ }
-    ensures { λ r. ⌜ r ≡ crossfadeSample down up (k .0) (t .0) ⌝ }
+// A sample at step t of a crossfade of k steps.
+fn crossfade_sample(down: i16, up: i16, k: usize, t: usize, reciprocal: u64) -> i16
+    requires { ⌜ (t < k) × (k ≤ longestPeriod) × (reciprocal ≡ reciprocalOf k) ⌝ }
+    ensures { λ r. ⌜ r ≡ crossfadeSample down up k t ⌝ }
 {
-    let n = k.0 as i32;
-    let m = t.0 as i32;
+    let n = k as i32;
+    let m = t as i32;
     let sum = (down as i32) * (n - m) + (up as i32) * m;
     divide(sum, k, reciprocal) as i16
 }
 
-// Writes frame t of a crossfade of k frames, which stands at the places `down` and `up` of the input, at the place `to` of the stage.
+// Writes the frame at step t of a crossfade of k steps, which stands at the places `down` and `up` of the input, at the place `to` of the stage.
 fn crossfade_frame(
-    k: Frames,
-    t: Frames,
+    k: usize,
+    t: usize,
     reciprocal: u64,
     channels: usize,
     input: &[i16],
@@ -63,10 +66,10 @@ fn crossfade_frame(
     stage: &mut [i16],
     to: Samples,
 )
-    requires { ⌜ (t .0 < k .0) × (k .0 ≤ longestPeriod) × (reciprocal ≡ reciprocalOf (k .0)) ⌝ }
+    requires { ⌜ (t < k) × (k ≤ longestPeriod) × (reciprocal ≡ reciprocalOf k) ⌝ }
     requires { ⌜ (down .0 + channels ≤ length (now input)) × (up .0 + channels ≤ length (now input)) × (to .0 + channels ≤ length (now stage)) ⌝ }
     ensures { λ _. ⌜ now (stage .exit) ≡ paste (now (stage .entry)) (to .0)
-        (crossfadeFrame (k .0) (t .0) (drop (down .0) (now (input .entry))) (drop (up .0) (now (input .entry))) channels) channels ⌝ }
+        (crossfadeFrame k t (drop (down .0) (now (input .entry))) (drop (up .0) (now (input .entry))) channels) channels ⌝ }
 {
     let from = down.0;
     let into = up.0;
@@ -81,7 +84,7 @@ fn crossfade_frame(
     }
 }
 
-// `overlap_add` for any number of channels, frame by frame.
+// `overlap_add` for any number of channels, frame by frame: each is a step.
 fn crossfade_frames(
     k: Frames,
     reciprocal: u64,
@@ -106,8 +109,8 @@ fn crossfade_frames(
     let mut t: usize = 0;
     while t < n {
         crossfade_frame(
-            k,
-            Frames(t),
+            n,
+            t,
             reciprocal,
             channels,
             input,
@@ -121,9 +124,9 @@ fn crossfade_frames(
     }
 }
 
-// `overlap_add` for one channel, sample by sample.
+// `overlap_add` for one channel, sample by sample: each is a step.
 fn crossfade_mono(
-    k: Frames,
+    count: Samples,
     reciprocal: u64,
     input: &[i16],
     down: Samples,
@@ -131,22 +134,22 @@ fn crossfade_mono(
     stage: &mut [i16],
     to: Samples,
 )
-    requires { ⌜ (k .0 ≤ longestPeriod) × (reciprocal ≡ reciprocalOf (k .0)) ⌝ }
-    requires { ⌜ (down .0 + k .0 ≤ length (now input)) × (up .0 + k .0 ≤ length (now input)) × (to .0 + k .0 ≤ length (now stage)) ⌝ }
+    requires { ⌜ (count .0 ≤ longestPeriod) × (reciprocal ≡ reciprocalOf (count .0)) ⌝ }
+    requires { ⌜ (down .0 + count .0 ≤ length (now input)) × (up .0 + count .0 ≤ length (now input)) × (to .0 + count .0 ≤ length (now stage)) ⌝ }
     ensures { λ _. ⌜ now (stage .exit) ≡ paste (now (stage .entry)) (to .0)
-        (overlapAdd (k .0) 1 (drop (down .0) (now (input .entry))) (drop (up .0) (now (input .entry)))) (k .0) ⌝ }
+        (overlapAdd (count .0) 1 (drop (down .0) (now (input .entry))) (drop (up .0) (now (input .entry)))) (count .0) ⌝ }
 {
-    let n = k.0;
+    let n = count.0;
     let from = down.0;
     let into = up.0;
     let at = to.0;
-    let mut t: usize = 0;
-    while t < n {
-        let a = input[from + t];
-        let b = input[into + t];
-        let sample = crossfade_sample(a, b, k, Frames(t), reciprocal);
-        stage[at + t] = sample;
-        t += 1;
+    let mut i: usize = 0;
+    while i < n {
+        let a = input[from + i];
+        let b = input[into + i];
+        let sample = crossfade_sample(a, b, n, i, reciprocal);
+        stage[at + i] = sample;
+        i += 1;
     }
 }
 
@@ -166,9 +169,9 @@ pub fn overlap_add(
     ensures { λ _. ⌜ now (stage .exit) ≡ paste (now (stage .entry)) (to .0)
         (overlapAdd (k .0) channels (drop (down .0) (now (input .entry))) (drop (up .0) (now (input .entry)))) (k .0 * channels) ⌝ }
 {
-    let reciprocal = reciprocal_of(k);
+    let reciprocal = reciprocal_of(k.0);
     if channels == 1 {
-        crossfade_mono(k, reciprocal, input, down, up, stage, to);
+        crossfade_mono(k.samples(1), reciprocal, input, down, up, stage, to);
     } else {
         crossfade_frames(k, reciprocal, channels, input, down, up, stage, to);
     }

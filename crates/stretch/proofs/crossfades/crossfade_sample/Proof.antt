@@ -13,7 +13,7 @@ use Rattle.stretch.proofs.WeightedMean.{Ramp, mean, rest-fits, down-fit
 use Rattle.stretch.proofs.crossfades.crossfade_sample.Statement.{statement}
 use Rattle.stretch.proofs.crossfades.crossfade_sample.Tie as tie
 
-ramp : (c : tie.Start) → Ramp (c .args .down) (c .args .up) (c .args .k .0) (c .args .t .0)
+ramp : (c : tie.Start) → Ramp (c .args .down) (c .args .up) (c .args .k) (c .args .t)
 ramp c = record { down-sample = c .fits .down; up-sample = c .fits .up; inside = c .pre .0; short = c .pre .1 }
 
 cast-n : tie.Need-cast-n
@@ -23,38 +23,37 @@ cast-m : tie.Need-cast-m
 cast-m c = search needs
 
 cast-sum : tie.Need-cast-sum
-cast-sum c = widened-fits tt (c .before .before .fits .down)
+cast-sum c = widened-fits tt (c .fits .down)
 
 sub-sum : tie.Need-sub-sum
-sub-sum c = rest-fits (ramp (c .before .before))
+sub-sum c = rest-fits (ramp c)
 
 mul-sum : tie.Need-mul-sum
-mul-sum c = down-fits (ramp (c .before .before))
+mul-sum c = down-fits (ramp c)
 
 cast-sum-2 : tie.Need-cast-sum-2
-cast-sum-2 c = widened-fits tt (c .before .before .fits .up)
+cast-sum-2 c = widened-fits tt (c .fits .up)
 
 mul-sum-2 : tie.Need-mul-sum-2
-mul-sum-2 c = up-fits (ramp (c .before .before))
+mul-sum-2 c = up-fits (ramp c)
 
 add-sum : tie.Need-add-sum
-add-sum c = sum-fits (ramp (c .before .before))
+add-sum c = sum-fits (ramp c)
 
 divide-requires : tie.Need-divide-requires
 divide-requires c κs =
-    let s = c .before .before in
-    rw (sum-reads (ramp s)) (omega (arith, s .pre .0), s .pre .1, sum-size (ramp s), s .pre .2)
+    rw (sum-reads (ramp c)) (omega (arith, c .pre .0), c .pre .1, sum-size (ramp c), c .pre .2)
 
 -- what `divide` gives is the mean
 module _ (c : tie.After-divide) where
   abbrev start : tie.Start
-  start = c .before .before .before
+  start = c .before
 
   mean-reads : toZ w32 (ofZ w32 (c .divide .result))
-      ≡ mean (start .args .down) (start .args .up) (start .args .k .0) (start .args .t .0)
+      ≡ mean (start .args .down) (start .args .up) (start .args .k) (start .args .t)
   mean-reads =
       let fits : SFits w32 (c .divide .result) = record { sfits = c .divide .ok } in
-      toZ-ofZ fits ∙ c .divide .ensures ∙ ap (λ (n : ℤ). quotZ n (pos (start .args .k .0))) (sum-reads (ramp start))
+      toZ-ofZ fits ∙ c .divide .ensures ∙ ap (λ (n : ℤ). quotZ n (pos (start .args .k))) (sum-reads (ramp start))
 
 cast-result : tie.Need-cast-result
 cast-result c = rw (mean-reads c) (mean-fits (ramp (start c)))

@@ -1,7 +1,7 @@
 -- `stretch::crossfades::divide` meets its contract: the size is divided as `Reciprocal` says, and the sign is put back. Assumes nothing.
 use mathlib.Core.Path.{_≡_, sym, ap, _∙_, subst}
 use mathlib.Core.Bool.{true, false}
-use Prim.Native.Nat.{ℕ, _*_, _/_, _^_, _≤_, _<_}
+use Prim.Native.Nat.{ℕ, _*_, _/_, _≤_, _<_}
 use native.Mathlib.Nat.{div-le-of-le-mul}
 use native.Mathlib.Omega.{arith}
 use lib.IntN.{ℤ, pos, natAbs, _-ℤ_}
@@ -10,7 +10,7 @@ use mir.Syntax.{w32}
 use mir.Val.{SFits, toZ}
 use mir.Facts.{toZ-ofZ, toZ-pos}
 use Rattle.laws.proofs.Integers.{sfits-of-natAbs, natAbs-negated}
-use Rattle.stretch.specs.Reciprocal.{reciprocalOf}
+use Rattle.laws.specs.Reciprocal.{reciprocalParts, reciprocalOf}
 use Rattle.stretch.proofs.Reciprocal.{reciprocal-divides, product-lt, quot-negative, quot-nonNeg}
 use Rattle.stretch.proofs.crossfades.divide.Statement.{statement}
 use Rattle.stretch.proofs.crossfades.divide.Tie as tie
@@ -23,7 +23,7 @@ module _ (c : tie.After-size-of) where
   z = c .before .args .sum
 
   abbrev k : ℕ
-  k = c .before .args .k .0
+  k = c .before .args .k
 
   abbrev product : ℕ
   product = c .size-of .result * c .before .args .reciprocal
@@ -38,20 +38,20 @@ module _ (c : tie.After-size-of) where
       subst (λ (n : ℕ). n < 1152921504606846976) (sym product-is)
       (product-lt (natAbs z) k (c .before .pre .0) (c .before .pre .1) (c .before .pre .2))
 
-  share-is : product / 2 ^ 44 ≡ natAbs z / k
+  share-is : product / reciprocalParts ≡ natAbs z / k
   share-is =
-      ap (λ (n : ℕ). n / 2 ^ 44) product-is ∙ reciprocal-divides (natAbs z) k (c .before .pre .0) (c .before .pre .1) (c .before .pre .2)
+      ap (λ (n : ℕ). n / reciprocalParts) product-is ∙ reciprocal-divides (natAbs z) k (c .before .pre .0) (c .before .pre .1) (c .before .pre .2)
 
   size-le : natAbs z / k ≤ 32768
   size-le = div-le-of-le-mul k (omega (arith, c .before .pre .2))
 
-  share-le : product / 2 ^ 44 ≤ 32768
+  share-le : product / reciprocalParts ≤ 32768
   share-le = subst (λ (n : ℕ). n ≤ 32768) (sym share-is) size-le
 
-  share-reads : toZ w32 (product / 2 ^ 44) ≡ pos (natAbs z / k)
+  share-reads : toZ w32 (product / reciprocalParts) ≡ pos (natAbs z / k)
   share-reads = toZ-pos w32 (omega (arith, share-le)) ∙ ap pos share-is
 
-  negated-fits : SFits w32 (pos 0 -ℤ toZ w32 (product / 2 ^ 44))
+  negated-fits : SFits w32 (pos 0 -ℤ toZ w32 (product / reciprocalParts))
   negated-fits =
       rw share-reads (sfits-of-natAbs (pos 0 -ℤ pos (natAbs z / k)) (omega (arith, natAbs-negated (pos (natAbs z / k)), size-le)))
 

@@ -5,37 +5,57 @@ use Prim.Native.Nat.{ℕ, _*_}
 use native.Mathlib.Nat.{mul-one}
 use native.Mathlib.Omega.{arith}
 use lib.ListN.{drop}
-use lib.Seq.{paste}
-use Rattle.stretch.specs.Crossfade.{overlapAdd}
+use Rattle.laws.specs.Reciprocal.{reciprocalOf}
+use Rattle.stretch.proofs.Crossfading.{one-channel}
 use Rattle.stretch.proofs.crossfades.overlap_add.Statement.{statement}
 use Rattle.stretch.proofs.crossfades.overlap_add.Tie as tie
 
-mono-is : (k channels : ℕ) → channels ≡ 1 → k * channels ≡ k
-mono-is k channels one = ap (λ (n : ℕ). k * n) one ∙ mul-one k
+-- ---- places
+
+-- one channel: the samples are counted
+module _ (c : tie.After-samples) where
+  abbrev reciprocal : tie.After-reciprocal-of
+  reciprocal = c .before .before
+
+  abbrev start : tie.Start
+  start = reciprocal .before
+
+  counted : c .samples .result .0 ≡ start .args .k .0
+  counted = c .samples .ensures ∙ mul-one (start .args .k .0)
+
+  whole : start .args .k .0 * start .args .channels ≡ start .args .k .0
+  whole = ap (λ (n : ℕ). start .args .k .0 * n) (c .before .if1 .taken) ∙ mul-one (start .args .k .0)
+
+-- ---- needs
+
+crossfade-mono-requires : tie.Need-crossfade-mono-requires
+crossfade-mono-requires c κs =
+    let d = c .before in
+    let s = start d in
+    let is = counted d in
+    let all = whole d in
+    ((omega arith, reciprocal d .reciprocal-of .ensures ∙ ap reciprocalOf (sym is)), (omega arith, omega arith, omega arith))
+
+returns : tie.Need-returns
+returns c =
+    let d = c .before .before .before in
+    let a = start d .args in
+    let x = a .input .now in
+    one-channel (a .stage .now) (drop (a .down .0) x) (drop (a .up .0) x) (a .to .0) (counted d) (d .before .if1 .taken) (c .before .crossfade-mono .ensures)
+
+-- ---- what search closes
 
 reciprocal-of-requires : tie.Need-reciprocal-of-requires
 reciprocal-of-requires c κs = search needs
 
-crossfade-mono-requires : tie.Need-crossfade-mono-requires
-crossfade-mono-requires c κs =
-    let s = c .before .before .before in
-    let is = mono-is (s .args .k .0) (s .args .channels) (omega arith) in
-    ((s .pre .0, c .before .before .reciprocal-of .ensures), (omega (arith, is, s .pre .1), omega (arith, is, s .pre .1), omega (arith, is, s .pre .1)))
+samples-requires : tie.Need-samples-requires
+samples-requires c κs = search needs
 
 crossfade-frames-requires : tie.Need-crossfade-frames-requires
 crossfade-frames-requires c κs = search needs
 
 same-length : tie.Need-same-length
 same-length c = search needs
-
-returns : tie.Need-returns
-returns c =
-    let a = c .before .before .before .before .before .args in
-    let x = a .input .now in
-    let one : a .channels ≡ 1 = omega arith in
-    let is = mono-is (a .k .0) (a .channels) one in
-    c .before .crossfade-mono .ensures
-    ∙ sym (λ j. paste (a .stage .now) (a .to .0) (overlapAdd (a .k .0) (one j) (drop (a .down .0) x) (drop (a .up .0) x)) (is j))
 
 same-length-2 : tie.Need-same-length-2
 same-length-2 c = search needs
@@ -46,4 +66,4 @@ returns-2 c = search needs
 pub overlap-add-spec : {M : Type 1} → statement M
 overlap-add-spec =
     tie.close
-    (tie.spec reciprocal-of-requires crossfade-mono-requires crossfade-frames-requires same-length returns same-length-2 returns-2)
+    (tie.spec reciprocal-of-requires samples-requires crossfade-mono-requires crossfade-frames-requires same-length returns same-length-2 returns-2)

@@ -3,7 +3,7 @@ use borrow.Author.Needs.{needs}
 use mathlib.Core.Path.{_≡_, sym, ap}
 use native.Mathlib.Nat.{div-le-self}
 use native.Mathlib.Omega.{arith}
-use Rattle.stretch.specs.Reciprocal.{reciprocalOf}
+use Rattle.laws.specs.Reciprocal.{reciprocalParts, reciprocalOf}
 use Rattle.stretch.proofs.crossfades.reciprocal_of.Statement.{statement}
 use Rattle.stretch.proofs.crossfades.reciprocal_of.Tie as tie
 
@@ -11,11 +11,11 @@ div-result : tie.Need-div-result
 div-result c = search needs
 
 add-result : tie.Need-add-result
-add-result c = record { fits = omega (arith, div-le-self 17592186044416 (c .before .args .k .0)) }
+add-result c = record { fits = omega (arith, div-le-self reciprocalParts (c .before .args .k)) }
 
 returns : tie.Need-returns
 returns c =
-    let none : c .before .args .k .0 ≡ 0 = omega arith in
+    let none : c .before .args .k ≡ 0 = omega arith in
     sym (ap reciprocalOf none)
 
 returns-2 : tie.Need-returns-2

@@ -3,8 +3,7 @@ use borrow.Author.Needs.{needs}
 use Prim.Native.Nat.{_+_}
 use native.Mathlib.Nat.{mul-le-mul-left}
 use native.Mathlib.Omega.{arith}
-use Rattle.stretch.specs.Crossfade.{skipPitchPeriod}
-use borrow.Author.Needs.{needs}
+use Rattle.stretch.proofs.Crossfading.{skip-on}
 use Rattle.stretch.proofs.samples.skip_pitch_period.Statement.{statement}
 use Rattle.stretch.proofs.samples.skip_pitch_period.Tie as tie
 
@@ -26,11 +25,11 @@ same-length : tie.Need-same-length
 same-length c = search needs
 
 returns : tie.Need-returns
-unfolding skipPitchPeriod
 returns c =
-    let here = c .before .before .before .before .samples .ensures in
-    let there = c .before .before .before .samples2 .ensures in
-    rw (here, there) at (c .before .overlap-add .ensures)
+    let there = c .before .before .before in
+    let a = there .before .before .before .before .args in
+    skip-on (a .input .now) (a .stage .now) (a .channels) (a .position .0) (a .period .0) (a .k .0) (a .to .0) (there .before .samples .ensures)
+    (there .samples2 .ensures) (c .before .overlap-add .ensures)
 
 pub skip-pitch-period-spec : {M : Type 1} → statement M
 skip-pitch-period-spec =
