@@ -92,16 +92,7 @@ fn call(
             let count = line.e as usize;
             let n = of_slice(count, samples);
             fill(signal_of(line), &mut samples[..n]);
-            write(
-                stream,
-                count,
-                samples,
-                lent,
-                input,
-                stage,
-                output,
-                scratch,
-            )
+            write(stream, count, samples, lent, input, stage, output, scratch)
         }
         b'f' => flush(stream, lent, input, stage, output, scratch),
         b'r' => {
