@@ -13,6 +13,7 @@ use native.Mathlib.Nat.{div-add-mod', div-mul-le-self, mod-add-mod, mul-add-div-
 use native.Mathlib.Omega.{arith}
 use lib.Ieee.{Float}
 use lib.ListN.{length, take, drop, length-take, length-drop}
+use Rattle.reels.specs.Areas.{blockSamples}
 
 twice : (n ch : ℕ) → n * (2 * ch) ≡ 2 * (n * ch)
 twice n ch = ap (λ (k : ℕ). n * k) (mul-comm 2 ch) ∙ sym (mul-assoc n ch 2) ∙ mul-comm (n * ch) 2
@@ -41,8 +42,8 @@ counted w n k after e =
     ap (λ (x : ℕ). (x + k) % 2 ^ 64) e ∙ mod-add-mod (w + n) (2 ^ 64) k ∙ ap (λ (x : ℕ). x % 2 ^ 64) (add-assoc w n k)
 
 -- a block holds a frame or more
-pub few-least : (ch : ℕ) → 1 ≤ ch → ch ≤ 32 → 1 ≤ 4096 / ch
-few-least ch low high = le-div-iff-mul-le {k = ch} {x = 1} {y = 4096} low .1 (omega arith)
+pub few-least : (ch : ℕ) → 1 ≤ ch → ch ≤ 32 → 1 ≤ blockSamples / ch
+few-least ch low high = le-div-iff-mul-le {k = ch} {x = 1} {y = blockSamples} low .1 (omega arith)
 
 slice-length : (block : List Float) (at end : ℕ) → at ≤ end → end ≤ length block → length (take (end - at) (drop at block)) ≡ end - at
 slice-length block at end h l = length-take (end - at) (drop at block) ∙ min-eq-left {n = end - at} (omega (arith, length-drop at block))

@@ -20,6 +20,7 @@ use Rattle.stream.proofs.InOrder.{limits-of}
 use Rattle.sonic.specs.declared.Gave.{Gave}
 use Rattle.sonic.specs.Reading.{readCount, readBy, readCall}
 use Rattle.sonic.proofs.Room.{read-ordered}
+use Rattle.reels.specs.Areas.{blockSamples}
 
 -- n frames were given, and the stream t is left
 pub record Given (s : SonicStream) (slice : List Float) (n : Frames) (t : SonicStream) : Type 0 where
@@ -36,18 +37,18 @@ pub record Same (s : SonicStream) (number : ℕ) (t : SonicStream) : Type 0 wher
 
 module _ (s : SonicStream) (slice : List Float) (output : List ℤ) where
   abbrev count : ℕ
-  count = readCount s 4096 slice
+  count = readCount s blockSamples slice
 
   count-few : count * s .channels ≤ length slice
   unfolding readCount
   count-few =
-      le-trans (mul-le-mul-right (s .channels) (min-le-right (min (s .waiting .0) 4096) (length slice / s .channels)))
+      le-trans (mul-le-mul-right (s .channels) (min-le-right (min (s .waiting .0) blockSamples) (length slice / s .channels)))
       (div-mul-le-self (length slice) (s .channels))
 
   count-waited : count ≤ s .waiting .0
   unfolding readCount
   count-waited =
-      le-trans (min-le-left (min (s .waiting .0) 4096) (length slice / s .channels)) (min-le-left (s .waiting .0) 4096)
+      le-trans (min-le-left (min (s .waiting .0) blockSamples) (length slice / s .channels)) (min-le-left (s .waiting .0) blockSamples)
 
   count-some : inOrder s ≡ true → 32 ≤ length slice → 0 < s .waiting .0 → 0 < count
   unfolding readCount
@@ -55,7 +56,7 @@ module _ (s : SonicStream) (slice : List Float) (output : List ℤ) where
       let c = limits-of s o in
       let room : 1 ≤ length slice / s .channels =
       le-div-iff-mul-le {k = s .channels} {x = 1} {y = length slice} (omega (arith, c .channels-low)) .1 (omega (arith, c .channels-high)) in
-      let some : 1 ≤ min (s .waiting .0) 4096 = le-min {k = 1} w (omega arith) in
+      let some : 1 ≤ min (s .waiting .0) blockSamples = le-min {k = 1} w (omega arith) in
       le-min {k = 1} some room
 
   given : inOrder s ≡ true → Given s slice (record { 0 = count }) (streamOf (unlent s) (s .waiting .0 - count))
@@ -65,7 +66,7 @@ module _ (s : SonicStream) (slice : List Float) (output : List ℤ) where
   abbrev by : ℕ → Gave
   by k = readBy k s count (framesOf (s .channels) (s .waiting .0) output) .answer
 
-  pub given-of : (n : Frames) (t : SonicStream) → Gave.Done n t ≡ readCall s 4096 slice output .answer → Given s slice n t
+  pub given-of : (n : Frames) (t : SonicStream) → Gave.Done n t ≡ readCall s blockSamples slice output .answer → Given s slice n t
   unfolding readCall
   given-of n t = go (readRefusal s output) refl
     where
@@ -76,7 +77,7 @@ module _ (s : SonicStream) (slice : List Float) (output : List ℤ) where
           rw (same, left) (given (read-ordered s output z))
       go (suc k) z e = let z : _≡_ {A = ℕ} 0 1 = cc in absurd (omega arith)
 
-  pub same-of : (number : ℕ) (t : SonicStream) → Gave.Refused number t ≡ readCall s 4096 slice output .answer → Same s number t
+  pub same-of : (number : ℕ) (t : SonicStream) → Gave.Refused number t ≡ readCall s blockSamples slice output .answer → Same s number t
   unfolding readCall
   same-of number t = go (readRefusal s output)
     where

@@ -1,8 +1,8 @@
 -- What a run keeps of each answer and of each block, in this order:
 --   going, isStalled, freshReel       what a run is asked; a run that has not begun
---   Answered, Counted                 after a call of the stream; after a block was filled
+--   Answered, BlockCounted            after a call of the stream; after a block was filled
 --   WrittenOut, FewerWait, Drained    after frames that wait were written out
---   BlockRead                         after a block was read
+--   BlockReadAs                       after a block was read
 -- Definitions only. Assumes nothing.
 use mathlib.Core.Path.{_≡_}
 use mathlib.Core.Bool.{Bool, true, false, not, cond, _&&_, _||_}
@@ -16,8 +16,8 @@ use Rattle.sonic.specs.declared.Gave.{Gave}
 use Rattle.sonic.specs.Calls.{streamAfter}
 use Rattle.sonic.specs.Reading.{streamAfterRead}
 use Rattle.reels.specs.declared.areas.Plan.{Plan}
-use Rattle.reels.specs.declared.reading.Filled.{Filled}
-use Rattle.reels.specs.declared.reading.Read.{Read}
+use Rattle.reels.specs.declared.reading.BlockBytes.{BlockBytes}
+use Rattle.reels.specs.declared.reading.BlockRead.{BlockRead}
 use Rattle.reels.specs.declared.reel.Reel.{Reel}
 
 -- nothing has stopped the stretching
@@ -80,7 +80,7 @@ pub record Answered (written : ℕ) (flushed : Bool) (r : Reel) (answer : Wrote)
   pub input-kept : SameInput r r'
 
 -- after a block that was filled with so many bytes: its whole frames, and the bytes of a partial one; one that is not full is the last
-pub record Counted (p : Plan) (r : Reel) (f : Filled) (r' : Reel) : Type 0 where
+pub record BlockCounted (p : Plan) (r : Reel) (f : BlockBytes) (r' : Reel) : Type 0 where
   pub frames-is : r' .«frames_in» ≡ (r .«frames_in» + f .bytes / (2 * p .channels)) % 2 ^ 64
   pub partial-is : r' .partial ≡ f .bytes % (2 * p .channels)
   pub ended-is : r' .ended ≡ ltb (f .bytes) (2 * p .block)
@@ -121,8 +121,8 @@ pub record Drained (few : ℕ) (r r' : Reel) : Type 0 where
 -- ---- a block read
 
 -- after a block was read: the bytes that it was filled with are counted, and its samples are those of their whole frames
-pub record BlockRead (p : Plan) (r : Reel) (b : Read) : Type 0 where
-  pub filled : Filled
+pub record BlockReadAs (p : Plan) (r : Reel) (b : BlockRead) : Type 0 where
+  pub filled : BlockBytes
   pub fits : filled .bytes ≤ 2 * p .block
-  pub counted : Counted p r filled (b .reel)
+  pub counted : BlockCounted p r filled (b .reel)
   pub samples-are : b .samples ≡ filled .bytes / (2 * p .channels) * p .channels

@@ -1,8 +1,10 @@
 // How far a run is, on a terminal.
+use crate::areas::Plan;
 use crate::say;
 use libc::STDERR_FILENO;
 ghost use mathlib.Core.Path.{_≡_};
 ghost use Prim.Native.Nat.{_*_, _/_, _≤_};
+ghost use Rattle.period.specs.Rates.{InLimits};
 
 // The processor time that the program has taken, in milliseconds and one more, so that it is never 0; 1 if it is not known.
 fn taken() -> u64
@@ -17,11 +19,11 @@ fn taken() -> u64
 }
 
 // The whole minutes of so many frames.
-fn minutes(frames: u64, rate: u64) -> u64
-    requires { ⌜ (1000 ≤ rate) × (rate ≤ 500000) ⌝ }
-    ensures { λ r. ⌜ r ≡ frames / (60 * rate) ⌝ }
+fn minutes(frames: u64, plan: Plan) -> u64
+    requires { ⌜ InLimits (plan .rate) (plan .channels) ⌝ }
+    ensures { λ r. ⌜ r ≡ frames / (60 * plan .rate) ⌝ }
 {
-    frames / (60 * rate)
+    frames / (60 * plan.rate)
 }
 
 fn on_terminal() -> bool {
@@ -29,11 +31,11 @@ fn on_terminal() -> bool {
 }
 
 // At each minute of the reel: the minutes done, and how many times shorter than them the processor time is. The line is written over.
-pub(crate) fn show(rate: u64, before: u64, after: u64)
-    requires { ⌜ (1000 ≤ rate) × (rate ≤ 500000) ⌝ }
+pub(crate) fn show(plan: Plan, before: u64, after: u64)
+    requires { ⌜ InLimits (plan .rate) (plan .channels) ⌝ }
 {
-    let done = minutes(after, rate);
-    if done != minutes(before, rate) && on_terminal() {
+    let done = minutes(after, plan);
+    if done != minutes(before, plan) && on_terminal() {
         say::number(b"\rskim: ", done);
         say::number(b" min done, ", done * 60_000 / taken());
         say::text(b" times real time");
@@ -41,10 +43,10 @@ pub(crate) fn show(rate: u64, before: u64, after: u64)
 }
 
 // Ends the line of the progress, if one was shown.
-pub fn end(rate: u64, frames: u64)
-    requires { ⌜ (1000 ≤ rate) × (rate ≤ 500000) ⌝ }
+pub fn end(plan: Plan, frames: u64)
+    requires { ⌜ InLimits (plan .rate) (plan .channels) ⌝ }
 {
-    if minutes(frames, rate) > 0 && on_terminal() {
+    if minutes(frames, plan) > 0 && on_terminal() {
         say::text(b"\n");
     }
 }

@@ -2,22 +2,23 @@
 use crate::areas::Plan;
 use crate::progress;
 use crate::reel::Reel;
+use frames::Frames;
 use libc::STDIN_FILENO;
 ghost use mathlib.Core.Path.{_≡_};
 ghost use Prim.Native.Nat.{_≤_};
 ghost use lib.ListN.{length};
 ghost use Rattle.pcm.specs.Pcm.{Decoded};
-ghost use Rattle.reels.specs.Areas.{Usable};
-ghost use Rattle.reels.specs.Reels.{Counted, BlockRead};
+ghost use Rattle.reels.specs.Areas.{blockSamples, blockBytes, Usable};
+ghost use Rattle.reels.specs.Reels.{BlockCounted, BlockReadAs};
 
 // What a block was filled with, and whether a read failed.
-pub struct Filled {
+pub struct BlockBytes {
     pub bytes: usize,
     pub failed: bool,
 }
 
 // Reads until the block is full, the input ends or a read fails.
-fn fill(block: &mut [u8]) -> Filled
+fn fill(block: &mut [u8]) -> BlockBytes
     ensures { λ r. ⌜ r .bytes ≤ length (now (block .entry)) ⌝ }
 {
     let mut have: usize = 0;
@@ -26,29 +27,29 @@ fn fill(block: &mut [u8]) -> Filled
         let got = libc::read(STDIN_FILENO, part);
         let n = io::count(got, part);
         if n == 0 {
-            return Filled {
+            return BlockBytes {
                 bytes: have,
                 failed: got < 0,
             };
         }
         have += n;
     }
-    Filled {
+    BlockBytes {
         bytes: have,
         failed: false,
     }
 }
 
 // A reel with a block read, and the block's samples.
-pub struct Read {
+pub struct BlockRead {
     pub reel: Reel,
     pub samples: usize,
 }
 
 // Counts the frames of a block. One that is not full is the last, and no other leaves bytes over.
-fn count(mut reel: Reel, filled: Filled, plan: Plan) -> Reel
+fn count(mut reel: Reel, filled: BlockBytes, plan: Plan) -> Reel
     requires { ⌜ Usable plan × (reel .partial ≡ 0) ⌝ }
-    ensures { λ r. ⌜ Counted plan reel filled r ⌝ }
+    ensures { λ r. ⌜ BlockCounted plan reel filled r ⌝ }
 {
     let frame = 2 * plan.channels;
     reel.frames_in = std::num::wrapping_add_u64(reel.frames_in, (filled.bytes / frame) as u64);
@@ -62,19 +63,19 @@ fn count(mut reel: Reel, filled: Filled, plan: Plan) -> Reel
 }
 
 // Reads a block.
-pub fn read_block(reel: Reel, plan: Plan, block: &mut [f32], bytes: &mut [u8]) -> Read
-    requires { ⌜ Usable plan × (reel .partial ≡ 0) × (4096 ≡ length (now block)) × (8192 ≡ length (now bytes)) ⌝ }
-    ensures { λ r. ⌜ (r .samples ≤ length (now (block .exit))) × BlockRead plan reel r × Decoded (r .samples) (now (bytes .exit)) (now (block .exit)) ⌝ }
+pub fn read_block(reel: Reel, plan: Plan, block: &mut [f32], bytes: &mut [u8]) -> BlockRead
+    requires { ⌜ Usable plan × (reel .partial ≡ 0) × (blockSamples ≡ length (now block)) × (blockBytes ≡ length (now bytes)) ⌝ }
+    ensures { λ r. ⌜ (r .samples ≤ length (now (block .exit))) × BlockReadAs plan reel r × Decoded (r .samples) (now (bytes .exit)) (now (block .exit)) ⌝ }
 {
     let channels = plan.channels;
     let size = 2 * plan.block;
     let filled = fill(&mut bytes[..size]);
-    let frames = filled.bytes / (2 * channels);
-    let samples = frames * channels;
+    let frames = Frames(filled.bytes / (2 * channels));
+    let samples = frames.samples(channels).0;
     pcm::decode(bytes, samples, block);
     let counted = count(reel, filled, plan);
-    progress::show(plan.rate, reel.frames_in, counted.frames_in);
-    Read {
+    progress::show(plan, reel.frames_in, counted.frames_in);
+    BlockRead {
         reel: counted,
         samples,
     }

@@ -1,5 +1,5 @@
 // A run: its stream, with what is told of it at the end.
-use crate::areas::BLOCK;
+use crate::areas::BLOCK_SAMPLES;
 use frames::Frames;
 use libc::STDOUT_FILENO;
 use sonic::Gave;
@@ -11,6 +11,7 @@ ghost use Prim.Native.Nat.{_-_, _*_, _≤_};
 ghost use lib.ListN.{length};
 ghost use Rattle.pcm.specs.Pcm.{Encoded};
 ghost use Rattle.sonic.specs.Reading.{readCall};
+ghost use Rattle.reels.specs.Areas.{blockSamples};
 ghost use Rattle.reels.specs.Reels.{going, isStalled, freshReel, Answered, FewerWait, Drained};
 
 pub struct Reel {
@@ -119,10 +120,10 @@ impl Reel {
     // Reads a block of the frames waiting, and writes it out.
     fn write_out(mut self, output: &mut [i16], values: &mut [f32], bytes: &mut [u8]) -> Reel
         requires { ⌜ (32 ≤ length (now values)) × (2 * length (now values) ≤ length (now bytes)) ⌝ }
-        ensures { λ r. ⌜ FewerWait (readCall (self .stream) 4096 (now (values .entry)) (now (output .entry)) .answer) self r ⌝ }
+        ensures { λ r. ⌜ FewerWait (readCall (self .stream) blockSamples (now (values .entry)) (now (output .entry)) .answer) self r ⌝ }
     {
         let channels = self.stream.channels as usize;
-        match sonic::read_f32(self.stream, Frames(BLOCK), values, output) {
+        match sonic::read_f32(self.stream, Frames(BLOCK_SAMPLES), values, output) {
             Gave::Refused(number, stream) => {
                 self.stream = stream;
                 self.refusal = number;

@@ -33,7 +33,7 @@ slice-aggregate-number-2 c = search needs
 mul-number : tie.Need-mul-number
 mul-number c =
     let m = c .before .before .before .before .before .before .before in
-    record { fits = omega (arith, few (m .before .args .after) (m .before .args .rate) (m .before .pre .0), m .minutes .ensures) }
+    record { fits = omega (arith, few (m .before .args .after) (m .before .args .plan .rate) (m .before .pre .rate-low), m .minutes .ensures) }
 
 taken-requires : tie.Need-taken-requires
 taken-requires c κs = search needs

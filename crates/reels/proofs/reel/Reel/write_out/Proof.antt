@@ -5,6 +5,7 @@ use native.Mathlib.Omega.{arith}
 use Rattle.stream.specs.declared.SonicStream.{SonicStream}
 use Rattle.sonic.specs.declared.Gave.{Gave}
 use Rattle.sonic.specs.Reading.{readCall, streamAfterRead}
+use Rattle.reels.specs.Areas.{blockSamples}
 use Rattle.reels.proofs.FramesRead.{Given, given-of, same-of}
 use Rattle.reels.proofs.Going.{failed-once, moved}
 use Rattle.reels.proofs.reel.Reel.write_out.Statement.{statement}
@@ -25,7 +26,7 @@ enum-known-n c = search needs
 -- what a read gave
 told : (c : tie.After-n)
     → let a = c .before .before .before .before .before .before .before .before .before .before .before .args in
-    Gave.Done (c .n .given .0 .0) (c .n .given .0 .1 .0) ≡ readCall (a .self .stream) 4096 (a .values .now) (a .output .now) .answer
+    Gave.Done (c .n .given .0 .0) (c .n .given .0 .1 .0) ≡ readCall (a .self .stream) blockSamples (a .values .now) (a .output .now) .answer
 told c = sym (c .n .given .1) ∙ c .before .before .before .before .before .read-f32 .ensures .answer
 
 given : (c : tie.After-n)
