@@ -24,22 +24,29 @@ lent s = areas (s .args .input .now) (s .args .stage .now) (s .args .output .now
 abbrev entered : tie.After-known-told → tie.Start
 entered c = c .before .before .before .before
 
--- the areas are tested
+-- the areas are lent, and tested
+abbrev lending : tie.After-areas-bad-arg4 → tie.After-known-told
+lending c = c .before .before .before .before
+
 abbrev in-order : tie.After-areas-bad → tie.After-known-told
-in-order c = c .before .before .before .before .before
+in-order c = lending (c .before)
 
 -- the silent frames are tested against the input
 abbrev counted : tie.After-input-full → tie.After-max-required
 counted c = c .before .before .before
 
-abbrev areas-passed : tie.After-input-full → tie.Else1
-areas-passed c = counted c .before .before
+abbrev areas-passed : tie.After-max-required → tie.Else1
+areas-passed c = c .before .before
 
 abbrev began : tie.After-input-full → tie.Start
-began c = entered (in-order (areas-passed c .before))
+began c = entered (in-order (areas-passed (counted c) .before))
 
 abbrev count : tie.After-input-full → ℕ
 count c = 2 * counted c .max-required .result .0
+
+-- no refusal is met
+abbrev fitting : tie.After-flush-frames-arg4 → tie.Else2
+fitting c = c .before .before .before .before
 
 -- ---- what the tests say
 
@@ -63,9 +70,6 @@ count-is c = ap (λ (k : ℕ). 2 * k) (counted c .max-required .ensures)
 
 -- ---- needs
 
-ordered-requires : tie.Need-ordered-requires
-ordered-requires c κs = search needs
-
 returns : tie.Need-returns
 returns c =
     let o = c .before .before in
@@ -74,7 +78,7 @@ returns c =
 
 areas-bad-requires : tie.Need-areas-bad-requires
 areas-bad-requires c κs =
-    let o = c .before .before .before .before in
+    let o = lending c in
     limits-of (entered o .args .stream) (ordered o .0) .channels-low
 
 returns-2 : tie.Need-returns-2
@@ -84,7 +88,7 @@ returns-2 c =
 
 input-full-requires : tie.Need-input-full-requires
 input-full-requires c κs =
-    let g = c .before .before .before .before in
+    let g = areas-passed (c .before .before) in
     let o = in-order (g .before) in
     let s = entered o in
     (limits-of (s .args .stream) (ordered o .0) .channels-low, areas-of (s .args .stream) (lent s) (good g) .held)
@@ -92,18 +96,21 @@ input-full-requires c κs =
 returns-3 : tie.Need-returns-3
 returns-3 c =
     let t = c .before in
-    let g = areas-passed t in
+    let g = areas-passed (counted t) in
     flush-input-full (began t .args .stream) (lent (began t)) (ordered (in-order (g .before)) .0) (count t) (count-is t) (good g)
     (input-test t true (c .if2 .taken))
 
 flush-frames-requires : tie.Need-flush-frames-requires
 flush-frames-requires c κs =
-    let i = c .before .before .before .before in
+    let i = fitting c in
     let t = i .before in
-    let g = areas-passed t in
+    let g = areas-passed (counted t) in
     let o = in-order (g .before) in
     let fits = input-test t false (i .if2 .left) in
     (add-ready (began t .args .stream) (o .before .order .given .0 .0) (lent (began t)) (count t) (ordered o) (good g) fits, count-is t)
+
+ordered-requires : tie.Need-ordered-requires
+ordered-requires c κs = search needs
 
 returns-4 : tie.Need-returns-4
 returns-4 c = search needs

@@ -20,16 +20,23 @@ use Rattle.sonic.proofs.flushing.flush_frames.Tie as tie
 abbrev lent : tie.Start → Areas
 lent s = areas (s .args .input .now) (s .args .stage .now) (s .args .output .now) (s .args .scratch .now)
 
--- the silent frames are stored
-abbrev entered : tie.After-silence → tie.Start
-entered c = c .before .before .before .before .before .before .before .before .before
+-- before e is found
+abbrev asked : tie.After-waiting → tie.Start
+asked c = c .before .before .before .before
 
+-- the silent frames are stored
 abbrev expected : tie.After-silence → tie.After-expected-frames
 expected c = c .before .before .before .before
 
--- the work is done
+abbrev entered : tie.After-silence → tie.Start
+entered c = asked (expected c .before)
+
+-- the areas are lent to the work, and it is done
+abbrev lending : tie.After-process-added-arg4 → tie.After-silence
+lending c = c .before .before .before .before .before
+
 abbrev stored : tie.After-process-added → tie.After-silence
-stored c = c .before .before .before .before .before .before
+stored c = lending (c .before)
 
 abbrev begun : tie.After-process-added → Areas
 begun c =
@@ -41,7 +48,13 @@ left c =
     areas (c .process-added .last .1 .1 .1 .0) (c .process-added .last .1 .1 .1 .1 .0) (c .process-added .last .1 .1 .1 .1 .1 .0)
     (c .process-added .last .1 .1 .1 .1 .1 .1 .0)
 
--- its answer is that it is done
+-- its answer, by which the code goes on
+abbrev stage-full : tie.After-enum-told → tie.After-process-added
+stage-full c = c .before .before .before .before .before .before
+
+abbrev output-full : tie.After-enum-told2 → tie.After-process-added
+output-full c = c .before .before .before .before .before .before
+
 abbrev worked : tie.After-known-told → tie.After-process-added
 worked c = c .before .before .before .before .before .before .before
 
@@ -76,12 +89,12 @@ answered c r e =
 
 expected-frames-requires : tie.Need-expected-frames-requires
 expected-frames-requires c κs =
-    let p = c .before .before .before .before .pre .0 .accepted in
+    let p = asked c .pre .0 .accepted in
     (omega (arith, accepted-held p), accepted-tail p)
 
 process-added-requires : tie.Need-process-added-requires
 process-added-requires c κs =
-    let m = c .before .before .before .before .before in
+    let m = lending c in
     ready-with (entered m .pre .0) (m .silence .last .1 .0) (added m .long)
 
 cleared-requires : tie.Need-cleared-requires
@@ -92,10 +105,10 @@ cleared-requires c κs =
     cleared-ready (s .args .stream) (given .0 .1 .0) (s .args .n .0) (begun w) (left w) (given .0 .0) (work w _ (given .1))
 
 returns : tie.Need-returns
-returns c = answered (c .before .before .before .before .before .before) _ (c .enum-told .given .1)
+returns c = answered (stage-full c) _ (c .enum-told .given .1)
 
 returns-2 : tie.Need-returns-2
-returns-2 c = answered (c .before .before .before .before .before .before) _ (c .enum-told2 .given .1)
+returns-2 c = answered (output-full c) _ (c .enum-told2 .given .1)
 
 returns-3 : tie.Need-returns-3
 returns-3 c = rw (c .cleared .ensures [] []) (answered (worked (c .before)) _ (c .before .before .outcome .given .1))

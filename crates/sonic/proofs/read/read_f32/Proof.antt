@@ -19,15 +19,16 @@ entered c = c .before .before .before .before .before
 abbrev ordered-at : tie.Else1 → tie.After-known-told
 ordered-at c = c .before .before .before
 
+-- the count is found
+abbrev passed : tie.After-fewest2 → tie.Else1
+passed c = c .before .before .before .before .before
+
 -- refusal 3 is not met
 ordered : (c : tie.After-known-told)
     → (inOrder (entered c .args .stream) ≡ true) × (c .before .order .given .0 .0 ≡ samplePeriod (entered c .args .stream .rate))
 ordered c = good-of (entered c .args .stream) _ (sym (c .before .before .before .ordered .ensures) ∙ c .before .order .given .1)
 
 -- ---- needs
-
-ordered-requires : tie.Need-ordered-requires
-ordered-requires c κs = search needs
 
 returns : tie.Need-returns
 returns c =
@@ -53,13 +54,16 @@ give-requires : tie.Need-give-requires
 unfolding readCount
 give-requires c κs =
     let least = c .before .before in
-    let good = least .before .before .before .before .before in (
+    let good = passed least in (
       ordered (ordered-at good),
       (
         sym (good .before .output-bad .ensures) ∙ good .if1 .left,
         least .fewest2 .ensures ∙ rw (least .before .fewest .ensures, least .before .before .frames .ensures),
       ),
     )
+
+ordered-requires : tie.Need-ordered-requires
+ordered-requires c κs = search needs
 
 returns-3 : tie.Need-returns-3
 returns-3 c = search needs

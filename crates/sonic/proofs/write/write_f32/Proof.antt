@@ -23,19 +23,26 @@ lent s = areas (s .args .input .now) (s .args .stage .now) (s .args .output .now
 abbrev entered : tie.After-known-told → tie.Start
 entered c = c .before .before .before .before .before
 
--- the areas are tested
+-- the areas are lent, and tested
+abbrev lending : tie.After-areas-bad-arg4 → tie.After-known-told
+lending c = c .before .before .before .before
+
 abbrev in-order : tie.After-areas-bad → tie.After-known-told
-in-order c = c .before .before .before .before .before
+in-order c = lending (c .before)
 
 -- the frames are tested against the input
 abbrev counted : tie.After-input-full → tie.After-frames
 counted c = c .before .before
 
-abbrev areas-passed : tie.After-input-full → tie.Else1
-areas-passed c = counted c .before .before
+abbrev areas-passed : tie.After-frames → tie.Else1
+areas-passed c = c .before .before
 
 abbrev began : tie.After-input-full → tie.Start
-began c = entered (in-order (areas-passed c .before))
+began c = entered (in-order (areas-passed (counted c) .before))
+
+-- no refusal is met
+abbrev fitting : tie.After-write-frames-arg4 → tie.Else2
+fitting c = c .before .before .before .before
 
 -- ---- what the tests say
 
@@ -56,9 +63,6 @@ input-test c b e = sym (c .input-full .ensures) ∙ e
 
 -- ---- needs
 
-ordered-requires : tie.Need-ordered-requires
-ordered-requires c κs = search needs
-
 returns : tie.Need-returns
 returns c =
     let o = c .before .before in
@@ -67,7 +71,7 @@ returns c =
 
 areas-bad-requires : tie.Need-areas-bad-requires
 areas-bad-requires c κs =
-    let o = c .before .before .before .before in
+    let o = lending c in
     limits-of (entered o .args .stream) (ordered o .0) .channels-low
 
 returns-2 : tie.Need-returns-2
@@ -83,7 +87,7 @@ frames-requires c κs =
 
 input-full-requires : tie.Need-input-full-requires
 input-full-requires c κs =
-    let g = c .before .before .before in
+    let g = areas-passed (c .before) in
     let o = in-order (g .before) in
     let s = entered o in
     (limits-of (s .args .stream) (ordered o .0) .channels-low, areas-of (s .args .stream) (lent s) (good g) .held)
@@ -91,7 +95,7 @@ input-full-requires c κs =
 returns-3 : tie.Need-returns-3
 returns-3 c =
     let t = c .before in
-    let g = areas-passed t in
+    let g = areas-passed (counted t) in
     let s = began t in
     let frames = counted t .frames in
     write-input-full (s .args .stream) (s .args .samples .now) (lent s) (ordered (in-order (g .before)) .0) (frames .result .0) (frames .ensures) (good g)
@@ -99,13 +103,16 @@ returns-3 c =
 
 write-frames-requires : tie.Need-write-frames-requires
 write-frames-requires c κs =
-    let i = c .before .before .before .before in
+    let i = fitting c in
     let t = i .before in
-    let g = areas-passed t in
+    let g = areas-passed (counted t) in
     let o = in-order (g .before) in
     let frames = counted t .frames in
     let fits = input-test t false (i .if2 .left) in
     (add-ready (began t .args .stream) (o .before .order .given .0 .0) (lent (began t)) (frames .result .0) (ordered o) (good g) fits, frames .ensures)
+
+ordered-requires : tie.Need-ordered-requires
+ordered-requires c κs = search needs
 
 returns-4 : tie.Need-returns-4
 returns-4 c = search needs

@@ -17,20 +17,32 @@ use Rattle.sonic.proofs.write.write_frames.Tie as tie
 abbrev lent : tie.Start → Areas
 lent s = areas (s .args .input .now) (s .args .stage .now) (s .args .output .now) (s .args .scratch .now)
 
--- the frames are stored
-abbrev entered : tie.After-samples-in → tie.Start
-entered c = c .before .before .before .before .before .before .before
+-- the frames are counted, and stored
+abbrev counted : tie.After-samples2 → tie.Start
+counted c = c .before .before .before .before .before .before
 
--- the work is done
+abbrev entered : tie.After-samples-in → tie.Start
+entered c = counted (c .before)
+
+-- the areas are lent to the work, and it is done
+abbrev lending : tie.After-process-added-arg4 → tie.After-samples-in
+lending c = c .before .before .before .before .before
+
 abbrev stored : tie.After-process-added → tie.After-samples-in
-stored c = c .before .before .before .before .before .before
+stored c = lending (c .before)
 
 abbrev left : tie.After-process-added → Areas
 left c =
     areas (c .process-added .last .1 .1 .1 .0) (c .process-added .last .1 .1 .1 .1 .0) (c .process-added .last .1 .1 .1 .1 .1 .0)
     (c .process-added .last .1 .1 .1 .1 .1 .1 .0)
 
--- its answer is that it is done
+-- its answer, by which the code goes on
+abbrev stage-full : tie.After-enum-told → tie.After-process-added
+stage-full c = c .before .before .before .before .before .before
+
+abbrev output-full : tie.After-enum-told2 → tie.After-process-added
+output-full c = c .before .before .before .before .before .before
+
 abbrev worked : tie.After-known-told → tie.After-process-added
 worked c = c .before .before .before .before .before .before .before
 
@@ -62,20 +74,20 @@ answered c r e =
 
 samples-in-requires : tie.Need-samples-in-requires
 samples-in-requires c κs =
-    let s = c .before .before .before .before .before .before in
+    let s = counted c in
     let p = s .pre .0 .accepted in
     rw (c .samples2 .ensures, c .before .before .samples .ensures) (accepted-samples p (s .args .samples .now) (s .pre .1), accepted-place p)
 
 process-added-requires : tie.Need-process-added-requires
 process-added-requires c κs =
-    let m = c .before .before .before .before .before in
+    let m = lending c in
     ready-with (entered m .pre .0) (m .samples-in .last .1 .1 .0) (added m .long)
 
 returns : tie.Need-returns
-returns c = answered (c .before .before .before .before .before .before) _ (c .enum-told .given .1)
+returns c = answered (stage-full c) _ (c .enum-told .given .1)
 
 returns-2 : tie.Need-returns-2
-returns-2 c = answered (c .before .before .before .before .before .before) _ (c .enum-told2 .given .1)
+returns-2 c = answered (output-full c) _ (c .enum-told2 .given .1)
 
 returns-3 : tie.Need-returns-3
 returns-3 c = answered (worked c) _ (c .before .outcome .given .1)
