@@ -1,7 +1,7 @@
 -- What the functions of `finish` require and ensure. s is the stream at the call's start, d what filled the stage; the areas go from a to b.
 -- Definitions only. Assumes nothing.
 use mathlib.Core.Path.{_≡_}
-use mathlib.Core.List.{List, map}
+use mathlib.Core.List.{map}
 use Prim.Native.Nat.{ℕ, _+_, _-_, _*_, _^_, _≤_}
 use lib.ListN.{length, drop}
 use Rattle.frames.specs.Areas.{Areas}

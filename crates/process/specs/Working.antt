@@ -1,7 +1,7 @@
 -- What `process_stream_input` requires and ensures of a stream s; its areas go from a to b. Definitions only. Assumes nothing.
 use mathlib.Core.Path.{_≡_}
-use mathlib.Core.List.{List, _++_}
-use Prim.Native.Nat.{ℕ, _+_, _*_, _^_, _≤_, _<_}
+use mathlib.Core.List.{_++_}
+use Prim.Native.Nat.{_+_, _*_, _^_, _≤_, _<_}
 use lib.ListN.{length}
 use Rattle.frames.specs.Areas.{Areas}
 use Rattle.frames.specs.Framing.{framesOf}

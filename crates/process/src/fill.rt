@@ -10,7 +10,6 @@ use stretch::Stretched;
 ghost use mathlib.Core.Path.{_≡_};
 ghost use mathlib.Core.Bool.{true, false};
 ghost use Prim.Native.Nat.{_^_, _≤_};
-ghost use lib.ListN.{length};
 ghost use Rattle.floats.specs.Settings.{samplePeriod};
 ghost use Rattle.floats.specs.Write.{speedChanges};
 ghost use Rattle.period.specs.Rates.{maxRequired};
