@@ -2,8 +2,8 @@
 use mathlib.Core.List.{List}
 use lib.IntN.{ℤ}
 
--- *input* holds written frames not yet used, *stage* the tail and a call's stretched frames, *output* the frames waiting to be read,
--- *scratch* the averages
+-- *input* holds written frames not yet used, *stage* the tail and a call's stretched frames, *output* the frames
+-- waiting to be read, *scratch* the averages
 pub record Areas : Type 0 where
   pub input : List ℤ
   pub stage : List ℤ

@@ -1,5 +1,5 @@
--- What the functions of `fill` require and ensure of a stream s, its input, and its stage, which goes from `entry` to `exit`.
--- Definitions only. Assumes nothing.
+-- What the functions of `fill` require and ensure of a stream s, its input, and its stage, which goes from `entry` to
+-- `exit`. Definitions only. Assumes nothing.
 use mathlib.Core.Path.{_≡_}
 use mathlib.Core.Bool.{cond}
 use mathlib.Core.List.{List}

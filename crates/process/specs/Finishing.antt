@@ -1,5 +1,5 @@
--- What the functions of `finish` require and ensure. s is the stream at the call's start, d what filled the stage; the areas go from a to b.
--- Definitions only. Assumes nothing.
+-- What the functions of `finish` require and ensure. s is the stream at the call's start, d what filled the stage;
+-- the areas go from a to b. Definitions only. Assumes nothing.
 use mathlib.Core.Path.{_≡_}
 use mathlib.Core.List.{map}
 use Prim.Native.Nat.{ℕ, _+_, _-_, _*_, _^_, _≤_}
@@ -42,7 +42,8 @@ pub record CommitReady (s : SonicStream) (d : Filled) (c : Adjusted) (a : Areas)
 
 -- ---- ensured
 
--- done as the conversion c says: the frames used have left the input, and the tail frames consumed the stage; the frames made are scaled
+-- done as the conversion c says: the frames used have left the input, and the tail frames consumed the stage; the
+-- frames made are scaled
 pub record FinishedAs (s : SonicStream) (d : Filled) (c : Conversion) (a b : Areas) (o : Outcome) (t : SonicStream) : Type 0 where
   pub outcome : o ≡ d .outcome
   pub stream : ChangedBy (λ (x : State). withTail x (c .rest) (c .at)) (d .stream) (s .waiting .0 + length (c .made)) t

@@ -1,5 +1,5 @@
--- Document 01, "A write" and "Flush", with no limit of room: what the calls' definitions and the ledger go by. Definitions only.
--- Assumes nothing.
+-- Document 01, "A write" and "Flush", with no limit of room: what the calls' definitions and the ledger go by.
+-- Definitions only. Assumes nothing.
 use mathlib.Core.Bool.{cond}
 use mathlib.Core.List.{List, [], _++_, map}
 use Prim.Native.Nat.{ℕ, _-_, _*_, _/_}
@@ -93,7 +93,8 @@ stretched x s =
       outcome = cond (stalled (stepsAt x s)) Stalled Stretched;
     }
 
--- outside 0.99999..1.00001 the stretch runs, with at least `max_required` frames; else, and for a NaN, all frames are copied
+-- outside 0.99999..1.00001 the stretch runs, with at least `max_required` frames; else, and for a NaN, all frames are
+-- copied
 unfoldable pub takenAt : Float → State → Taken
 takenAt x s =
     cond (speedChanges x) (cond (ltb (length (s .input)) (maxRequired (s .rate))) (nothing Waiting s) (stretched x s)) (copied s)

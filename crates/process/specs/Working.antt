@@ -1,4 +1,5 @@
--- What `process_stream_input` requires and ensures of a stream s; its areas go from a to b. Definitions only. Assumes nothing.
+-- What `process_stream_input` requires and ensures of a stream s; its areas go from a to b. Definitions only. Assumes
+-- nothing.
 use mathlib.Core.Path.{_≡_}
 use mathlib.Core.List.{_++_}
 use Prim.Native.Nat.{_+_, _*_, _^_, _≤_, _<_}

@@ -1,5 +1,6 @@
-// One call's work on a stream: frames that a write or a flush added are copied or stretched, then rate and volume follow.
-// `specs/Process.antt` says what becomes of the samples. Work goes into the free parts of the areas first and is committed at the end.
+// One call's work on a stream: frames that a write or a flush added are copied or stretched, then rate and volume
+// follow. `specs/Process.antt` says what becomes of the samples. Work goes into the free parts of the areas first and
+// is committed at the end.
 mod fill;
 mod finish;
 

@@ -1,5 +1,5 @@
--- What the inner functions of a write and a flush require and ensure: the work of a call that adds n frames to the stream s.
--- Definitions only. Assumes nothing.
+-- What the inner functions of a write and a flush require and ensure: the work of a call that adds n frames to the
+-- stream s. Definitions only. Assumes nothing.
 use mathlib.Core.Path.{_≡_}
 use mathlib.Core.Bool.{true, false}
 use Prim.Native.Nat.{ℕ, _+_, _*_, _≤_}

@@ -45,7 +45,8 @@ abbrev pub countRead : Gave → ℕ
 countRead (Gave.Refused number s) = 0
 countRead (Gave.Done n s) = n .0
 
--- the answer r, the slice from `entry` to `exit` and the output area at exit are those of the read c; the rest of the slice is unchanged
+-- the answer r, the slice from `entry` to `exit` and the output area at exit are those of the read c; the rest of the
+-- slice is unchanged
 pub record ReadEnsures (channels : ℕ) (c : ReadResult) (r : Gave) (entry exit : List Float) (area : List ℤ) : Type 0 where
   pub answer : r ≡ c .answer
   pub given : framesOf channels (countRead r) exit ≡ c .given

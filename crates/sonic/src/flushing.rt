@@ -18,8 +18,8 @@ ghost use Rattle.process.specs.Process.{cleared};
 ghost use Rattle.sonic.specs.Calls.{flushCall, CallEnsures, OrderAfter};
 ghost use Rattle.sonic.specs.Adding.{AddReady};
 
-// The stream after a flush: of the frames behind the first `waiting` ones at most `expected` wait, and nothing is held. Positions and
-// period record stay.
+// The stream after a flush: of the frames behind the first `waiting` ones at most `expected` wait, and nothing is
+// held. Positions and period record stay.
 fn cleared(mut stream: SonicStream, waiting: Frames, expected: Frames) -> SonicStream
     requires { ⌜ (waiting .0 ≤ stream .waiting .0) × (stream .«sample_period» ≡ samplePeriod (stream .rate)) ⌝ }
     ensures { λ r. ⌜ ChangedBy cleared stream (waiting .0 + min (expected .0) (stream .waiting .0 - waiting .0)) r ⌝ }

@@ -1,5 +1,6 @@
-// The Sonic speech stretcher over lent areas: write, read and flush of a stream. `specs/Calls.antt` and `specs/Reading.antt` say what each
-// call answers. The stream itself, with `new`, `set` and `available_frames`, is that of `stream`.
+// The Sonic speech stretcher over lent areas: write, read and flush of a stream. `specs/Calls.antt` and
+// `specs/Reading.antt` say what each call answers. The stream itself, with `new`, `set` and `available_frames`, is
+// that of `stream`.
 mod areas;
 mod flushing;
 mod read;

@@ -1,5 +1,6 @@
-// The stream for C: each function calls `stream` or `sonic` and hands its answer over as a struct. include/kelpladder.h has the
-// declarations; `specs/Answers.antt` says what numbers stand for an answer. The stream is `SonicStream` itself.
+// The stream for C: each function calls `stream` or `sonic` and hands its answer over as a struct.
+// include/kelpladder.h has the declarations; `specs/Answers.antt` says what numbers stand for an answer. The stream
+// is `SonicStream` itself.
 mod answers;
 mod calls;
 

@@ -1,4 +1,5 @@
--- What a stream and its areas hold, the frames waiting apart (document 01, "Ledger of demand 3"). Definitions only. Assumes nothing.
+-- What a stream and its areas hold, the frames waiting apart (document 01, "Ledger of demand 3"). Definitions only.
+-- Assumes nothing.
 use mathlib.Core.List.{List}
 use Prim.Native.Nat.{ℕ}
 use lib.Ieee.{Float}

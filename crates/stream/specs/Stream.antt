@@ -1,4 +1,5 @@
--- A stream's value and a state: what a stream and its areas say, and the stream of a state. Definitions only. Assumes nothing.
+-- A stream's value and a state: what a stream and its areas say, and the stream of a state. Definitions only. Assumes
+-- nothing.
 use mathlib.Core.Path.{_≡_}
 use mathlib.Core.List.{List, []}
 use Prim.Native.Nat.{ℕ}
@@ -10,7 +11,8 @@ use Rattle.floats.specs.Settings.{samplePeriod}
 use Rattle.stream.specs.declared.SonicStream.{SonicStream}
 use Rattle.stream.specs.State.{State}
 
--- the state that a stream says with its input and its stage: the input holds written frames not yet used, the stage the tail
+-- the state that a stream says with its input and its stage: the input holds written frames not yet used, the stage
+-- the tail
 unfoldable pub stateOf : SonicStream → List ℤ → List ℤ → State
 stateOf s input stage =
     record {

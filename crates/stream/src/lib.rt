@@ -37,7 +37,8 @@ pub enum Setting {
     Volume(f32),
 }
 
-// An opening's answer: refused with its number, the rate or channels given, and a stream with every field 0; or the stream.
+// An opening's answer: refused with its number, the rate or channels given, and a stream with every field 0; or the
+// stream.
 pub enum Opened {
     Refused {
         number: u32,
