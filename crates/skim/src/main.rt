@@ -11,7 +11,7 @@ mod usage;
 use arguments::Asked;
 use arguments::Job;
 use reels::areas;
-use reels::areas::Room;
+use reels::areas::Service;
 use reels::reel::Reel;
 use stream::Changed;
 use stream::Opened;
@@ -60,11 +60,11 @@ fn run(job: Job) -> u64 {
         Opened::Done(fresh) => {
             let stream = settle(fresh, job);
             match areas::serve(stream) {
-                Room::None => {
+                Service::None => {
                     usage::no_room();
                     usage::bad_usage()
                 }
-                Room::Planned(plan) => {
+                Service::Planned(plan) => {
                     let reel = skimming::skim(Reel::new(stream), plan);
                     report::run(reel, plan.rate)
                 }

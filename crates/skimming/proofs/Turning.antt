@@ -1,6 +1,6 @@
 -- From one step of a run to the next:
 --   part-start, part-more, part-end        the writes of a block
---   Taken, samples-whole, turned           a block read; and written
+--   BlockTaken, samples-whole, turned           a block read; and written
 --   flush-none, flush-due, Ending          whether a run is flushed, and what that shows
 --   Level, level-start, level-again        what the turns keep
 --   Closed, closed-ended, closed-failed    a run before its flush
@@ -16,9 +16,9 @@ use lib.Dec.{eqb}
 use Rattle.stream.specs.declared.SonicStream.{SonicStream}
 use Rattle.sonic.specs.declared.Wrote.{Wrote}
 use Rattle.reels.specs.declared.areas.Plan.{Plan}
-use Rattle.reels.specs.declared.reading.Read.{Read}
+use Rattle.reels.specs.declared.reading.BlockRead.{BlockRead}
 use Rattle.reels.specs.declared.reel.Reel.{Reel}
-use Rattle.reels.specs.Reels.{going, SameInput, Answered, WrittenOut, Drained, BlockRead}
+use Rattle.reels.specs.Reels.{going, SameInput, Answered, WrittenOut, Drained, BlockReadAs}
 use Rattle.skimming.specs.Skimming.{flushes, PartWritten, BlockWritten}
 use Rattle.skimming.specs.Skimming.{Turned, Flushed, ReelReady, Complete}
 use Rattle.reels.proofs.Blocks.{counted, full-whole}
@@ -74,12 +74,12 @@ unfailed-of true b e = let z : _≡_ {A = ℕ} 0 1 = cc in absurd (omega arith)
 unfailed-of false b e = e
 
 -- what the counted bytes of a block show
-record Taken (p : Plan) (r : Reel) (b : Read) : Type 0 where
+record BlockTaken (p : Plan) (r : Reel) (b : BlockRead) : Type 0 where
   frames-is : b .reel .«frames_in» ≡ (r .«frames_in» + b .samples / p .channels) % 2 ^ 64
   still : going (b .reel) ≡ true → going r ≡ true
   partial-last : p .block % p .channels ≡ 0 → b .reel .ended ≡ false → b .reel .partial ≡ 0
 
-taken-of : (p : Plan) (r : Reel) (b : Read) → 1 ≤ p .channels → BlockRead p r b → Taken p r b
+taken-of : (p : Plan) (r : Reel) (b : BlockRead) → 1 ≤ p .channels → BlockReadAs p r b → BlockTaken p r b
 taken-of p r b h x =
     let f = x .filled in
     let c = x .counted in
@@ -103,11 +103,11 @@ taken-of p r b h x =
     }
 
 -- its samples are whole frames
-pub samples-whole : (p : Plan) (r : Reel) (b : Read) → BlockRead p r b → b .samples % p .channels ≡ 0
+pub samples-whole : (p : Plan) (r : Reel) (b : BlockRead) → BlockReadAs p r b → b .samples % p .channels ≡ 0
 samples-whole p r b x =
     ap (λ (k : ℕ). k % p .channels) (x .samples-are) ∙ mul-mod-left (x .filled .bytes / (2 * p .channels)) (p .channels)
 
-pub turned : (p : Plan) (r : Reel) (b : Read) (r' : Reel) → 1 ≤ p .channels → p .block % p .channels ≡ 0 → BlockRead p r b
+pub turned : (p : Plan) (r : Reel) (b : BlockRead) (r' : Reel) → 1 ≤ p .channels → p .block % p .channels ≡ 0 → BlockReadAs p r b
     → BlockWritten (b .samples / p .channels) (b .reel) r' → Turned r r'
 turned p r b r' h w x y =
     let c = x .counted in

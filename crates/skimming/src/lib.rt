@@ -3,8 +3,8 @@
 mod writing;
 
 use reels::areas;
-use reels::areas::BLOCK;
-use reels::areas::BYTES;
+use reels::areas::BLOCK_BYTES;
+use reels::areas::BLOCK_SAMPLES;
 use reels::areas::Plan;
 use reels::reading::read_block;
 use reels::reel::Reel;
@@ -115,13 +115,13 @@ pub fn skim(reel: Reel, plan: Plan) -> Reel
     requires { ⌜ Usable plan × ReelReady plan reel ⌝ }
     ensures { λ r. ⌜ Complete r ⌝ }
 {
-    let mut input = [0i16; areas::INPUT];
-    let mut stage = [0i16; areas::STAGE];
-    let mut output = [0i16; areas::OUTPUT];
-    let mut scratch = [0i16; areas::SCRATCH];
-    let mut block = [0f32; BLOCK];
-    let mut values = [0f32; BLOCK];
-    let mut bytes = [0u8; BYTES];
+    let mut input = [0i16; areas::INPUT_AREA];
+    let mut stage = [0i16; areas::STAGE_AREA];
+    let mut output = [0i16; areas::OUTPUT_AREA];
+    let mut scratch = [0i16; areas::SCRATCH_AREA];
+    let mut block = [0f32; BLOCK_SAMPLES];
+    let mut values = [0f32; BLOCK_SAMPLES];
+    let mut bytes = [0u8; BLOCK_BYTES];
     run(
         reel,
         plan,

@@ -1,5 +1,5 @@
 // A block is written to the stream, in writes that fill its input as far as the plan says.
-use reels::areas::BLOCK;
+use reels::areas::BLOCK_SAMPLES;
 use reels::areas::Plan;
 use reels::reel::Reel;
 ghost use mathlib.Core.Path.{_≡_};
@@ -61,7 +61,7 @@ pub(crate) fn write_block(
 {
     let channels = plan.channels;
     let full = plan.full;
-    let few = BLOCK / channels;
+    let few = BLOCK_SAMPLES / channels;
     let mut at: usize = 0;
     while at < block.len() && reel.is_going() {
         let end = write_end(at, block.len(), reel.stream.held.0, full, channels);
