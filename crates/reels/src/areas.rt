@@ -90,7 +90,11 @@ fn staged_most(stream: SonicStream) -> Frames
     ensures { λ r. ⌜ r .0 ≡ stagedMost stream ⌝ }
 {
     let held = held_most(stream);
-    let growth = growth(stream.speed, stream.pitch, period::max_period(stream.rate as usize));
+    let growth = growth(
+        stream.speed,
+        stream.pitch,
+        period::max_period(stream.rate as usize),
+    );
     Frames(held.0 * growth + TAIL_FRAMES)
 }
 
