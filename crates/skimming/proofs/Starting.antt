@@ -6,8 +6,8 @@ use native.Mathlib.Nat.{mul-mod-left}
 use native.Mathlib.Omega.{arith}
 use Rattle.sonic.specs.declared.SonicStream.{SonicStream}
 use Rattle.reels.specs.declared.areas.Plan.{Plan}
-use Rattle.reels.specs.declared.areas.Room.{Room}
-use Rattle.reels.specs.Areas.{served, planOf, serviceOf}
+use Rattle.reels.specs.declared.areas.Service.{Service}
+use Rattle.reels.specs.Areas.{blockSamples, served, planOf, serviceOf}
 use Rattle.reels.specs.Reels.{freshReel}
 use Rattle.skimming.specs.Skimming.{ReelReady}
 
@@ -15,12 +15,12 @@ module _ (s : SonicStream) where
   fresh-ready : ReelReady (planOf s) (freshReel s)
   unfolding freshReel
   fresh-ready =
-      record { channels-are = refl; block-whole = mul-mod-left (4096 / s .channels) (s .channels); level = refl; none-left = refl; unflushed = refl }
+      record { channels-are = refl; block-whole = mul-mod-left (blockSamples / s .channels) (s .channels); level = refl; none-left = refl; unflushed = refl }
 
-  pub ready-of : (p : Plan) → serviceOf s ≡ Room.Planned p → ReelReady p (freshReel s)
+  pub ready-of : (p : Plan) → serviceOf s ≡ Service.Planned p → ReelReady p (freshReel s)
   unfolding serviceOf
   ready-of p = go (served s)
     where
-      go : (b : Bool) → cond b (Room.Planned (planOf s)) Room.None ≡ Room.Planned p → ReelReady p (freshReel s)
+      go : (b : Bool) → cond b (Service.Planned (planOf s)) Service.None ≡ Service.Planned p → ReelReady p (freshReel s)
       go true e = let same : planOf s ≡ p = cc in subst (λ (q : Plan). ReelReady q (freshReel s)) same fresh-ready
       go false e = let z : _≡_ {A = ℕ} 0 1 = cc in absurd (omega arith)

@@ -1,5 +1,5 @@
 -- A write leaves the stream's channels as they were. Assumes nothing.
-use mathlib.Core.Path.{_≡_, refl}
+use mathlib.Core.Path.{_≡_, refl, ap, _∙_}
 use mathlib.Core.List.{List}
 use Prim.Native.Nat.{ℕ, zero, suc}
 use lib.Ieee.{Float}
@@ -20,8 +20,11 @@ module _ (s : SonicStream) (a : Areas) where
   channels-by zero outcome t frames = refl
   channels-by (suc k) outcome t frames = refl
 
-  pub write-channels : (samples : List Float) → streamAfter (writeCall s samples a .answer) .channels ≡ s .channels
+  write-channels : (samples : List Float) → streamAfter (writeCall s samples a .answer) .channels ≡ s .channels
   unfolding writeCall
   write-channels samples =
       let m : Made = writeWork (setupOf s) samples (stateIn s a) in
       channels-by (refusal s a (length (wholeFrames (s .channels) samples)) (m .staged) (length (m .frames))) (m .outcome) (m .state) (m .frames)
+
+pub write-keeps : {t : SonicStream} (s : SonicStream) (samples : List Float) (a : Areas) → t ≡ streamAfter (writeCall s samples a .answer) → t .channels ≡ s .channels
+write-keeps s samples a e = ap (λ (x : SonicStream). x .channels) e ∙ write-channels s a samples

@@ -3,8 +3,8 @@
 mod writing;
 
 use reels::areas;
-use reels::areas::BLOCK;
-use reels::areas::BYTES;
+use reels::areas::BLOCK_BYTES;
+use reels::areas::BLOCK_SAMPLES;
 use reels::areas::Plan;
 use reels::reading::read_block;
 use reels::reel::Reel;
@@ -14,7 +14,7 @@ ghost use Prim.Native.Nat.{_%_};
 ghost use lib.ListN.{length};
 ghost use Rattle.sonic.specs.Stream.{areas};
 ghost use Rattle.sonic.specs.Calls.{flushCall};
-ghost use Rattle.reels.specs.Areas.{Usable};
+ghost use Rattle.reels.specs.Areas.{blockSamples, blockBytes, Usable};
 ghost use Rattle.skimming.specs.Skimming.{Turned, Flushed, ReelReady, Complete};
 
 // Reads a block, writes it to the stream, and writes out what that makes.
@@ -30,7 +30,7 @@ fn turn(
     bytes: &mut [u8],
 ) -> Reel
     requires { ⌜ Usable plan × (reel .stream .channels ≡ plan .channels) × (plan .block % plan .channels ≡ 0) × (reel .partial ≡ 0) ⌝ }
-    requires { ⌜ (4096 ≡ length (now block)) × (4096 ≡ length (now values)) × (8192 ≡ length (now bytes)) ⌝ }
+    requires { ⌜ (blockSamples ≡ length (now block)) × (blockSamples ≡ length (now values)) × (blockBytes ≡ length (now bytes)) ⌝ }
     ensures { λ r. ⌜ Turned reel r ⌝ }
 {
     let read = read_block(reel, plan, block, bytes);
@@ -85,7 +85,7 @@ fn run(
     bytes: &mut [u8],
 ) -> Reel
     requires { ⌜ Usable plan × ReelReady plan reel ⌝ }
-    requires { ⌜ (4096 ≡ length (now block)) × (4096 ≡ length (now values)) × (8192 ≡ length (now bytes)) ⌝ }
+    requires { ⌜ (blockSamples ≡ length (now block)) × (blockSamples ≡ length (now values)) × (blockBytes ≡ length (now bytes)) ⌝ }
     ensures { λ r. ⌜ Complete r ⌝ }
 {
     let mut turns = u64::MAX;
@@ -115,13 +115,13 @@ pub fn skim(reel: Reel, plan: Plan) -> Reel
     requires { ⌜ Usable plan × ReelReady plan reel ⌝ }
     ensures { λ r. ⌜ Complete r ⌝ }
 {
-    let mut input = [0i16; areas::INPUT];
-    let mut stage = [0i16; areas::STAGE];
-    let mut output = [0i16; areas::OUTPUT];
-    let mut scratch = [0i16; areas::SCRATCH];
-    let mut block = [0f32; BLOCK];
-    let mut values = [0f32; BLOCK];
-    let mut bytes = [0u8; BYTES];
+    let mut input = [0i16; areas::INPUT_AREA];
+    let mut stage = [0i16; areas::STAGE_AREA];
+    let mut output = [0i16; areas::OUTPUT_AREA];
+    let mut scratch = [0i16; areas::SCRATCH_AREA];
+    let mut block = [0f32; BLOCK_SAMPLES];
+    let mut values = [0f32; BLOCK_SAMPLES];
+    let mut bytes = [0u8; BLOCK_BYTES];
     run(
         reel,
         plan,
