@@ -7,7 +7,7 @@ use native.Mathlib.Omega.{arith}
 use Rattle.stream.specs.declared.SonicStream.{SonicStream}
 use Rattle.reels.specs.declared.areas.Plan.{Plan}
 use Rattle.reels.specs.declared.areas.Service.{Service}
-use Rattle.reels.specs.Areas.{served, planOf, serviceOf}
+use Rattle.reels.specs.Areas.{blockSamples, served, planOf, serviceOf}
 use Rattle.reels.specs.Reels.{freshReel}
 use Rattle.skimming.specs.Skimming.{ReelReady}
 
@@ -15,7 +15,7 @@ module _ (s : SonicStream) where
   fresh-ready : ReelReady (planOf s) (freshReel s)
   unfolding freshReel
   fresh-ready =
-      record { channels-are = refl; block-whole = mul-mod-left (4096 / s .channels) (s .channels); level = refl; none-left = refl; unflushed = refl }
+      record { channels-are = refl; block-whole = mul-mod-left (blockSamples / s .channels) (s .channels); level = refl; none-left = refl; unflushed = refl }
 
   pub ready-of : (p : Plan) → serviceOf s ≡ Service.Planned p → ReelReady p (freshReel s)
   unfolding serviceOf

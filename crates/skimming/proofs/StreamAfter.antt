@@ -1,5 +1,5 @@
 -- A write leaves the stream's channels as they were. Assumes nothing.
-use mathlib.Core.Path.{_≡_, refl}
+use mathlib.Core.Path.{_≡_, refl, ap, _∙_}
 use mathlib.Core.List.{List}
 use Prim.Native.Nat.{ℕ, zero, suc}
 use lib.Ieee.{Float}
@@ -22,10 +22,14 @@ module _ (s : SonicStream) (a : Areas) where
   channels-by zero outcome t frames same = same
   channels-by (suc k) outcome t frames same = refl
 
-  pub write-channels : (samples : List Float) → streamAfter (writeCall s samples a .answer) .channels ≡ s .channels
+  write-channels : (samples : List Float) → streamAfter (writeCall s samples a .answer) .channels ≡ s .channels
   unfolding writeCall stateOf
   write-channels samples =
       let entering : State = stateOf s (a .input) (a .stage) in
       let m : Made = writeWork samples entering in
       channels-by (refusal s a (length (wholeFrames (s .channels) samples)) (m .staged) (length (m .frames))) (m .outcome) (m .state) (m .frames)
       (write-settings samples entering .channels)
+
+pub write-keeps : {t : SonicStream} (s : SonicStream) (samples : List Float) (a : Areas) → t ≡ streamAfter (writeCall s samples a .answer)
+    → t .channels ≡ s .channels
+write-keeps s samples a e = ap (λ (x : SonicStream). x .channels) e ∙ write-channels s a samples

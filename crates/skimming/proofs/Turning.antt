@@ -1,12 +1,13 @@
 -- From one step of a run to the next:
+--   answered-with                          after a call, with its frames counted or the flush noted
 --   part-start, part-more, part-end        the writes of a block
---   BlockTaken, samples-whole, turned           a block read; and written
+--   CountShows, samples-whole, turned      a block read; and written
 --   flush-none, flush-due, Ending          whether a run is flushed, and what that shows
 --   Level, level-start, level-again        what the turns keep
 --   Closed, closed-ended, closed-failed    a run before its flush
 --   complete                               the whole run
 -- Assumes nothing.
-use mathlib.Core.Path.{_≡_, refl, sym, ap, _∙_}
+use mathlib.Core.Path.{_≡_, refl, sym, ap, subst, _∙_}
 use mathlib.Core.Bool.{Bool, true, false, not, _&&_, _||_}
 use Prim.Native.Nat.{ℕ, _+_, _*_, _/_, _%_, _^_, _≤_, _<_}
 use native.Mathlib.Nat.{mod-eq-of-lt, mul-mod-left, mul-div-cancel}
@@ -21,8 +22,51 @@ use Rattle.reels.specs.declared.reel.Reel.{Reel}
 use Rattle.reels.specs.Reels.{going, SameInput, Answered, WrittenOut, Drained, BlockReadAs}
 use Rattle.skimming.specs.Skimming.{flushes, PartWritten, BlockWritten}
 use Rattle.skimming.specs.Skimming.{Turned, Flushed, ReelReady, Complete}
+use Rattle.stream.proofs.InOrder.{both}
+use Rattle.stream.proofs.InOrder.{neither}
 use Rattle.reels.proofs.Blocks.{counted, full-whole}
 use Rattle.reels.proofs.Going.{failed-once, going-parts, going-of, same-input, input-trans, out-still}
+
+-- ---- a call
+
+-- the reel t that a call left, with the frames written and whether it was flushed set
+module _ (t : Reel) (written : ℕ) (flushed : Bool) where
+  abbrev noted : Reel
+  noted =
+      record {
+        stream = t .stream;
+        «frames_in» = t .«frames_in»;
+        written = written;
+        «frames_out» = t .«frames_out»;
+        partial = t .partial;
+        stalled = t .stalled;
+        «stalled_at» = t .«stalled_at»;
+        refusal = t .refusal;
+        failed = t .failed;
+        ended = t .ended;
+        flushed = flushed;
+      }
+
+  pub answered-with : {r : Reel} {given answer : Wrote} {n : ℕ} {b : Bool} → given ≡ answer → written ≡ n → flushed ≡ b
+      → Answered (r .written) (r .flushed) r given t → Answered n b r answer noted
+  answered-with {r} same w f a =
+      let x = subst (λ (y : Wrote). Answered (r .written) (r .flushed) r y t) same a in
+      record {
+        stream-is = x .stream-is;
+        refusal-is = x .refusal-is;
+        stalled-is = x .stalled-is;
+        place-is = x .place-is;
+        written-is = w;
+        flushed-is = f;
+        failed-kept = x .failed-kept;
+        out-kept = x .out-kept;
+        input-kept =
+            record {
+              frames-same = x .input-kept .frames-same;
+              partial-same = x .input-kept .partial-same;
+              ended-same = x .input-kept .ended-same;
+            };
+      }
 
 -- ---- the writes of a block
 
@@ -69,18 +113,14 @@ part-end {r} {s} {t} n m few all one p d =
 
 -- ---- a block
 
-unfailed-of : (a b : Bool) → (a || b) ≡ false → b ≡ false
-unfailed-of true b e = let z : _≡_ {A = ℕ} 0 1 = cc in absurd (omega arith)
-unfailed-of false b e = e
-
 -- what the counted bytes of a block show
-record BlockTaken (p : Plan) (r : Reel) (b : BlockRead) : Type 0 where
+record CountShows (p : Plan) (r : Reel) (b : BlockRead) : Type 0 where
   frames-is : b .reel .«frames_in» ≡ (r .«frames_in» + b .samples / p .channels) % 2 ^ 64
   still : going (b .reel) ≡ true → going r ≡ true
   partial-last : p .block % p .channels ≡ 0 → b .reel .ended ≡ false → b .reel .partial ≡ 0
 
-taken-of : (p : Plan) (r : Reel) (b : BlockRead) → 1 ≤ p .channels → BlockReadAs p r b → BlockTaken p r b
-taken-of p r b h x =
+count-shows : (p : Plan) (r : Reel) (b : BlockRead) → 1 ≤ p .channels → BlockReadAs p r b → CountShows p r b
+count-shows p r b h x =
     let f = x .filled in
     let c = x .counted in
     let n = f .bytes / (2 * p .channels) in
@@ -93,7 +133,7 @@ taken-of p r b h x =
           going-of r
           (record {
             unstalled = sym (c .stalled-kept) ∙ g .unstalled;
-            unfailed = unfailed-of (f .failed) (r .failed) (sym (c .failed-is) ∙ g .unfailed);
+            unfailed = neither (f .failed) (r .failed) (sym (c .failed-is) ∙ g .unfailed) .1;
             unrefused = sym (c .refusal-kept) ∙ g .unrefused;
           });
       partial-last =
@@ -111,7 +151,7 @@ pub turned : (p : Plan) (r : Reel) (b : BlockRead) (r' : Reel) → 1 ≤ p .chan
     → BlockWritten (b .samples / p .channels) (b .reel) r' → Turned r r'
 turned p r b r' h w x y =
     let c = x .counted in
-    let t = taken-of p r b h x in
+    let t = count-shows p r b h x in
     let q = y .part in
     let n = b .samples / p .channels in
     record {
@@ -124,10 +164,6 @@ turned p r b r' h w x y =
     }
 
 -- ---- the flush
-
-pub first-true : (a b : Bool) → a && b ≡ true → a ≡ true
-first-true true b e = refl
-first-true false b e = e
 
 pub flush-none : (g : Bool) (w : ℕ) → w ≡ 0 → g && not (eqb w 0) ≡ true → ⊥
 flush-none true w e h = let z : _≡_ {A = ℕ} 0 1 = cc in omega arith
@@ -151,7 +187,7 @@ ending-of r s u f = go (flushes r) refl
         let a = f .done e in
         record {
           flag = a .flushed-is ∙ sym e;
-          still = λ g. first-true (going r) (not (eqb (r .written) 0)) e;
+          still = λ g. both (going r) (not (eqb (r .written) 0)) e .0;
           written-kept = a .written-is;
           input-kept = a .input-kept;
         }
@@ -210,7 +246,7 @@ complete {r} {s} {t} few one c f d =
     let flag : t .flushed ≡ flushes r = o .flushed-kept ∙ x .flag in
     let written : t .written ≡ r .written = o .written-kept ∙ x .written-kept in
     record {
-      flushed-all = λ e. written ∙ l .level (first-true (going r) (not (eqb (r .written) 0)) (sym flag ∙ e)) ∙ sym (input .frames-same);
+      flushed-all = λ e. written ∙ l .level (both (going r) (not (eqb (r .written) 0)) (sym flag ∙ e) .0) ∙ sym (input .frames-same);
       ended-all = λ e. input .ended-same ∙ c .end (x .still (out-still o e));
       written-all = λ e. written ∙ l .level (x .still (out-still o e)) ∙ sym (input .frames-same);
       flushed-is = λ e. let g = x .still (out-still o e) in flag ∙ rw (g, written);

@@ -14,7 +14,7 @@ ghost use Prim.Native.Nat.{_%_};
 ghost use lib.ListN.{length};
 ghost use Rattle.frames.specs.Areas.{areas};
 ghost use Rattle.sonic.specs.Calls.{flushCall};
-ghost use Rattle.reels.specs.Areas.{Usable};
+ghost use Rattle.reels.specs.Areas.{blockSamples, blockBytes, Usable};
 ghost use Rattle.skimming.specs.Skimming.{Turned, Flushed, ReelReady, Complete};
 
 // Reads a block, writes it to the stream, and writes out what that makes.
@@ -30,7 +30,7 @@ fn turn(
     bytes: &mut [u8],
 ) -> Reel
     requires { ⌜ Usable plan × (reel .stream .channels ≡ plan .channels) × (plan .block % plan .channels ≡ 0) × (reel .partial ≡ 0) ⌝ }
-    requires { ⌜ (4096 ≡ length (now block)) × (4096 ≡ length (now values)) × (8192 ≡ length (now bytes)) ⌝ }
+    requires { ⌜ (blockSamples ≡ length (now block)) × (blockSamples ≡ length (now values)) × (blockBytes ≡ length (now bytes)) ⌝ }
     ensures { λ r. ⌜ Turned reel r ⌝ }
 {
     let read = read_block(reel, plan, block, bytes);
@@ -85,7 +85,7 @@ fn run(
     bytes: &mut [u8],
 ) -> Reel
     requires { ⌜ Usable plan × ReelReady plan reel ⌝ }
-    requires { ⌜ (4096 ≡ length (now block)) × (4096 ≡ length (now values)) × (8192 ≡ length (now bytes)) ⌝ }
+    requires { ⌜ (blockSamples ≡ length (now block)) × (blockSamples ≡ length (now values)) × (blockBytes ≡ length (now bytes)) ⌝ }
     ensures { λ r. ⌜ Complete r ⌝ }
 {
     let mut turns = u64::MAX;

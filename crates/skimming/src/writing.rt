@@ -1,4 +1,6 @@
 // A block is written to the stream, in writes that fill its input as far as the plan says.
+use frames::Frames;
+use frames::Samples;
 use reels::areas::BLOCK_SAMPLES;
 use reels::areas::Plan;
 use reels::reel::Reel;
@@ -11,13 +13,17 @@ ghost use Rattle.reels.specs.Areas.{Usable};
 ghost use Rattle.reels.specs.Reels.{Answered};
 ghost use Rattle.skimming.specs.Skimming.{BlockWritten};
 
-// Where a write that begins at `at` ends: it fills the input up to `full` frames, or takes all that is left.
-fn write_end(at: usize, len: usize, held: usize, full: usize, channels: usize) -> usize
-    requires { ⌜ (at < len) × (full ≤ 196608) × (1 ≤ channels) × (channels ≤ 32) × (at % channels ≡ 0) × (len % channels ≡ 0) ⌝ }
-    ensures { λ r. ⌜ (at < r) × (r ≤ len) × (r % channels ≡ 0) ⌝ }
+// Where a write that begins at `at` ends: it fills the input up to the plan's `full` frames, or takes all that is left.
+fn write_end(at: usize, len: usize, held: Frames, plan: Plan) -> usize
+    requires { ⌜ Usable plan × (at < len) × (at % plan .channels ≡ 0) × (len % plan .channels ≡ 0) ⌝ }
+    ensures { λ r. ⌜ (at < r) × (r ≤ len) × (r % plan .channels ≡ 0) ⌝ }
 {
-    let frames = if held < full { full - held } else { 1 };
-    let size = frames * channels;
+    let frames = if held.0 < plan.full {
+        plan.full - held.0
+    } else {
+        1
+    };
+    let size = Frames(frames).samples(plan.channels).0;
     if size < len - at { at + size } else { len }
 }
 
@@ -37,9 +43,9 @@ fn write(
         (areas (now (input .entry)) (now (stage .entry)) (now (output .entry)) (now (scratch .entry))) .answer) r ⌝ }
 {
     let answer = sonic::write_f32(reel.stream, samples, input, stage, output, scratch);
-    let n = samples.len() / channels;
+    let n = Samples(samples.len()).frames(channels);
     let mut after = reel.answered(answer);
-    after.written = std::num::wrapping_add_u64(reel.written, n as u64);
+    after.written = std::num::wrapping_add_u64(reel.written, n.0 as u64);
     after
 }
 
@@ -59,16 +65,14 @@ pub(crate) fn write_block(
     requires { ⌜ (32 ≤ length (now values)) × (2 * length (now values) ≤ length (now bytes)) ⌝ }
     ensures { λ r. ⌜ BlockWritten (length (now (block .entry)) / plan .channels) reel r ⌝ }
 {
-    let channels = plan.channels;
-    let full = plan.full;
-    let few = BLOCK_SAMPLES / channels;
+    let few = Samples(BLOCK_SAMPLES).frames(plan.channels).0;
     let mut at: usize = 0;
     while at < block.len() && reel.is_going() {
-        let end = write_end(at, block.len(), reel.stream.held.0, full, channels);
+        let end = write_end(at, block.len(), reel.stream.held, plan);
         reel = write(
             reel,
             &block[at..end],
-            channels,
+            plan.channels,
             input,
             stage,
             output,

@@ -5,6 +5,8 @@ use mathlib.Core.Logic.{⊎-elim}
 use native.Mathlib.Omega.{arith}
 use borrow.Author.Tests.{not-true, not-false}
 use lib.ListN.{length}
+use Rattle.frames.specs.Areas.{Areas, areas}
+use Rattle.sonic.specs.Calls.{flushCall}
 use Rattle.reels.specs.declared.reel.Reel.{Reel}
 use Rattle.skimming.proofs.Turning.{Level, level-start, level-again, Closed, closed-failed, closed-ended, complete}
 use Rattle.skimming.proofs.run.Statement.{statement}
@@ -97,7 +99,8 @@ returns c =
     (ap (λ (r : Reel). r .stream .channels) (w .1)) (ap (λ (r : Reel). r .flushed) (w .1)) (ap (λ (r : Reel). r .failed) (w .1)))
     (λ w. subst (Closed (start l .args .plan .channels)) (sym (w .1)) (closed-ended (inv .7) (not-false _ (w .0 .left))))
     (j .if3 .came) in
-    complete _ (omega arith) closed (f .flush .ensures) (d .drain .ensures)
+    let lent : Areas = areas (l .loop .input) (l .loop .stage) (l .loop .output) (l .loop .scratch) in
+    complete {answer = flushCall (j .if3 .reel .stream) lent .answer} _ (omega arith) closed (f .flush .ensures) (d .drain .ensures)
 
 -- ---- what search closes
 

@@ -2,20 +2,21 @@
 use mathlib.Core.Path.{refl, sym}
 use lib.IntN.{ℤ, pos}
 use lib.ListN.{length-replicate}
+use Rattle.reels.specs.Areas.{inputArea, stageArea, outputArea, scratchArea}
 use Rattle.skimming.proofs.skim.Statement.{statement}
 use Rattle.skimming.proofs.skim.Tie as tie
 
 slice-aggregate-run : tie.Need-slice-aggregate-run
-slice-aggregate-run c = sym (length-replicate {A = ℤ} 196608 (pos 0))
+slice-aggregate-run c = sym (length-replicate {A = ℤ} inputArea (pos 0))
 
 slice-aggregate-run-2 : tie.Need-slice-aggregate-run-2
-slice-aggregate-run-2 c = sym (length-replicate {A = ℤ} 524288 (pos 0))
+slice-aggregate-run-2 c = sym (length-replicate {A = ℤ} stageArea (pos 0))
 
 slice-aggregate-run-3 : tie.Need-slice-aggregate-run-3
-slice-aggregate-run-3 c = sym (length-replicate {A = ℤ} 524288 (pos 0))
+slice-aggregate-run-3 c = sym (length-replicate {A = ℤ} outputArea (pos 0))
 
 slice-aggregate-run-4 : tie.Need-slice-aggregate-run-4
-slice-aggregate-run-4 c = sym (length-replicate {A = ℤ} 15384 (pos 0))
+slice-aggregate-run-4 c = sym (length-replicate {A = ℤ} scratchArea (pos 0))
 
 slice-aggregate-run-5 : tie.Need-slice-aggregate-run-5
 slice-aggregate-run-5 c = refl

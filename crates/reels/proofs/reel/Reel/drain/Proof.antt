@@ -11,6 +11,23 @@ use Rattle.reels.proofs.Going.{failed-once, out-same, out-trans}
 use Rattle.reels.proofs.reel.Reel.drain.Statement.{statement}
 use Rattle.reels.proofs.reel.Reel.drain.Tie as tie
 
+-- ---- the places: the loop, and a turn of it
+
+module _ {I : tie.InvT-loop} {μ : tie.MeasureT-loop} where
+  abbrev start : tie.At-loop I μ → tie.Start I μ
+  start l = l .before .before .before
+
+  abbrev after-write-out : tie.After-slice-known4 I μ → tie.After-write-out I μ
+  after-write-out c = c .before .before .before .before .before
+
+  abbrev many-wait : tie.After-write-out I μ → tie.Then1 I μ
+  many-wait w = w .before .before .before .before .before .before
+
+  abbrev turn-loop : tie.Then1 I μ → tie.At-loop I μ
+  turn-loop t = t .before .before .before
+
+-- ---- the invariant: the lengths; what is written out; the turns left are as many as the frames that wait, or more
+
 abbrev Inv-loop : tie.InvT-loop
 Inv-loop few output₀ values₀ bytes₀ reel₀ turns₀ output values bytes reel turns =
     (32 ≤ length values) × (2 * length values ≤ length bytes) × (length output ≡ length output₀) × (length values ≡ length values₀)
@@ -22,24 +39,15 @@ abbrev μ-loop : tie.MeasureT-loop
 loop-holds : tie.Need-loop-holds Inv-loop μ-loop
 loop-holds c = (omega arith, omega arith, refl, refl, refl, out-same, λ f z. omega arith)
 
-write-out-requires : tie.Need-write-out-requires Inv-loop μ-loop
-write-out-requires c κs = search needs
-
-sub-turns : tie.Need-sub-turns Inv-loop μ-loop
-sub-turns c = search needs
-
-loop-less : tie.Need-loop-less Inv-loop μ-loop
-loop-less c = search needs
-
 loop-again : tie.Need-loop-again Inv-loop μ-loop
 loop-again c =
-    let w = c .before .before .before .before .before in
-    let l = w .before .before .before .before .before .before .before .before .before in
+    let w = after-write-out c in
+    let m = many-wait w in
+    let l = turn-loop m in
     let inv = l .loop .inv in
     let t = w .write-out .ensures in
-    let start = l .before .before .before in
-    let many = leb-true (start .args .few) (l .loop .reel .stream .waiting .0) (w .before .before .before .before .before .before .if1 .taken) in
-    let some : 0 < l .loop .reel .stream .waiting .0 = omega (arith, start .pre .0, many) in (
+    let many = leb-true (start l .args .few) (l .loop .reel .stream .waiting .0) (m .if1 .taken) in
+    let some : 0 < l .loop .reel .stream .waiting .0 = omega (arith, start l .pre .0, many) in (
       omega (arith, w .write-out .kept .1 .1 .0, inv .0),
       omega (arith, w .write-out .kept .1 .1 .0, w .write-out .kept .1 .1 .1 .0, inv .1),
       omega (arith, w .write-out .kept .1 .0, inv .2),
@@ -48,6 +56,28 @@ loop-again c =
       out-trans (inv .5) (t .out),
       λ f z. omega (arith, inv .6 (t .out .failed-stays f) (t .out .refused-stays z), t .fewer f z some),
     )
+
+returns : tie.Need-returns Inv-loop μ-loop
+returns c = record { out = turn-loop (c .before .before) .loop .inv .5; fewer = λ f z. absurd (failed-once (not-false _ (c .if2 .left)) f) }
+
+returns-2 : tie.Need-returns-2 Inv-loop μ-loop
+returns-2 c =
+    let l = c .before .before .before in
+    record { out = l .loop .inv .5; fewer = λ f z. leb-false (start l .args .few) (l .loop .reel .stream .waiting .0) (c .if1 .left) }
+
+returns-3 : tie.Need-returns-3 Inv-loop μ-loop
+returns-3 c = record { out = c .before .loop .inv .5; fewer = λ f z. omega (arith, c .before .loop .inv .6 f z) }
+
+-- ---- what search closes
+
+write-out-requires : tie.Need-write-out-requires Inv-loop μ-loop
+write-out-requires c κs = search needs
+
+sub-turns : tie.Need-sub-turns Inv-loop μ-loop
+sub-turns c = search needs
+
+loop-less : tie.Need-loop-less Inv-loop μ-loop
+loop-less c = search needs
 
 same-length : tie.Need-same-length Inv-loop μ-loop
 same-length c = search needs
@@ -58,9 +88,6 @@ same-length-2 c = search needs
 same-length-3 : tie.Need-same-length-3 Inv-loop μ-loop
 same-length-3 c = search needs
 
-returns : tie.Need-returns Inv-loop μ-loop
-returns c = record { out = c .before .before .before .before .before .loop .inv .5; fewer = λ f z. absurd (failed-once (not-false _ (c .if2 .left)) f) }
-
 same-length-4 : tie.Need-same-length-4 Inv-loop μ-loop
 same-length-4 c = search needs
 
@@ -70,11 +97,6 @@ same-length-5 c = search needs
 same-length-6 : tie.Need-same-length-6 Inv-loop μ-loop
 same-length-6 c = search needs
 
-returns-2 : tie.Need-returns-2 Inv-loop μ-loop
-returns-2 c =
-    let l = c .before .before .before in
-    record { out = l .loop .inv .5; fewer = λ f z. leb-false (l .before .before .before .args .few) (l .loop .reel .stream .waiting .0) (c .if1 .left) }
-
 same-length-7 : tie.Need-same-length-7 Inv-loop μ-loop
 same-length-7 c = search needs
 
@@ -83,9 +105,6 @@ same-length-8 c = search needs
 
 same-length-9 : tie.Need-same-length-9 Inv-loop μ-loop
 same-length-9 c = search needs
-
-returns-3 : tie.Need-returns-3 Inv-loop μ-loop
-returns-3 c = record { out = c .before .loop .inv .5; fewer = λ f z. omega (arith, c .before .loop .inv .6 f z) }
 
 pub drain-spec : {M : Type 1} → statement M
 drain-spec =
