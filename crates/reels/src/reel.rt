@@ -6,6 +6,7 @@ use sonic::Gave;
 use sonic::Outcome;
 use sonic::Wrote;
 use stream::SonicStream;
+use stream::refusals;
 ghost use mathlib.Core.Path.{_≡_};
 ghost use Prim.Native.Nat.{_-_, _*_, _≤_};
 ghost use lib.ListN.{length};
@@ -74,7 +75,7 @@ impl Reel {
             partial: 0,
             stalled: false,
             stalled_at: 0,
-            refusal: 0,
+            refusal: refusals::ACCEPTED,
             failed: false,
             ended: false,
             flushed: false,
@@ -91,7 +92,7 @@ impl Reel {
         if self.failed {
             return false;
         }
-        self.refusal == 0
+        self.refusal == refusals::ACCEPTED
     }
 
     // After a write or a flush with this answer.

@@ -66,7 +66,7 @@ fn run(job: Job) -> u64 {
                 }
                 Service::Planned(plan) => {
                     let reel = skimming::skim(Reel::new(stream), plan);
-                    report::run(reel, plan.rate)
+                    report::run(reel, plan)
                 }
             }
         }

@@ -1,29 +1,32 @@
 // What became of a run, on standard error.
+use reels::areas::Plan;
 use reels::progress;
 use reels::reel::Reel;
 use reels::say;
+use stream::refusals;
 ghost use mathlib.Core.Path.{_≡_};
-ghost use Prim.Native.Nat.{_≤_};
+ghost use Rattle.period.specs.Rates.{InLimits};
 ghost use Rattle.skim.specs.Report.{statusOf};
 
 // A refusal's number, and what it means.
 pub(crate) fn refused(number: u32) {
     say::number(b"skim: refused with number ", number as u64);
     match number {
-        1 => say::text(b": the rate is out of range\n"),
-        2 => say::text(b": the channels are out of range\n"),
-        3 => say::text(b": the stream is not in order\n"),
-        4 => say::text(b": an area is too short for what the stream holds\n"),
-        5 => say::text(b": the input area is full\n"),
-        6 => say::text(b": the stage area is full\n"),
+        refusals::BAD_RATE => say::text(b": the rate is out of range\n"),
+        refusals::BAD_CHANNELS => say::text(b": the channels are out of range\n"),
+        refusals::BAD_STREAM => say::text(b": the stream is not in order\n"),
+        refusals::BAD_AREAS => say::text(b": an area is too short for what the stream holds\n"),
+        refusals::INPUT_FULL => say::text(b": the input area is full\n"),
+        refusals::STAGE_FULL => say::text(b": the stage area is full\n"),
         _ => say::text(b": the output area is full\n"),
     }
 }
 
 // A frame, and its time in seconds.
-fn say_place(frame: u64, rate: u64)
-    requires { ⌜ (1000 ≤ rate) × (rate ≤ 500000) ⌝ }
+fn say_place(frame: u64, plan: Plan)
+    requires { ⌜ InLimits (plan .rate) (plan .channels) ⌝ }
 {
+    let rate = plan.rate;
     let thousandths = frame % rate * 1000 / rate;
     say::number(b" frame ", frame);
     say::number(b" (", frame / rate);
@@ -45,19 +48,19 @@ fn say_partial(bytes: u64) {
 }
 
 // Where a write or the flush stalled.
-fn say_stall(reel: Reel, rate: u64)
-    requires { ⌜ (1000 ≤ rate) × (rate ≤ 500000) ⌝ }
+fn say_stall(reel: Reel, plan: Plan)
+    requires { ⌜ InLimits (plan .rate) (plan .channels) ⌝ }
 {
     let after = std::num::wrapping_sub_u64(reel.frames_in, reel.stalled_at);
     if reel.flushed {
         say::text(b"skim: the flush stalled at or after");
-        say_place(reel.stalled_at, rate);
+        say_place(reel.stalled_at, plan);
         say::number(b": of the last ", after);
         say::text(b" frames not all came out\n");
         return;
     }
     say::text(b"skim: stalled at");
-    say_place(reel.stalled_at, rate);
+    say_place(reel.stalled_at, plan);
     say::text(
         b": the pitch period there gives no frame, and nothing after it can be skimmed at this speed\n",
     );
@@ -85,7 +88,7 @@ fn status(reel: Reel) -> u64
     if reel.failed {
         return 1;
     }
-    if reel.refusal != 0 {
+    if reel.refusal != refusals::ACCEPTED {
         return 1;
     }
     if reel.stalled && !reel.flushed { 1 } else { 0 }
@@ -106,16 +109,16 @@ fn say_summary(reel: Reel, status: u64) {
 }
 
 // Tells what became of a run, and answers the status.
-pub(crate) fn run(reel: Reel, rate: u64) -> u64
-    requires { ⌜ (1000 ≤ rate) × (rate ≤ 500000) ⌝ }
+pub(crate) fn run(reel: Reel, plan: Plan) -> u64
+    requires { ⌜ InLimits (plan .rate) (plan .channels) ⌝ }
     ensures { λ r. ⌜ r ≡ statusOf reel ⌝ }
 {
-    progress::end(rate, reel.frames_in);
+    progress::end(plan, reel.frames_in);
     say_partial(reel.partial as u64);
     if reel.stalled {
-        say_stall(reel, rate);
+        say_stall(reel, plan);
     }
-    if reel.refusal != 0 {
+    if reel.refusal != refusals::ACCEPTED {
         refused(reel.refusal);
     }
     let status = status(reel);

@@ -65,9 +65,7 @@ skim-requires c κs =
     (usable k, subst (ReelReady (k .plan .given .0 .0)) (sym (c .new2 .ensures)) fresh)
 
 run-requires : tie.Need-run-requires
-run-requires c κs =
-    let u = usable (c .before .before .before) in
-    (u .rate-low, u .rate-high)
+run-requires c κs = usable (c .before .before .before) .limits
 
 returns : tie.Need-returns
 returns c = search needs

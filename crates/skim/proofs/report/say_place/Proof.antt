@@ -9,7 +9,9 @@ rem-thousandths : tie.Need-rem-thousandths
 rem-thousandths c = search needs
 
 mul-thousandths : tie.Need-mul-thousandths
-mul-thousandths c = record { fits = omega (arith, mod-lt (c .args .frame) {m = c .args .rate} (omega arith)) }
+mul-thousandths c =
+    let l = c .pre in
+    record { fits = omega (arith, mod-lt (c .args .frame) {m = c .args .plan .rate} (omega (arith, l .rate-low)), l .rate-high) }
 
 div-thousandths : tie.Need-div-thousandths
 div-thousandths c = search needs
