@@ -24,14 +24,12 @@ skim: program
 	echo "the reel crates/skim/stdin is skimmed to target/reel.pcm (8,000 Hz, mono, 16-bit little-endian PCM)"
 	echo "to skim your own: tools/skim.sh < in.pcm > out.pcm; tools/skim.sh --help tells more"
 
-# Layout; then every proof, must-fail edit and program from nothing, and beside them, at low priority, the other wrong programs; then the
-# comparisons. The last line is that of `rt ci`. target/ goes first, so that no stamp of an earlier run is read beside `rt ci`.
+# Layout; then every proof, must-fail edit and program from nothing; then the other wrong programs, and the comparisons. The last line
+# is that of `rt ci`.
 test:
 	rt fmt --check
-	rm -rf target
-	log=$$(mktemp); nice -n 19 tools/refusals.py --beside & refusals=$$!; \
-	trap 'kill $$refusals 2> /dev/null; rm -f "$$log"' EXIT; \
-	{ $(call told,rt ci,"$$log"); } && wait $$refusals && \
+	log=$$(mktemp); trap 'rm -f "$$log"' EXIT; \
+	{ $(call told,rt ci,"$$log"); } && tools/refusals.py && \
 	$(MAKE) --no-print-directory compare && tail -n 1 "$$log"
 
 compare: target/tests/floats target/tests/narrowing target/tests/header differential rust tool
