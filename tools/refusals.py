@@ -1,7 +1,7 @@
 #!/usr/bin/env python3
 """Wrong programs that the prover must refuse, beside those of crates/NAME/must-fail, which `rt ci` tries.
 
-    tools/refusals.py [--beside] [--long] [--must-fail] [--from-nothing] [NAME...]
+    tools/refusals.py [--long] [--must-fail] [--from-nothing] [NAME...]
 
 Each edit of crates/NAME/refused (a wrong program) and of crates/NAME/refused-definitions (a wrong definition, which the
 right program does not meet) is made in a copy of its crate, which `rt dev` must refuse. NAME...: only these crates.
@@ -11,8 +11,6 @@ copy's incremental folder, and only what the edit reaches is checked again. The 
 folder first. An edit fails if it is not refused, if a text of it does not stand exactly once in its file, if it does
 not reach the prover, or if what is refused first is no fact but a proof that does not fit the edited code (SHAPE).
 
-    --beside        `rt ci` is running: a crate's edits begin once the crate is proved. target/ must be gone before both
-                    are started, as in `make test`, so that each stamp in it is of this run. SIGTERM ends it.
     --long          the edits of refused-long/ too.
     --must-fail     the edits of must-fail/ too.
     --from-nothing  over empty folders, as `rt must-fail` has it.
@@ -41,7 +39,7 @@ FOLDERS = {
     "must-fail": (PROGRAM, ""),
 }
 OPTIONAL = {"refused-long": "--long", "must-fail": "--must-fail"}
-FLAGS = {"--beside", "--from-nothing", *OPTIONAL.values()}
+FLAGS = {"--from-nothing", *OPTIONAL.values()}
 
 # What `rt` and the prover write: a stamp; a refusal in a proof, and one where the prover makes the proof itself; one
 # that only follows from another; those of a proof that does not fit the code.
@@ -264,23 +262,19 @@ def place_of(refusal, lines):
     return f"`{fact}` of {os.path.basename(folder)}" if file == "Proof.antt" else f"`{fact}` in {file}"
 
 
-def as_proved(crates, beside):
-    """The crates, each as soon as it is proved, its libraries copied."""
-    waiting = list(crates)
-    while waiting:
-        ready = [crate for crate in waiting if crate.is_proved()]
-        if not ready and not beside:
-            raise Wrong("not proved, so run `rt check` first: " + " ".join(crate.name for crate in waiting))
-        for crate in ready:
-            waiting.remove(crate)
-            for library in crate.libraries:
-                keep(library)
-            yield crate
-        time.sleep(0.2)
+def lay_out(crates):
+    """Copies the libraries that the crates use, which have to be proved."""
+    unproved = [crate.name for crate in crates if not crate.is_proved()]
+    if unproved:
+        raise Wrong("not proved, so run `rt check` first: " + " ".join(unproved))
+    for crate in crates:
+        for library in crate.libraries:
+            keep(library)
 
 
 def try_all(crates, flags):
     """Tries every edit. Answers each with whether it is refused as it must be."""
+    lay_out(crates)
     folder = None if "--from-nothing" in flags else modules_folder()
 
     def begin(crate):
@@ -290,7 +284,7 @@ def try_all(crates, flags):
 
     with ThreadPoolExecutor(int(os.environ.get("RT_JOBS") or min(4, os.cpu_count()))) as pool:
         try:
-            begun = [pool.submit(begin, crate) for crate in as_proved(crates, "--beside" in flags)]
+            begun = [pool.submit(begin, crate) for crate in crates]
             return [(edit, trial.result()) for trials in begun for edit, trial in trials.result()]
         except BaseException:
             pool.shutdown(wait=False, cancel_futures=True)
@@ -307,8 +301,7 @@ def main():
     if not flags <= FLAGS or not set(names) <= set(deps):
         sys.exit(__doc__)
     signal.signal(signal.SIGTERM, lambda *_: sys.exit("refusals: stopped"))
-    if "--beside" not in flags:
-        shutil.rmtree(ROOM, ignore_errors=True)
+    shutil.rmtree(ROOM, ignore_errors=True)
     crates = [crate for crate in (Crate(name, deps, flags) for name in names or deps) if crate.edits]
     try:
         results = try_all(crates, flags)
