@@ -18,7 +18,7 @@ use Rattle.rate.specs.Conversion.{convert}
 use Rattle.period.specs.Rates.{minPeriod, maxPeriod, maxRequired, skip}
 use Rattle.period.specs.Search.{diffs, lesser, greater, sweep, findPitchPeriodInRange}
 use Rattle.period.specs.Averages.{sumFrom, meanFrom}
-use Rattle.stretch.specs.Crossfade.{crossfadeSample}
+use Rattle.crossfade.specs.Crossfade.{crossfadeSample}
 
 -- the frames that a tail of k frames makes at 8,000 Hz and pitch 0.5, from positions at 0
 unfoldable madeOf : ℕ → ℕ

@@ -14,7 +14,7 @@ ghost use Rattle.period.specs.Averages.{downSampleInput, Averageable};
 ghost use Rattle.period.specs.Search.{findPitchPeriodInRange, longestPeriod, Searchable};
 ghost use Rattle.sinc.specs.Sinc.{interpolateFrame};
 ghost use Rattle.sinc.specs.SincTable.{sincTable};
-ghost use Rattle.stretch.specs.Crossfade.{overlapAdd};
+ghost use Rattle.crossfade.specs.Crossfade.{overlapAdd};
 ghost use Rattle.volume.specs.Volume.{scaled};
 
 // A search's answer.
@@ -104,7 +104,7 @@ pub extern "C" fn kernel_overlap_add(
     ensures { λ _. ⌜ now (stage .exit) ≡ paste (now (stage .entry)) 0
         (overlapAdd k channels (drop down (now (input .entry))) (drop up (now (input .entry)))) (k * channels) ⌝ }
 {
-    stretch::overlap_add(
+    crossfade::overlap_add(
         Frames(k),
         channels,
         input,

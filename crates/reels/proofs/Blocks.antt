@@ -13,7 +13,7 @@ use native.Mathlib.Nat.{div-add-mod', div-mul-le-self, mod-add-mod, mul-add-div-
 use native.Mathlib.Omega.{arith}
 use lib.Ieee.{Float}
 use lib.ListN.{length, take, drop, length-take, length-drop}
-use Rattle.reels.specs.Areas.{blockSamples}
+use Rattle.plans.specs.Plans.{blockSamples}
 
 twice : (n ch : ℕ) → n * (2 * ch) ≡ 2 * (n * ch)
 twice n ch = ap (λ (k : ℕ). n * k) (mul-comm 2 ch) ∙ sym (mul-assoc n ch 2) ∙ mul-comm (n * ch) 2

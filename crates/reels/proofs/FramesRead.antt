@@ -17,10 +17,10 @@ use Rattle.stream.specs.declared.SonicStream.{SonicStream}
 use Rattle.stream.specs.Stream.{stateOf, streamOf, unlent}
 use Rattle.stream.specs.Refusals.{inOrder, readRefusal}
 use Rattle.stream.proofs.InOrder.{limits-of}
-use Rattle.sonic.specs.declared.Gave.{Gave}
-use Rattle.sonic.specs.Reading.{readCount, readBy, readCall}
-use Rattle.sonic.proofs.Room.{read-ordered}
-use Rattle.reels.specs.Areas.{blockSamples}
+use Rattle.read.specs.declared.Gave.{Gave}
+use Rattle.read.specs.Reading.{readCount, readBy, readCall}
+use Rattle.stream.proofs.Passing.{read-ordered}
+use Rattle.plans.specs.Plans.{blockSamples}
 
 -- n frames were given, and the stream t is left
 pub record Given (s : SonicStream) (slice : List Float) (n : Frames) (t : SonicStream) : Type 0 where

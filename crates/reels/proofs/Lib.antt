@@ -1,4 +1,3 @@
 pub mod Blocks
 mod FramesRead
 pub mod Going
-pub mod Plans

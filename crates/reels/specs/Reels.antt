@@ -12,10 +12,10 @@ use Rattle.process.specs.declared.Outcome.{Outcome}
 use Rattle.process.specs.declared.Outcome.the-variants.{Empty, Copied, Waiting, Stretched, Stalled}
 use Rattle.stream.specs.declared.SonicStream.{SonicStream}
 use Rattle.sonic.specs.declared.Wrote.{Wrote}
-use Rattle.sonic.specs.declared.Gave.{Gave}
+use Rattle.read.specs.declared.Gave.{Gave}
 use Rattle.sonic.specs.Calls.{streamAfter}
-use Rattle.sonic.specs.Reading.{streamAfterRead}
-use Rattle.reels.specs.declared.areas.Plan.{Plan}
+use Rattle.read.specs.Reading.{streamAfterRead}
+use Rattle.plans.specs.declared.Plan.{Plan}
 use Rattle.reels.specs.declared.reading.BlockBytes.{BlockBytes}
 use Rattle.reels.specs.declared.reading.BlockRead.{BlockRead}
 use Rattle.reels.specs.declared.reel.Reel.{Reel}

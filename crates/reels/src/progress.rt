@@ -1,7 +1,7 @@
 // How far a run is, on a terminal.
-use crate::areas::Plan;
 use crate::say;
 use libc::STDERR_FILENO;
+use plans::Plan;
 ghost use mathlib.Core.Path.{_≡_};
 ghost use Prim.Native.Nat.{_*_, _/_, _≤_};
 ghost use Rattle.period.specs.Rates.{InLimits};

@@ -1,14 +1,14 @@
 // Blocks of the input.
-use crate::areas::Plan;
 use crate::progress;
 use crate::reel::Reel;
 use frames::Frames;
 use libc::STDIN_FILENO;
+use plans::Plan;
 ghost use mathlib.Core.Path.{_≡_};
 ghost use Prim.Native.Nat.{_≤_};
 ghost use lib.ListN.{length};
 ghost use Rattle.pcm.specs.Pcm.{Decoded};
-ghost use Rattle.reels.specs.Areas.{blockSamples, blockBytes, Usable};
+ghost use Rattle.plans.specs.Plans.{blockSamples, blockBytes, Usable};
 ghost use Rattle.reels.specs.Reels.{BlockCounted, BlockReadAs};
 
 // What a block was filled with, and whether a read failed.

@@ -1,7 +1,7 @@
 // A run: its stream, with what is told of it at the end.
-use crate::areas::BLOCK_SAMPLES;
 use frames::Frames;
 use libc::STDOUT_FILENO;
+use plans::BLOCK_SAMPLES;
 use sonic::Gave;
 use sonic::Outcome;
 use sonic::Wrote;
@@ -11,8 +11,8 @@ ghost use mathlib.Core.Path.{_≡_};
 ghost use Prim.Native.Nat.{_-_, _*_, _≤_};
 ghost use lib.ListN.{length};
 ghost use Rattle.pcm.specs.Pcm.{Encoded};
-ghost use Rattle.sonic.specs.Reading.{readCall};
-ghost use Rattle.reels.specs.Areas.{blockSamples};
+ghost use Rattle.read.specs.Reading.{readCall};
+ghost use Rattle.plans.specs.Plans.{blockSamples};
 ghost use Rattle.reels.specs.Reels.{going, isStalled, freshReel, Answered, FewerWait, Drained};
 
 pub struct Reel {

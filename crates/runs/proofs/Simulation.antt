@@ -16,8 +16,8 @@ use Rattle.stream.specs.Refusals.{badRate, badChannels, rateBad, channelsBad, i
 use Rattle.stream.specs.Settings.{fresh, openCall, setCall}
 use Rattle.process.specs.Process.{Made, wholeFrames, writeWork, flushWork, expected, cleared}
 use Rattle.sonic.specs.Calls.{writeCall, flushCall, CallEnsures}
-use Rattle.sonic.specs.Reading.{readCount, readCall, ReadEnsures}
-use Rattle.sonic.proofs.Room.{read-room}
+use Rattle.read.specs.Reading.{readCount, readCall, ReadEnsures}
+use Rattle.stream.proofs.Passing.{read-room}
 use Rattle.runs.specs.Ledger.{write, flush, Ledger, begun, posted, ledgerFrom, ledger}
 use Rattle.runs.specs.Run.{Event, setting-went, write-went, flush-went, read-went, Moment, opening, Allowed, after, Run, end, values, total, fed}
 use Rattle.runs.proofs.Tracking.{Tracks, call-tracks}

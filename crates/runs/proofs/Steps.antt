@@ -19,8 +19,8 @@ use Rattle.stream.specs.State.{State, withSettings}
 use Rattle.stream.specs.Stream.{stateOf, streamOf, unlent}
 use Rattle.stream.specs.Refusals.{badStream}
 use Rattle.stream.specs.Settings.{withSetting}
-use Rattle.sonic.specs.declared.Gave.{Gave}
-use Rattle.sonic.specs.Reading.{readBy, ReadEnsures}
+use Rattle.read.specs.declared.Gave.{Gave}
+use Rattle.read.specs.Reading.{readBy, ReadEnsures}
 use Rattle.runs.specs.Ledger.{setting, read, Ledger, entry, posted}
 use Rattle.runs.specs.Run.{ReadAreas, Moment, Agree, leave, afterSetting, afterRead, values, settingAccepted, readAccepted}
 use Rattle.runs.proofs.KeptParts.{frames-shown, frames-kept, frames-left, length-left}

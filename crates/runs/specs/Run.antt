@@ -17,9 +17,9 @@ use Rattle.stream.specs.declared.Changed.{Changed}
 use Rattle.stream.specs.Settings.{setCall}
 use Rattle.process.specs.declared.Outcome.{Outcome}
 use Rattle.sonic.specs.declared.Wrote.{Wrote}
-use Rattle.sonic.specs.declared.Gave.{Gave}
+use Rattle.read.specs.declared.Gave.{Gave}
 use Rattle.sonic.specs.Calls.{writeCall, flushCall, CallEnsures, streamAfter}
-use Rattle.sonic.specs.Reading.{readCall, ReadEnsures, streamAfterRead, countRead}
+use Rattle.read.specs.Reading.{readCall, ReadEnsures, streamAfterRead, countRead}
 use Rattle.runs.specs.Ledger.{setting, write, flush, read, Fed}
 
 -- ---- calls as they went

@@ -1,5 +1,5 @@
 // What became of a run, on standard error.
-use reels::areas::Plan;
+use plans::Plan;
 use reels::progress;
 use reels::reel::Reel;
 use reels::say;

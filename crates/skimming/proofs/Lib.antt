@@ -1,3 +1,2 @@
 pub mod Starting
-mod StreamAfter
 mod Turning

@@ -5,9 +5,9 @@ use Prim.Native.Nat.{ℕ, _/_}
 use native.Mathlib.Nat.{mul-mod-left}
 use native.Mathlib.Omega.{arith}
 use Rattle.stream.specs.declared.SonicStream.{SonicStream}
-use Rattle.reels.specs.declared.areas.Plan.{Plan}
-use Rattle.reels.specs.declared.areas.Service.{Service}
-use Rattle.reels.specs.Areas.{blockSamples, served, planOf, serviceOf}
+use Rattle.plans.specs.declared.Plan.{Plan}
+use Rattle.plans.specs.declared.Service.{Service}
+use Rattle.plans.specs.Plans.{blockSamples, served, planOf, serviceOf}
 use Rattle.reels.specs.Reels.{freshReel}
 use Rattle.skimming.specs.Skimming.{ReelReady}
 

@@ -1,35 +1,19 @@
 -- What a whole run promises: no frame is lost unseen. In this order:
 --   flushes                            what a run is asked
---   PartWritten, BlockWritten          after some writes of a block, after all of them
 --   Turned, Flushed, ReelReady, Complete   after a block read and written; after the flush; before and after a whole run
 -- Definitions only. Assumes nothing.
 use mathlib.Core.Path.{_≡_}
 use mathlib.Core.Bool.{Bool, true, false, not, _&&_}
-use Prim.Native.Nat.{ℕ, _+_, _%_, _^_}
+use Prim.Native.Nat.{_%_}
 use lib.Dec.{eqb}
 use Rattle.sonic.specs.declared.Wrote.{Wrote}
-use Rattle.reels.specs.declared.areas.Plan.{Plan}
+use Rattle.plans.specs.declared.Plan.{Plan}
 use Rattle.reels.specs.declared.reel.Reel.{Reel}
-use Rattle.reels.specs.Reels.{going, SameInput, Answered}
+use Rattle.reels.specs.Reels.{going, Answered}
 
 -- frames were written, and nothing has stopped the stretching
 abbrev pub flushes : Reel → Bool
 flushes r = going r && not (eqb (r .written) 0)
-
--- ---- the writes of a block
-
--- after writes of n frames of a block: a run still going has written them all
-pub record PartWritten (n : ℕ) (r r' : Reel) : Type 0 where
-  pub still : going r' ≡ true → going r ≡ true
-  pub written-is : going r' ≡ true → r' .written ≡ (r .written + n) % 2 ^ 64
-  pub input-kept : SameInput r r'
-  pub flushed-kept : r' .flushed ≡ r .flushed
-  pub channels-kept : r' .stream .channels ≡ r .stream .channels
-
--- after the writes of a block of n frames: what they made was written out
-pub record BlockWritten (n : ℕ) (r r' : Reel) : Type 0 where
-  pub part : PartWritten n r r'
-  pub none-waits : r' .failed ≡ false → r' .refusal ≡ 0 → r' .stream .waiting .0 ≡ 0
 
 -- ---- a whole run
 

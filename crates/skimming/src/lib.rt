@@ -1,20 +1,17 @@
 // A whole reel through the stream: blocks are read and written to it, and it is flushed at the end. After a stall or a refusal the input is
-// only counted. `writing` writes a block. `specs/Skimming.antt` says what is promised.
-mod writing;
-
-use reels::areas;
-use reels::areas::BLOCK_BYTES;
-use reels::areas::BLOCK_SAMPLES;
-use reels::areas::Plan;
+// only counted. `specs/Skimming.antt` says what is promised.
+use blocks::write_block;
+use plans::BLOCK_BYTES;
+use plans::BLOCK_SAMPLES;
+use plans::Plan;
 use reels::reading::read_block;
 use reels::reel::Reel;
-use writing::write_block;
 ghost use mathlib.Core.Path.{_≡_};
 ghost use Prim.Native.Nat.{_%_};
 ghost use lib.ListN.{length};
 ghost use Rattle.frames.specs.Areas.{areas};
 ghost use Rattle.sonic.specs.Calls.{flushCall};
-ghost use Rattle.reels.specs.Areas.{blockSamples, blockBytes, Usable};
+ghost use Rattle.plans.specs.Plans.{blockSamples, blockBytes, Usable};
 ghost use Rattle.skimming.specs.Skimming.{Turned, Flushed, ReelReady, Complete};
 
 // Reads a block, writes it to the stream, and writes out what that makes.
@@ -115,10 +112,10 @@ pub fn skim(reel: Reel, plan: Plan) -> Reel
     requires { ⌜ Usable plan × ReelReady plan reel ⌝ }
     ensures { λ r. ⌜ Complete r ⌝ }
 {
-    let mut input = [0i16; areas::INPUT_AREA];
-    let mut stage = [0i16; areas::STAGE_AREA];
-    let mut output = [0i16; areas::OUTPUT_AREA];
-    let mut scratch = [0i16; areas::SCRATCH_AREA];
+    let mut input = [0i16; plans::INPUT_AREA];
+    let mut stage = [0i16; plans::STAGE_AREA];
+    let mut output = [0i16; plans::OUTPUT_AREA];
+    let mut scratch = [0i16; plans::SCRATCH_AREA];
     let mut block = [0f32; BLOCK_SAMPLES];
     let mut values = [0f32; BLOCK_SAMPLES];
     let mut bytes = [0u8; BLOCK_BYTES];

@@ -1,7 +1,5 @@
 pub mod Room
 pub mod Stalls
-pub mod Stays
-mod Giving
 mod Answers
 mod Joining
 mod Adding

@@ -1,26 +1,16 @@
--- What a write, a flush or a read says of its stream and its areas when it was accepted. For the crates above. Assumes nothing.
-use mathlib.Core.Path.{_≡_, refl}
-use mathlib.Core.Bool.{Bool, true, false, not, cond, true≢false}
-use mathlib.Core.List.{List}
+-- What a write or a flush says of its stream and its areas when it was accepted. For the crates above. Assumes nothing.
+use mathlib.Core.Path.{_≡_}
+use mathlib.Core.Bool.{not}
 use Prim.Native.Nat.{ℕ, _+_, _*_, _≤_}
 use native.Mathlib.Omega.{arith}
 use borrow.Author.Tests.{ltb-false}
-use lib.IntN.{ℤ}
 use lib.ListN.{length}
 use Rattle.frames.specs.Areas.{Areas}
 use Rattle.stream.specs.declared.SonicStream.{SonicStream}
-use Rattle.stream.specs.Refusals.{accepted, badStream, badAreas, inputFull, stageFull, outputFull, inOrder, tooShort, areasBad, outputBad, refusal, readRefusal}
-use Rattle.stream.proofs.AreaTests.{areas-of, output-of}
+use Rattle.stream.specs.Refusals.{accepted, badStream, badAreas, inputFull, stageFull, outputFull, inOrder, tooShort, areasBad, refusal}
+use Rattle.stream.proofs.AreaTests.{areas-of}
+use Rattle.stream.proofs.Passing.{passed, in-order-passed}
 use Rattle.sonic.specs.Adding.{Accepted}
-
--- a test in a chain that ends at 0 was not met
-passed : (b : Bool) (number rest : ℕ) → 1 ≤ number → cond b number rest ≡ accepted → (b ≡ false) × (rest ≡ accepted)
-passed true number rest h e = absurd (omega arith)
-passed false number rest h e = (refl, e)
-
-in-order-passed : (b : Bool) → not b ≡ false → b ≡ true
-in-order-passed true e = refl
-in-order-passed false e = absurd (true≢false e)
 
 -- the facts behind an accepted write or flush that adds, stages and makes so many frames
 pub record Room (s : SonicStream) (a : Areas) (added staged made : ℕ) : Type 0 where
@@ -53,14 +43,3 @@ room-of s a added staged made e =
       stage = ltb-false (length (a .stage)) ((s .tail .0 + staged) * ch) (stage .0);
       output = ltb-false (length (a .output)) ((s .waiting .0 + made) * ch) (output .0);
     }
-
--- of an accepted read
-pub read-ordered : (s : SonicStream) (output : List ℤ) → readRefusal s output ≡ accepted → inOrder s ≡ true
-unfolding readRefusal
-read-ordered s output e = in-order-passed (inOrder s) (passed (not (inOrder s)) badStream _ (omega arith) e .0)
-
-pub read-room : (s : SonicStream) (output : List ℤ) → readRefusal s output ≡ accepted → s .waiting .0 * s .channels ≤ length output
-unfolding readRefusal
-read-room s output e =
-    let in-order = passed (not (inOrder s)) badStream _ (omega arith) e in
-    output-of s output (passed (outputBad s output) badAreas accepted (omega arith) (in-order .1) .0) .0

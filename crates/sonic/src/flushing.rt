@@ -1,12 +1,12 @@
 // The flush: a write of silence, of which only the frames expected are kept; then everything held is cleared.
 use crate::Wrote;
-use crate::areas::areas_bad;
-use crate::areas::input_full;
 use crate::write::process_added;
 use frames::Frames;
 use process::Work;
 use stream::Order;
 use stream::SonicStream;
+use stream::areas::areas_bad;
+use stream::areas::input_full;
 use stream::refusals;
 ghost use mathlib.Core.Path.{_≡_};
 ghost use Prim.Native.Nat.{_+_, _-_, _*_, _≤_, min};

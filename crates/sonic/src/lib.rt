@@ -1,14 +1,12 @@
-// The Sonic speech stretcher over lent areas: write, read and flush of a stream. `specs/Calls.antt` and
-// `specs/Reading.antt` say what each call answers. The stream itself, with `new`, `set` and `available_frames`, is
-// that of `stream`.
-mod areas;
+// The Sonic speech stretcher over lent areas: write, read and flush of a stream. `specs/Calls.antt` says what a write and
+// a flush answer. The stream itself, with `new`, `set` and `available_frames`, is that of `stream`, and the read that of
+// `read`.
 mod flushing;
-mod read;
 mod write;
 
 pub use flushing::flush;
-use frames::Frames;
 pub use process::Outcome;
+pub use read::Gave;
 pub use read::read_f32;
 pub use stream::Available;
 pub use stream::Changed;
@@ -22,10 +20,4 @@ pub use write::write_f32;
 pub enum Wrote {
     Refused(u32, SonicStream),
     Done(Outcome, SonicStream),
-}
-
-// A read's answer: the frames given.
-pub enum Gave {
-    Refused(u32, SonicStream),
-    Done(Frames, SonicStream),
 }

@@ -1,12 +1,12 @@
 // The write: refusals 3 to 5 by the stream and the areas' lengths, 6 and 7 by the work itself.
 use crate::Wrote;
-use crate::areas::areas_bad;
-use crate::areas::input_full;
 use frames::Frames;
 use frames::Samples;
 use process::Work;
 use stream::Order;
 use stream::SonicStream;
+use stream::areas::areas_bad;
+use stream::areas::input_full;
 use stream::refusals;
 ghost use mathlib.Core.Path.{_≡_};
 ghost use Prim.Native.Nat.{_/_};

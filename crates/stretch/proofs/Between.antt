@@ -18,7 +18,7 @@ use Rattle.stretch.specs.declared.Step.{Step}
 use Rattle.stretch.specs.declared.Turn.the-variants.{NoRoom, Went}
 use Rattle.stretch.specs.Steps.{nextStep, framesOut, stalls, samplesOut, prevAfter, placeAfter, after, turnFor, stageFor, StretchReady, Sound}
 use Rattle.stretch.specs.Speed.{steps, framesMade, samplesOf, lastPlace, stalled}
-use Rattle.stretch.proofs.Pasting.{paste-append}
+use Rattle.frames.proofs.Pasted.{paste-append}
 use Rattle.stretch.proofs.Soundness.{nextStep-sound, samplesOut-length, sound-in}
 use Rattle.stretch.proofs.Progress.{next, further, steps-on, steps-end}
 use Rattle.stretch.proofs.Turning.{Gone, gone, no-room, stage-written, stage-left}

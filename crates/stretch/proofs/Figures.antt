@@ -1,13 +1,10 @@
--- Figures of document 01 and small cases that the stretch's definitions give, computed. Assumes nothing.
+-- Figures of document 01 that the definitions of the stretch steps give, computed. Assumes nothing.
 use mathlib.Core.Path.{_≡_, refl}
 use mathlib.Core.Bool.{true, false}
-use mathlib.Core.List.{List, [], _∷_}
-use lib.IntN.{ℤ, pos, negsuc}
+use lib.IntN.{pos, negsuc}
 use lib.Ieee.{fin, ofInt, toUnsigned, round, neg, sum, add, sub, mul, div, lt, le, eq}
 use Rattle.floats.specs.Steps.{skipCount, insertCount}
 use Rattle.stretch.specs.declared.Step.the-variants.{Skipped, Inserted}
-use Rattle.stretch.specs.Crossfade.{crossfadeSample, crossfadeFrame, crossfadeTo, overlapAdd}
-use Rattle.stretch.specs.Crossfade.{copyUnmodifiedSamples, skipPitchPeriod, insertPitchPeriod}
 use Rattle.stretch.specs.Steps.{periodStep, stalls}
 
 -- period 20: s = 21 gives 1 frame, s = 22 stalls, s = 0.25 inserts 6
@@ -16,16 +13,3 @@ pub period-steps : (periodStep (fin false 21 (pos 0)) (record { 0 = 20 }) ≡ Sk
     × (periodStep (fin false 1 (negsuc 1)) (record { 0 = 20 }) ≡ Inserted (record { 0 = 20 }) (record { 0 = 6 }))
 unfolding skipCount insertCount ofInt toUnsigned round neg sum add sub mul div lt le eq
 period-steps = (refl, refl, refl)
-
--- two frames of two channels: frame 0 is that of the first, frame 1 is halfway
-pub two-channels : overlapAdd 2 2 (pos 0 ∷ pos 10 ∷ negsuc 9 ∷ pos 20 ∷ []) (pos 4 ∷ pos 2 ∷ pos 5 ∷ negsuc 5 ∷ []) ≡ pos 0 ∷ pos 10 ∷ negsuc 1 ∷ pos 7 ∷ []
-unfolding overlapAdd crossfadeTo crossfadeFrame crossfadeSample
-two-channels = refl
-
--- six frames of one channel, a period of 2, k = 2: a skip fades forward, an insert copies the period and fades back
-abbrev ramp : List ℤ
-ramp = pos 0 ∷ pos 10 ∷ pos 40 ∷ pos 90 ∷ pos 160 ∷ pos 250 ∷ []
-
-pub forward-and-back : (skipPitchPeriod 1 ramp 0 2 2 ≡ pos 0 ∷ pos 50 ∷ []) × (insertPitchPeriod 1 ramp 1 2 2 ≡ pos 10 ∷ pos 40 ∷ pos 90 ∷ pos 100 ∷ [])
-unfolding skipPitchPeriod insertPitchPeriod copyUnmodifiedSamples overlapAdd crossfadeTo crossfadeFrame crossfadeSample
-forward-and-back = (refl, refl)

@@ -1,7 +1,3 @@
-pub mod Reciprocal
-pub mod WeightedMean
-pub mod Pasting
-pub mod Crossfading
 pub mod DueStep
 pub mod Soundness
 pub mod Progress

@@ -21,8 +21,8 @@ use Rattle.stretch.specs.declared.Place.{Place}
 use Rattle.stretch.specs.declared.Step.{Step}
 use Rattle.stretch.specs.declared.Step.the-variants.{Copied, Skipped, Inserted}
 use Rattle.stretch.specs.Steps.{searchAt, nextStep, framesOut, framesUsed, framesRead, samplesOut, prevAfter, placeAfter, after, StretchReady, Sound}
-use Rattle.stretch.specs.Crossfade.{skipPitchPeriod, insertPitchPeriod}
-use Rattle.stretch.proofs.Crossfading.{overlapAdd-length, copyUnmodifiedSamples-length}
+use Rattle.crossfade.specs.Crossfade.{skipPitchPeriod, insertPitchPeriod}
+use Rattle.crossfade.proofs.Crossfading.{overlapAdd-length, copyUnmodifiedSamples-length}
 use Rattle.stretch.proofs.DueStep.{nextStep-copied, nextStep-searched}
 
 -- ---- the step that is due

@@ -1,3 +1,2 @@
-pub mod Crossfade
 pub mod Steps
 pub mod Speed

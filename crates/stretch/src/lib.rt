@@ -1,10 +1,8 @@
 // The stretch: steps that copy, skip or insert pitch periods, and `change_speed` that takes them. `specs/` says what each function gives.
-mod crossfades;
 mod samples;
 mod speed;
 mod steps;
 
-pub use crossfades::overlap_add;
 use frames::Frames;
 use period::PeriodRecord;
 pub use speed::change_speed;

@@ -1,12 +1,12 @@
 // The calls, with the areas lent as far as the lengths say. Each prints what the call answers and hands back its stream.
-use crate::answers::print_count;
-use crate::answers::print_outcome;
-use crate::answers::print_refused;
-use crate::answers::print_word;
 use crate::lent::LentLengths;
 use crate::lent::of_area;
 use crate::lent::of_slice;
 use frames::Frames;
+use printing::print_count;
+use printing::print_outcome;
+use printing::print_refused;
+use printing::print_word;
 use scripts::sums::slice_sum;
 use sonic::Gave;
 use sonic::Wrote;

@@ -1,5 +1,3 @@
-// The calls of stored runs, each with its answer printed (docs/VECTORS.md): `calls` makes them, with the areas lent as far as `lent` says, and
-// `answers` prints the lines.
-pub mod answers;
+// The calls of stored runs, each with its answer printed (docs/VECTORS.md): `calls` makes them, with the areas lent as far as `lent` says.
 pub mod calls;
 pub mod lent;

@@ -1,5 +1,7 @@
 // The replay: line after line, each on the stream and the lengths that the lines before have left.
 use crate::edits::with_field;
+use printing::print;
+use printing::print_stream;
 use scripts::signal::fill;
 use scripts::signal::signal_of;
 use scripts::sums::float;
@@ -8,8 +10,6 @@ use scripts::text::Line;
 use scripts::text::parse;
 use stream::Setting;
 use stream::SonicStream;
-use transcripts::answers::print;
-use transcripts::answers::print_stream;
 use transcripts::calls::available;
 use transcripts::calls::flush;
 use transcripts::calls::open;

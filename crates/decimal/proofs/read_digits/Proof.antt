@@ -10,17 +10,18 @@ use Rattle.decimal.proofs.Reading.{digits-below, digits-above, digits-f
 use Rattle.decimal.proofs.read_digits.Statement.{statement}
 use Rattle.decimal.proofs.read_digits.Tie as tie
 
+-- ---- the invariant
+
 abbrev Inv-loop : tie.InvT-loop
 Inv-loop before text n₀ i₀ n i = (i ≤ length text) × (digitsFrom n (drop i text) ≡ digitsFrom before text)
 
 abbrev μ-loop : tie.MeasureT-loop
 μ-loop before text n₀ i₀ n i = length text - i
 
+-- ---- needs
+
 loop-holds : tie.Need-loop-holds Inv-loop μ-loop
 loop-holds c = (omega arith, refl)
-
-shared-slice-read-b : tie.Need-shared-slice-read-b Inv-loop μ-loop
-shared-slice-read-b c = search needs
 
 returns : tie.Need-returns Inv-loop μ-loop
 returns c =
@@ -40,6 +41,23 @@ returns-3 c =
     let text = c .before .before .before .before .before .before .args .text .now in
     sym (digits-full text (l .n) (l .i) (omega arith) (omega arith) (omega arith) (omega arith)) ∙ l .inv .1
 
+loop-again : tie.Need-loop-again Inv-loop μ-loop
+loop-again c =
+    let l = c .before .before .before .before .before .loop in
+    let text = c .before .before .before .before .before .before .args .text .now in
+    (omega arith, rw add-one (sym (digits-more text (l .n) (l .i) (omega arith) (omega arith) (omega arith) (omega arith)) ∙ l .inv .1))
+
+returns-4 : tie.Need-returns-4 Inv-loop μ-loop
+returns-4 c =
+    let l = c .before .loop in
+    let text = c .before .before .args .text .now in
+    sym (digits-end text (l .n) (l .i) (omega arith)) ∙ l .inv .1
+
+-- ---- what search closes
+
+shared-slice-read-b : tie.Need-shared-slice-read-b Inv-loop μ-loop
+shared-slice-read-b c = search needs
+
 mul-n : tie.Need-mul-n Inv-loop μ-loop
 mul-n c = search needs
 
@@ -55,33 +73,7 @@ add-i c = search needs
 loop-less : tie.Need-loop-less Inv-loop μ-loop
 loop-less c = search needs
 
-loop-again : tie.Need-loop-again Inv-loop μ-loop
-loop-again c =
-    let l = c .before .before .before .before .before .loop in
-    let text = c .before .before .before .before .before .before .args .text .now in
-    (omega arith, rw add-one (sym (digits-more text (l .n) (l .i) (omega arith) (omega arith) (omega arith) (omega arith)) ∙ l .inv .1))
-
-returns-4 : tie.Need-returns-4 Inv-loop μ-loop
-returns-4 c =
-    let l = c .before .loop in
-    let text = c .before .before .args .text .now in
-    sym (digits-end text (l .n) (l .i) (omega arith)) ∙ l .inv .1
-
 pub read-digits-spec : {M : Type 1} → statement M
 read-digits-spec =
     tie.close
-    (tie.spec
-    Inv-loop
-    μ-loop
-    loop-holds
-    shared-slice-read-b
-    returns
-    returns-2
-    returns-3
-    mul-n
-    cast-n
-    add-n
-    add-i
-    loop-less
-    loop-again
-    returns-4)
+    (tie.spec Inv-loop μ-loop loop-holds shared-slice-read-b returns returns-2 returns-3 mul-n cast-n add-n add-i loop-less loop-again returns-4)

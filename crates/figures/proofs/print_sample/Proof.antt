@@ -14,20 +14,18 @@ use Rattle.laws.proofs.Widening.{widened-reads, widened-fits}
 use Rattle.figures.proofs.print_sample.Statement.{statement}
 use Rattle.figures.proofs.print_sample.Tie as tie
 
+-- ---- places, and what is known there
+
 size-le : (c : tie.Start) → natAbs (c .args .sample) ≤ 32768
 size-le c = natAbs-le (c .args .sample) (c .fits .sample .sfits)
 
 negated-fits : (c : tie.Start) → SFits w32 (pos 0 -ℤ c .args .sample)
 negated-fits c = sfits-of-natAbs (pos 0 -ℤ c .args .sample) (omega (arith, size-le c, natAbs-negated (c .args .sample)))
 
+-- ---- needs
+
 cast-value : tie.Need-cast-value
 cast-value c = widened-fits tt (c .before .fits .sample)
-
-write-all-requires : tie.Need-write-all-requires
-write-all-requires c κs = search needs
-
-slice-aggregate-print-number : tie.Need-slice-aggregate-print-number
-slice-aggregate-print-number c = search needs
 
 sub-print-number : tie.Need-sub-print-number
 sub-print-number c =
@@ -41,17 +39,25 @@ cast-print-number c =
     rw (widened-reads w32 tt (s .fits .sample), toZ-ofZ {w = w32} (negated-fits s))
     (negated-nonNeg (s .args .sample) below, omega (arith, size-le s, natAbs-negated (s .args .sample)))
 
-print-number-requires : tie.Need-print-number-requires
-print-number-requires c κs = search needs
-
-slice-aggregate-print-number-2 : tie.Need-slice-aggregate-print-number-2
-slice-aggregate-print-number-2 c = search needs
-
 cast-print-number-2 : tie.Need-cast-print-number-2
 cast-print-number-2 c =
     let s = c .before .before .before .before in
     let not-below : ltZ (s .args .sample) (pos 0) ≡ false = rw (widened-reads w32 tt (s .fits .sample)) at (c .before .if1 .left) in
     rw (widened-reads w32 tt (s .fits .sample)) (kept-nonNeg (s .args .sample) not-below, omega (arith, size-le s))
+
+-- ---- what search closes
+
+write-all-requires : tie.Need-write-all-requires
+write-all-requires c κs = search needs
+
+slice-aggregate-print-number : tie.Need-slice-aggregate-print-number
+slice-aggregate-print-number c = search needs
+
+print-number-requires : tie.Need-print-number-requires
+print-number-requires c κs = search needs
+
+slice-aggregate-print-number-2 : tie.Need-slice-aggregate-print-number-2
+slice-aggregate-print-number-2 c = search needs
 
 print-number-requires-2 : tie.Need-print-number-requires-2
 print-number-requires-2 c κs = search needs
@@ -68,16 +74,5 @@ returns c = search needs
 pub print-sample-spec : {M : Type 1} → statement M
 print-sample-spec =
     tie.close
-    (tie.spec
-    cast-value
-    write-all-requires
-    slice-aggregate-print-number
-    sub-print-number
-    cast-print-number
-    print-number-requires
-    slice-aggregate-print-number-2
-    cast-print-number-2
-    print-number-requires-2
-    slice-aggregate-write-all
-    write-all-requires-2
-    returns)
+    (tie.spec cast-value write-all-requires slice-aggregate-print-number sub-print-number cast-print-number print-number-requires
+    slice-aggregate-print-number-2 cast-print-number-2 print-number-requires-2 slice-aggregate-write-all write-all-requires-2 returns)

@@ -12,14 +12,39 @@ use Rattle.pcm.proofs.Coding.{decoded-more}
 use Rattle.pcm.proofs.decode.Statement.{statement}
 use Rattle.pcm.proofs.decode.Tie as tie
 
+-- ---- the invariant
+
 abbrev Inv-loop : tie.InvT-loop
 Inv-loop bytes count values₀ i₀ values i = (i ≤ count) × (length values ≡ length values₀) × Decoded i bytes values
 
 abbrev μ-loop : tie.MeasureT-loop
 μ-loop bytes count values₀ i₀ values i = count - i
 
+-- ---- needs
+
 loop-holds : tie.Need-loop-holds Inv-loop μ-loop
 loop-holds c = (omega arith, refl, record { value = λ i l. absurd (omega arith) })
+
+loop-again : tie.Need-loop-again Inv-loop μ-loop
+loop-again c =
+    let l = c .before .before .before .before .before .loop in
+    let a = c .before .before .before .before .before .before .before .before .args in
+    let inside : l .i < length (l .values) = omega arith in
+    let v = toZ-ofZ {w = w16} {z = c .before .sample .result} (record { sfits = c .before .sample .ok }) in
+    let x = c .sample-out .ensures ∙ ap sampleOut (v ∙ c .before .sample .ensures) in (
+      omega arith,
+      length-set (l .values) (l .i) (c .sample-out .result) ∙ l .inv .1,
+      decoded-more (a .bytes .now) (l .values) (l .i) (c .sample-out .result) inside x (l .inv .2),
+    )
+
+returns : tie.Need-returns Inv-loop μ-loop
+returns c =
+    let l = c .before .loop in
+    let a = c .before .before .before .before .args in
+    let e : l .i ≡ a .count = omega arith in
+    subst (λ (n : ℕ). Decoded n (a .bytes .now) (l .values)) e (l .inv .2)
+
+-- ---- what search closes
 
 mul-sample : tie.Need-mul-sample Inv-loop μ-loop
 mul-sample c = search needs
@@ -54,46 +79,11 @@ add-i c = search needs
 loop-less : tie.Need-loop-less Inv-loop μ-loop
 loop-less c = search needs
 
-loop-again : tie.Need-loop-again Inv-loop μ-loop
-loop-again c =
-    let l = c .before .before .before .before .before .loop in
-    let a = c .before .before .before .before .before .before .before .before .args in
-    let inside : l .i < length (l .values) = omega arith in
-    let v = toZ-ofZ {w = w16} {z = c .before .sample .result} (record { sfits = c .before .sample .ok }) in
-    let x = c .sample-out .ensures ∙ ap sampleOut (v ∙ c .before .sample .ensures) in (
-      omega arith,
-      length-set (l .values) (l .i) (c .sample-out .result) ∙ l .inv .1,
-      decoded-more (a .bytes .now) (l .values) (l .i) (c .sample-out .result) inside x (l .inv .2),
-    )
-
 same-length : tie.Need-same-length Inv-loop μ-loop
 same-length c = search needs
-
-returns : tie.Need-returns Inv-loop μ-loop
-returns c =
-    let l = c .before .loop in
-    let a = c .before .before .before .before .args in
-    let e : l .i ≡ a .count = omega arith in
-    subst (λ (n : ℕ). Decoded n (a .bytes .now) (l .values)) e (l .inv .2)
 
 pub decode-spec : {M : Type 1} → statement M
 decode-spec =
     tie.close
-    (tie.spec
-    Inv-loop
-    μ-loop
-    loop-holds
-    mul-sample
-    shared-slice-read-sample
-    mul-sample-2
-    add-sample
-    shared-slice-read-sample-2
-    sample-requires
-    sample-out-requires
-    mul-values
-    slice-write-values
-    add-i
-    loop-less
-    loop-again
-    same-length
-    returns)
+    (tie.spec Inv-loop μ-loop loop-holds mul-sample shared-slice-read-sample mul-sample-2 add-sample shared-slice-read-sample-2 sample-requires
+    sample-out-requires mul-values slice-write-values add-i loop-less loop-again same-length returns)

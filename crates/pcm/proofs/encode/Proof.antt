@@ -11,14 +11,47 @@ use Rattle.pcm.proofs.Coding.{encoded-more}
 use Rattle.pcm.proofs.encode.Statement.{statement}
 use Rattle.pcm.proofs.encode.Tie as tie
 
+-- ---- the invariant
+
 abbrev Inv-loop : tie.InvT-loop
 Inv-loop values count bytes₀ i₀ bytes i = (i ≤ count) × (length bytes ≡ length bytes₀) × Encoded i values bytes
 
 abbrev μ-loop : tie.MeasureT-loop
 μ-loop values count bytes₀ i₀ bytes i = count - i
 
+-- ---- needs
+
 loop-holds : tie.Need-loop-holds Inv-loop μ-loop
 loop-holds c = (omega arith, refl, record { low = λ i l. absurd (omega arith); high = λ i l. absurd (omega arith) })
+
+slice-write-bytes-2 : tie.Need-slice-write-bytes-2 Inv-loop μ-loop
+slice-write-bytes-2 c =
+    let l = c .before .before .before .before .loop in
+    omega (arith, length-set (l .bytes) (2 * l .i) (c .pair .result % 256))
+
+loop-again : tie.Need-loop-again Inv-loop μ-loop
+loop-again c =
+    let l = c .before .before .before .before .loop in
+    let a = c .before .before .before .before .before .before .before .args in
+    let n = c .pair .result in
+    let inside : 2 * l .i + 1 < length (l .bytes) = omega arith in
+    let v = toZ-ofZ {w = w16} {z = c .before .sample-read .result} (record { sfits = c .before .sample-read .ok }) in
+    let e = c .pair .ensures ∙ ap pairOf (v ∙ c .before .sample-read .ensures) in
+    let low = ap (λ (k : ℕ). k % 256) e in
+    let high = ap (λ (k : ℕ). k / 256 % 256) e in (
+      omega arith,
+      length-set (set (l .bytes) (2 * l .i) (n % 256)) (2 * l .i + 1) (n / 256 % 256) ∙ length-set (l .bytes) (2 * l .i) (n % 256) ∙ l .inv .1,
+      encoded-more (a .values .now) (l .bytes) (l .i) (n % 256) (n / 256 % 256) inside low high (l .inv .2),
+    )
+
+returns : tie.Need-returns Inv-loop μ-loop
+returns c =
+    let l = c .before .loop in
+    let a = c .before .before .before .before .args in
+    let e : l .i ≡ a .count = omega arith in
+    subst (λ (n : ℕ). Encoded n (a .values .now) (l .bytes)) e (l .inv .2)
+
+-- ---- what search closes
 
 mul-sample-read : tie.Need-mul-sample-read Inv-loop μ-loop
 mul-sample-read c = search needs
@@ -50,62 +83,17 @@ mul-bytes-2 c = search needs
 add-bytes : tie.Need-add-bytes Inv-loop μ-loop
 add-bytes c = search needs
 
-slice-write-bytes-2 : tie.Need-slice-write-bytes-2 Inv-loop μ-loop
-slice-write-bytes-2 c =
-    let l = c .before .before .before .before .loop in
-    omega (arith, length-set (l .bytes) (2 * l .i) (c .pair .result % 256))
-
 add-i : tie.Need-add-i Inv-loop μ-loop
 add-i c = search needs
 
 loop-less : tie.Need-loop-less Inv-loop μ-loop
 loop-less c = search needs
 
-loop-again : tie.Need-loop-again Inv-loop μ-loop
-loop-again c =
-    let l = c .before .before .before .before .loop in
-    let a = c .before .before .before .before .before .before .before .args in
-    let n = c .pair .result in
-    let inside : 2 * l .i + 1 < length (l .bytes) = omega arith in
-    let v = toZ-ofZ {w = w16} {z = c .before .sample-read .result} (record { sfits = c .before .sample-read .ok }) in
-    let e = c .pair .ensures ∙ ap pairOf (v ∙ c .before .sample-read .ensures) in
-    let low = ap (λ (k : ℕ). k % 256) e in
-    let high = ap (λ (k : ℕ). k / 256 % 256) e in (
-      omega arith,
-      length-set (set (l .bytes) (2 * l .i) (n % 256)) (2 * l .i + 1) (n / 256 % 256) ∙ length-set (l .bytes) (2 * l .i) (n % 256) ∙ l .inv .1,
-      encoded-more (a .values .now) (l .bytes) (l .i) (n % 256) (n / 256 % 256) inside low high (l .inv .2),
-    )
-
 same-length : tie.Need-same-length Inv-loop μ-loop
 same-length c = search needs
-
-returns : tie.Need-returns Inv-loop μ-loop
-returns c =
-    let l = c .before .loop in
-    let a = c .before .before .before .before .args in
-    let e : l .i ≡ a .count = omega arith in
-    subst (λ (n : ℕ). Encoded n (a .values .now) (l .bytes)) e (l .inv .2)
 
 pub encode-spec : {M : Type 1} → statement M
 encode-spec =
     tie.close
-    (tie.spec
-    Inv-loop
-    μ-loop
-    loop-holds
-    mul-sample-read
-    shared-slice-read-sample-read
-    sample-read-requires
-    pair-requires
-    cast-low
-    cast-high
-    mul-bytes
-    slice-write-bytes
-    mul-bytes-2
-    add-bytes
-    slice-write-bytes-2
-    add-i
-    loop-less
-    loop-again
-    same-length
-    returns)
+    (tie.spec Inv-loop μ-loop loop-holds mul-sample-read shared-slice-read-sample-read sample-read-requires pair-requires cast-low cast-high mul-bytes
+    slice-write-bytes mul-bytes-2 add-bytes slice-write-bytes-2 add-i loop-less loop-again same-length returns)

@@ -18,6 +18,8 @@ use Rattle.sinc.proofs.Tabulated.{front-turn}
 use Rattle.sinc.proofs.coefficients.Statement.{statement}
 use Rattle.sinc.proofs.coefficients.Tie as tie
 
+-- ---- the invariant
+
 abbrev Inv-loop : tie.InvT-loop
 Inv-loop table ratio width n reciprocal points place remainder weights₀ i₀ weights i =
     (i ≤ sincFilterPoints) × (length weights ≡ sincFilterPoints) × (weights ≡ paste weights₀ 0 (sincCoefficients ratio width) i)
@@ -25,14 +27,10 @@ Inv-loop table ratio width n reciprocal points place remainder weights₀ i₀ w
 abbrev μ-loop : tie.MeasureT-loop
 μ-loop table ratio width n reciprocal points place remainder weights₀ i₀ weights i = sincFilterPoints - i
 
-div-reciprocal : tie.Need-div-reciprocal Inv-loop μ-loop
-div-reciprocal c = search needs
+-- ---- needs
 
 add-reciprocal : tie.Need-add-reciprocal Inv-loop μ-loop
 add-reciprocal c = record { fits = omega (arith, reciprocal-lt (c .args .width)) }
-
-mul-points : tie.Need-mul-points Inv-loop μ-loop
-mul-points c = search needs
 
 mul-place : tie.Need-mul-place Inv-loop μ-loop
 mul-place c = record { fits = place-product-lt (c .args .ratio) (c .args .width) (c .pre .1) (c .pre .2) }
@@ -42,12 +40,6 @@ mul-remainder c = record { fits = omega (arith, place-reaches (c .args .ratio) (
 
 sub-remainder : tie.Need-sub-remainder Inv-loop μ-loop
 sub-remainder c = place-reaches (c .args .ratio) (c .args .width) (c .pre .1) (c .pre .2)
-
-loop-holds : tie.Need-loop-holds Inv-loop μ-loop
-loop-holds c = search needs
-
-mul-find-sinc-coefficient : tie.Need-mul-find-sinc-coefficient Inv-loop μ-loop
-mul-find-sinc-coefficient c = search needs
 
 add-find-sinc-coefficient : tie.Need-add-find-sinc-coefficient Inv-loop μ-loop
 add-find-sinc-coefficient c =
@@ -61,18 +53,6 @@ find-sinc-coefficient-requires c κs =
     let a = s .args in
     rw (behind-is (a .ratio) (a .width) (s .pre .1) (s .pre .2), place-is (a .ratio) (a .width) (s .pre .1) (s .pre .2))
     (s .pre .0, omega (arith, place-lt (a .ratio) (a .width) (s .pre .1)), mod-lt (lobePoints * a .ratio) (omega arith), s .pre .2, refl)
-
-mul-weights : tie.Need-mul-weights Inv-loop μ-loop
-mul-weights c = search needs
-
-array-set-from-weights : tie.Need-array-set-from-weights Inv-loop μ-loop
-array-set-from-weights c = search needs
-
-add-i : tie.Need-add-i Inv-loop μ-loop
-add-i c = search needs
-
-loop-less : tie.Need-loop-less Inv-loop μ-loop
-loop-less c = search needs
 
 loop-again : tie.Need-loop-again Inv-loop μ-loop
 unfolding sincCoefficients
@@ -100,25 +80,34 @@ returns c =
     let e : l .i ≡ sincFilterPoints = omega arith in
     l .inv .2 ∙ ap (paste (replicate sincFilterPoints (pos 0)) 0 (sincCoefficients (a .ratio) (a .width))) e
 
+-- ---- what search closes
+
+div-reciprocal : tie.Need-div-reciprocal Inv-loop μ-loop
+div-reciprocal c = search needs
+
+mul-points : tie.Need-mul-points Inv-loop μ-loop
+mul-points c = search needs
+
+loop-holds : tie.Need-loop-holds Inv-loop μ-loop
+loop-holds c = search needs
+
+mul-find-sinc-coefficient : tie.Need-mul-find-sinc-coefficient Inv-loop μ-loop
+mul-find-sinc-coefficient c = search needs
+
+mul-weights : tie.Need-mul-weights Inv-loop μ-loop
+mul-weights c = search needs
+
+array-set-from-weights : tie.Need-array-set-from-weights Inv-loop μ-loop
+array-set-from-weights c = search needs
+
+add-i : tie.Need-add-i Inv-loop μ-loop
+add-i c = search needs
+
+loop-less : tie.Need-loop-less Inv-loop μ-loop
+loop-less c = search needs
+
 pub coefficients-spec : {M : Type 1} → statement M
 coefficients-spec =
     tie.close
-    (tie.spec
-    Inv-loop
-    μ-loop
-    div-reciprocal
-    add-reciprocal
-    mul-points
-    mul-place
-    mul-remainder
-    sub-remainder
-    loop-holds
-    mul-find-sinc-coefficient
-    add-find-sinc-coefficient
-    find-sinc-coefficient-requires
-    mul-weights
-    array-set-from-weights
-    add-i
-    loop-less
-    loop-again
-    returns)
+    (tie.spec Inv-loop μ-loop div-reciprocal add-reciprocal mul-points mul-place mul-remainder sub-remainder loop-holds mul-find-sinc-coefficient
+    add-find-sinc-coefficient find-sinc-coefficient-requires mul-weights array-set-from-weights add-i loop-less loop-again returns)

@@ -18,6 +18,8 @@ use Rattle.sinc.proofs.Coefficient.{rest-fits, left-fits, right-fits, s
 use Rattle.sinc.proofs.find_sinc_coefficient.Statement.{statement}
 use Rattle.sinc.proofs.find_sinc_coefficient.Tie as tie
 
+-- ---- places, and what is known there
+
 blended : (c : tie.Start)
     → let a = c .args in Blend (getD (a .table .now) (a .left) (pos 0)) (getD (a .table .now) (a .left + 1) (pos 0)) (a .width) (a .remainder)
 blended c = rw (c .pre .0) (entries (c .args .left) (c .args .remainder) (c .args .width) (c .pre .1) (c .pre .2))
@@ -31,11 +33,7 @@ parts-lt c = rw (c .pre .4) (reciprocal-lt (c .args .width))
 parts-reads : (c : tie.Start) → toZ w64 (c .args .reciprocal) ≡ pos (reciprocalOf (c .args .width))
 parts-reads c = toZ-pos w64 (omega (arith, parts-lt c)) ∙ ap pos (c .pre .4)
 
-add-right : tie.Need-add-right
-add-right c = search needs
-
-mul-left-value : tie.Need-mul-left-value
-mul-left-value c = search needs
+-- ---- needs
 
 shared-slice-copy-out-left-value : tie.Need-shared-slice-copy-out-left-value
 shared-slice-copy-out-left-value c = omega (arith, long c)
@@ -43,20 +41,11 @@ shared-slice-copy-out-left-value c = omega (arith, long c)
 cast-left-value : tie.Need-cast-left-value
 cast-left-value c = widened-fits tt (left-sample (blended (c .before)))
 
-mul-right-value : tie.Need-mul-right-value
-mul-right-value c = search needs
-
 shared-slice-copy-out-right-value : tie.Need-shared-slice-copy-out-right-value
 shared-slice-copy-out-right-value c = omega (arith, long (c .before))
 
 cast-right-value : tie.Need-cast-right-value
 cast-right-value c = widened-fits tt (right-sample (blended (c .before .before)))
-
-cast-n : tie.Need-cast-n
-cast-n c = search needs
-
-cast-e : tie.Need-cast-e
-cast-e c = search needs
 
 sub-sum : tie.Need-sub-sum
 sub-sum c = rest-fits (blended (c .before .before)) (c .before .before .pre .3)
@@ -89,9 +78,6 @@ mul-result c =
     let b = blended s in
     let n = s .pre .3 in
     rw (sum-reads b n, widened-reads w64 tt (double-fits b n), parts-reads s) (product-fits b n)
-
-cast-result : tie.Need-cast-result
-cast-result c = search needs
 
 div-result : tie.Need-div-result
 div-result c =
@@ -135,28 +121,29 @@ returns c =
       s .pre .0,
     )
 
+-- ---- what search closes
+
+add-right : tie.Need-add-right
+add-right c = search needs
+
+mul-left-value : tie.Need-mul-left-value
+mul-left-value c = search needs
+
+mul-right-value : tie.Need-mul-right-value
+mul-right-value c = search needs
+
+cast-n : tie.Need-cast-n
+cast-n c = search needs
+
+cast-e : tie.Need-cast-e
+cast-e c = search needs
+
+cast-result : tie.Need-cast-result
+cast-result c = search needs
+
 pub find-sinc-coefficient-spec : {M : Type 1} → statement M
 find-sinc-coefficient-spec =
     tie.close
-    (tie.spec
-    add-right
-    mul-left-value
-    shared-slice-copy-out-left-value
-    cast-left-value
-    mul-right-value
-    shared-slice-copy-out-right-value
-    cast-right-value
-    cast-n
-    cast-e
-    sub-sum
-    mul-sum
-    mul-sum-2
-    add-sum
-    mul-double
-    cast-double
-    cast-parts
-    mul-result
-    cast-result
-    div-result
-    cast-result-2
+    (tie.spec add-right mul-left-value shared-slice-copy-out-left-value cast-left-value mul-right-value shared-slice-copy-out-right-value
+    cast-right-value cast-n cast-e sub-sum mul-sum mul-sum-2 add-sum mul-double cast-double cast-parts mul-result cast-result div-result cast-result-2
     returns)

@@ -17,12 +17,7 @@ use Rattle.sinc.proofs.Taps.{limit, Tap, weight-fits, product-fits, nex
 use Rattle.sinc.proofs.interpolate.Statement.{statement}
 use Rattle.sinc.proofs.interpolate.Tie as tie
 
--- the taps of a channel, the first at `from`; the weights
-abbrev taps : List ℤ → ℕ → ℕ → ℕ → ℤ
-taps stage from channels i = getD stage (from + i * channels) (pos 0)
-
-abbrev values : List ℤ → ℕ → ℤ
-values weights i = getD weights i (pos 0)
+-- ---- the invariant
 
 abbrev Inv-loop : tie.InvT-loop
 Inv-loop stage channels weights f sum₀ i₀ sum i =
@@ -31,6 +26,15 @@ Inv-loop stage channels weights f sum₀ i₀ sum i =
 
 abbrev μ-loop : tie.MeasureT-loop
 μ-loop stage channels weights f sum₀ i₀ sum i = sincFilterPoints - i
+
+-- ---- places, and what is known there
+
+-- the taps of a channel, the first at `from`; the weights
+abbrev taps : List ℤ → ℕ → ℕ → ℕ → ℤ
+taps stage from channels i = getD stage (from + i * channels) (pos 0)
+
+abbrev values : List ℤ → ℕ → ℤ
+values weights i = getD weights i (pos 0)
 
 -- the tap at i lies in the stage
 inside : (c : tie.In-loop Inv-loop μ-loop)
@@ -58,6 +62,8 @@ tap c =
       before = l .inv .2;
     }
 
+-- ---- needs
+
 loop-holds : tie.Need-loop-holds Inv-loop μ-loop
 unfolding weightedSum
 loop-holds c = search needs
@@ -77,12 +83,6 @@ shared-slice-copy-out-tap c = inside c
 cast-tap : tie.Need-cast-tap Inv-loop μ-loop
 cast-tap c = widened-fits tt (sample-read c)
 
-mul-weight : tie.Need-mul-weight Inv-loop μ-loop
-mul-weight c = search needs
-
-element-copy-out-weight : tie.Need-element-copy-out-weight Inv-loop μ-loop
-element-copy-out-weight c = search needs
-
 cast-weight : tie.Need-cast-weight Inv-loop μ-loop
 cast-weight c = weight-fits (tap c)
 
@@ -92,17 +92,8 @@ mul-sum c = product-fits (tap c)
 add-sum : tie.Need-add-sum Inv-loop μ-loop
 add-sum c = rw (c .before .before .before .loop .inv .1) (sum-fits (tap c))
 
-add-i : tie.Need-add-i Inv-loop μ-loop
-add-i c = search needs
-
-loop-less : tie.Need-loop-less Inv-loop μ-loop
-loop-less c = search needs
-
 loop-again : tie.Need-loop-again Inv-loop μ-loop
 loop-again c = (omega arith, rw (c .before .before .before .loop .inv .1) (sum-reads (tap c)), next-abs (tap c))
-
-hold-requires : tie.Need-hold-requires Inv-loop μ-loop
-hold-requires c κs = search needs
 
 returns : tie.Need-returns Inv-loop μ-loop
 returns c =
@@ -113,25 +104,25 @@ returns c =
     let small : natAbs (total sincFilterPoints) ≤ limit sincFilterPoints = rw e at (l .inv .2) in
     toZ-ofZ {w = w16} (record { sfits = c .hold .ok }) ∙ held-is (l .sum) (total sincFilterPoints) 65536 (l .inv .1 ∙ ap total e) small (c .hold .ensures)
 
+-- ---- what search closes
+
+mul-weight : tie.Need-mul-weight Inv-loop μ-loop
+mul-weight c = search needs
+
+element-copy-out-weight : tie.Need-element-copy-out-weight Inv-loop μ-loop
+element-copy-out-weight c = search needs
+
+add-i : tie.Need-add-i Inv-loop μ-loop
+add-i c = search needs
+
+loop-less : tie.Need-loop-less Inv-loop μ-loop
+loop-less c = search needs
+
+hold-requires : tie.Need-hold-requires Inv-loop μ-loop
+hold-requires c κs = search needs
+
 pub interpolate-spec : {M : Type 1} → statement M
 interpolate-spec =
     tie.close
-    (tie.spec
-    Inv-loop
-    μ-loop
-    loop-holds
-    mul-tap
-    add-tap
-    mul-tap-2
-    shared-slice-copy-out-tap
-    cast-tap
-    mul-weight
-    element-copy-out-weight
-    cast-weight
-    mul-sum
-    add-sum
-    add-i
-    loop-less
-    loop-again
-    hold-requires
-    returns)
+    (tie.spec Inv-loop μ-loop loop-holds mul-tap add-tap mul-tap-2 shared-slice-copy-out-tap cast-tap mul-weight element-copy-out-weight cast-weight
+    mul-sum add-sum add-i loop-less loop-again hold-requires returns)

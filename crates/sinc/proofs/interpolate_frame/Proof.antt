@@ -16,6 +16,8 @@ use Rattle.sinc.proofs.Channels.{coefficient-small, channel-is}
 use Rattle.sinc.proofs.interpolate_frame.Statement.{statement}
 use Rattle.sinc.proofs.interpolate_frame.Tie as tie
 
+-- ---- the invariant
+
 abbrev Inv-loop : tie.InvT-loop
 Inv-loop table stage channels ratio width output₀ f t weights c₀ output c =
     (c ≤ channels) × (length output ≡ length output₀) × (output ≡ paste output₀ t (interpolateFrame (drop f stage) channels ratio width) c)
@@ -23,16 +25,12 @@ Inv-loop table stage channels ratio width output₀ f t weights c₀ output c =
 abbrev μ-loop : tie.MeasureT-loop
 μ-loop table stage channels ratio width output₀ f t weights c₀ output c = channels - c
 
-coefficients-requires : tie.Need-coefficients-requires Inv-loop μ-loop
-coefficients-requires c κs = search needs
+-- ---- needs
 
 loop-holds : tie.Need-loop-holds Inv-loop μ-loop
 loop-holds c =
     let a = c .before .args in
     (omega arith, refl, paste-zero (a .output .now) (a .to .0) (interpolateFrame (drop (a .from .0) (a .stage .now)) (a .channels) (a .ratio) (a .width)))
-
-add-sample : tie.Need-add-sample Inv-loop μ-loop
-add-sample c = search needs
 
 interpolate-requires : tie.Need-interpolate-requires Inv-loop μ-loop
 interpolate-requires c κs =
@@ -40,21 +38,6 @@ interpolate-requires c κs =
     let call = c .before .before .before .coefficients in
     let e : call .result ≡ sincCoefficients (s .args .ratio) (s .args .width) = call .ensures in
     (omega arith, λ i h. rw e (coefficient-small i (s .args .ratio) (s .args .width) h (omega arith)))
-
-add-sample-2 : tie.Need-add-sample-2 Inv-loop μ-loop
-add-sample-2 c = search needs
-
-mul-sample : tie.Need-mul-sample Inv-loop μ-loop
-mul-sample c = search needs
-
-slice-set-from-sample : tie.Need-slice-set-from-sample Inv-loop μ-loop
-slice-set-from-sample c = search needs
-
-add-c : tie.Need-add-c Inv-loop μ-loop
-add-c c = search needs
-
-loop-less : tie.Need-loop-less Inv-loop μ-loop
-loop-less c = search needs
 
 loop-again : tie.Need-loop-again Inv-loop μ-loop
 unfolding interpolateFrame
@@ -74,9 +57,6 @@ loop-again c =
           ∙ tabulate-turn (a .output .now) (a .to .0) (a .channels) sample (l .c) (pos 0) h (omega arith)),
     )
 
-same-length : tie.Need-same-length Inv-loop μ-loop
-same-length c = search needs
-
 returns : tie.Need-returns Inv-loop μ-loop
 returns c =
     let l = c .before .loop in
@@ -84,21 +64,34 @@ returns c =
     let e : l .c ≡ a .channels = omega arith in
     l .inv .2 ∙ ap (paste (a .output .now) (a .to .0) (interpolateFrame (drop (a .from .0) (a .stage .now)) (a .channels) (a .ratio) (a .width))) e
 
+-- ---- what search closes
+
+coefficients-requires : tie.Need-coefficients-requires Inv-loop μ-loop
+coefficients-requires c κs = search needs
+
+add-sample : tie.Need-add-sample Inv-loop μ-loop
+add-sample c = search needs
+
+add-sample-2 : tie.Need-add-sample-2 Inv-loop μ-loop
+add-sample-2 c = search needs
+
+mul-sample : tie.Need-mul-sample Inv-loop μ-loop
+mul-sample c = search needs
+
+slice-set-from-sample : tie.Need-slice-set-from-sample Inv-loop μ-loop
+slice-set-from-sample c = search needs
+
+add-c : tie.Need-add-c Inv-loop μ-loop
+add-c c = search needs
+
+loop-less : tie.Need-loop-less Inv-loop μ-loop
+loop-less c = search needs
+
+same-length : tie.Need-same-length Inv-loop μ-loop
+same-length c = search needs
+
 pub interpolate-frame-spec : {M : Type 1} → statement M
 interpolate-frame-spec =
     tie.close
-    (tie.spec
-    Inv-loop
-    μ-loop
-    coefficients-requires
-    loop-holds
-    add-sample
-    interpolate-requires
-    add-sample-2
-    mul-sample
-    slice-set-from-sample
-    add-c
-    loop-less
-    loop-again
-    same-length
-    returns)
+    (tie.spec Inv-loop μ-loop coefficients-requires loop-holds add-sample interpolate-requires add-sample-2 mul-sample slice-set-from-sample add-c
+    loop-less loop-again same-length returns)

@@ -3,12 +3,42 @@ use borrow.Author.Needs.{needs}
 use mathlib.Core.Path.{sym, subst, _∙_}
 use Rattle.stream.proofs.InOrder.{limits-of}
 use Rattle.stream.proofs.Stays.{open-in-order}
-use Rattle.reels.specs.Areas.{Usable}
+use Rattle.plans.specs.Plans.{Usable}
 use Rattle.skimming.specs.Skimming.{ReelReady}
-use Rattle.reels.proofs.Plans.{usable-of}
+use Rattle.plans.proofs.Planning.{usable-of}
 use Rattle.skimming.proofs.Starting.{ready-of}
 use Rattle.skim.proofs.run.Statement.{statement}
 use Rattle.skim.proofs.run.Tie as tie
+
+-- ---- places, and what is known there
+
+-- the plan
+usable : (c : tie.After-plan) → Usable (c .plan .given .0 .0)
+usable c =
+    let v = c .before .before in
+    let s = v .before .settle in
+    usable-of (s .result) _ (limits-of (s .result) (s .ensures .0)) (sym (v .serve .ensures) ∙ c .plan .given .1)
+
+-- ---- needs
+
+settle-requires : tie.Need-settle-requires
+settle-requires c κs =
+    let k = c .before in
+    let n = k .before .before in
+    open-in-order (n .before .args .job .rate) (n .before .args .job .channels) _ (sym (n .new .ensures) ∙ k .fresh .given .1)
+
+skim-requires : tie.Need-skim-requires
+skim-requires c κs =
+    let k = c .before .before in
+    let v = k .before .before in
+    let s = v .before .settle .result in
+    let fresh = ready-of s (k .plan .given .0 .0) (sym (v .serve .ensures) ∙ k .plan .given .1) in
+    (usable k, subst (ReelReady (k .plan .given .0 .0)) (sym (c .new2 .ensures)) fresh)
+
+run-requires : tie.Need-run-requires
+run-requires c κs = usable (c .before .before .before) .limits
+
+-- ---- what search closes
 
 new-requires : tie.Need-new-requires
 new-requires c κs = search needs
@@ -24,19 +54,6 @@ bad-usage-requires c κs = search needs
 
 enum-known-fresh : tie.Need-enum-known-fresh
 enum-known-fresh c = search needs
-
--- the plan
-usable : (c : tie.After-plan) → Usable (c .plan .given .0 .0)
-usable c =
-    let v = c .before .before in
-    let s = v .before .settle in
-    usable-of (s .result) _ (limits-of (s .result) (s .ensures .0)) (sym (v .serve .ensures) ∙ c .plan .given .1)
-
-settle-requires : tie.Need-settle-requires
-settle-requires c κs =
-    let k = c .before in
-    let n = k .before .before in
-    open-in-order (n .before .args .job .rate) (n .before .args .job .channels) _ (sym (n .new .ensures) ∙ k .fresh .given .1)
 
 serve-requires : tie.Need-serve-requires
 serve-requires c κs = search needs
@@ -56,17 +73,6 @@ enum-known-plan c = search needs
 new-requires-2 : tie.Need-new-requires-2
 new-requires-2 c κs = search needs
 
-skim-requires : tie.Need-skim-requires
-skim-requires c κs =
-    let k = c .before .before in
-    let v = k .before .before in
-    let s = v .before .settle .result in
-    let fresh = ready-of s (k .plan .given .0 .0) (sym (v .serve .ensures) ∙ k .plan .given .1) in
-    (usable k, subst (ReelReady (k .plan .given .0 .0)) (sym (c .new2 .ensures)) fresh)
-
-run-requires : tie.Need-run-requires
-run-requires c κs = usable (c .before .before .before) .limits
-
 returns : tie.Need-returns
 returns c = search needs
 
@@ -79,21 +85,5 @@ returns-3 c = search needs
 pub run-spec : {M : Type 1} → statement M
 run-spec =
     tie.close
-    (tie.spec
-    new-requires
-    enum-known-number
-    refused-requires
-    bad-usage-requires
-    enum-known-fresh
-    settle-requires
-    serve-requires
-    enum-told
-    no-room-requires
-    bad-usage-requires-2
-    enum-known-plan
-    new-requires-2
-    skim-requires
-    run-requires
-    returns
-    returns-2
-    returns-3)
+    (tie.spec new-requires enum-known-number refused-requires bad-usage-requires enum-known-fresh settle-requires serve-requires enum-told
+    no-room-requires bad-usage-requires-2 enum-known-plan new-requires-2 skim-requires run-requires returns returns-2 returns-3)

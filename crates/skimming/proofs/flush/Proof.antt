@@ -10,7 +10,8 @@ use Rattle.sonic.specs.Calls.{flushCall}
 use Rattle.stream.proofs.InOrder.{both}
 use Rattle.reels.specs.Reels.{going}
 use Rattle.reels.proofs.Going.{failed-once}
-use Rattle.skimming.proofs.Turning.{answered-with, flush-none, flush-due}
+use Rattle.blocks.proofs.Parts.{answered-with}
+use Rattle.skimming.proofs.Turning.{flush-none, flush-due}
 use Rattle.skimming.proofs.flush.Statement.{statement}
 use Rattle.skimming.proofs.flush.Tie as tie
 

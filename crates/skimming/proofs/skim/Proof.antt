@@ -2,7 +2,7 @@
 use mathlib.Core.Path.{refl, sym}
 use lib.IntN.{ℤ, pos}
 use lib.ListN.{length-replicate}
-use Rattle.reels.specs.Areas.{inputArea, stageArea, outputArea, scratchArea}
+use Rattle.plans.specs.Plans.{inputArea, stageArea, outputArea, scratchArea}
 use Rattle.skimming.proofs.skim.Statement.{statement}
 use Rattle.skimming.proofs.skim.Tie as tie
 

@@ -19,12 +19,16 @@ use Rattle.volume.proofs.Scaling.{unscaled-is, scaled-turn, paste-same,
 use Rattle.volume.proofs.scale_samples.Statement.{statement}
 use Rattle.volume.proofs.scale_samples.Tie as tie
 
+-- ---- the invariant
+
 abbrev Inv-loop : tie.InvT-loop
 Inv-loop area₀ volume gain t n i₀ area i =
     (i ≤ n) × (length area ≡ length area₀) × (area ≡ paste area₀ t (map (amplified (toZ w32 gain)) (drop t area₀)) i)
 
 abbrev μ-loop : tie.MeasureT-loop
 μ-loop area₀ volume gain t n i₀ area i = n - i
+
+-- ---- places, and what is known there
 
 -- at volume 1.0 a sample is as it is, else amplified by the volume's gain
 scaled-one : (v : Float) (x : ℤ) → eq v one ≡ true → scaled v x ≡ x
@@ -35,18 +39,17 @@ scaled-gain : (v : Float) (x : ℤ) → eq v one ≡ false → scaled v x ≡ am
 unfolding scaled
 scaled-gain v x e = rw e
 
+-- the gain that the loop uses
+gain-is : (c : tie.After-fixed-point Inv-loop μ-loop) → toZ w32 (ofZ w32 (c .fixed-point .result)) ≡ pos (gain (c .before .before .args .volume))
+gain-is c = toZ-ofZ {w = w32} {z = c .fixed-point .result} (record { sfits = c .fixed-point .ok }) ∙ c .fixed-point .ensures .0
+
+-- ---- needs
+
 returns : tie.Need-returns Inv-loop μ-loop
 unfolding ofBits
 returns c =
     let a = c .before .args in
     sym (paste-same (scaled (a .volume)) (a .area .now) (a .at .0) (a .count .0) (λ x. scaled-one (a .volume) x (c .if1 .taken)))
-
-fixed-point-requires : tie.Need-fixed-point-requires Inv-loop μ-loop
-fixed-point-requires c κs = search needs
-
--- the gain that the loop uses
-gain-is : (c : tie.After-fixed-point Inv-loop μ-loop) → toZ w32 (ofZ w32 (c .fixed-point .result)) ≡ pos (gain (c .before .before .args .volume))
-gain-is c = toZ-ofZ {w = w32} {z = c .fixed-point .result} (record { sfits = c .fixed-point .ok }) ∙ c .fixed-point .ensures .0
 
 loop-holds : tie.Need-loop-holds Inv-loop μ-loop
 loop-holds c =
@@ -54,33 +57,9 @@ loop-holds c =
     let z : ℤ = toZ w32 (ofZ w32 (c .fixed-point .result)) in
     (omega arith, refl, paste-zero (a .area .now) (a .at .0) (map (amplified z) (drop (a .at .0) (a .area .now))))
 
-add-amplify : tie.Need-add-amplify Inv-loop μ-loop
-add-amplify c = search needs
-
-mul-amplify : tie.Need-mul-amplify Inv-loop μ-loop
-mul-amplify c = search needs
-
-slice-copy-out-amplify : tie.Need-slice-copy-out-amplify Inv-loop μ-loop
-slice-copy-out-amplify c = search needs
-
 amplify-requires : tie.Need-amplify-requires Inv-loop μ-loop
 amplify-requires c κs =
     rw (gain-is (c .before .before .before)) (c .before .before .before .fixed-point .ensures .1)
-
-add-sample : tie.Need-add-sample Inv-loop μ-loop
-add-sample c = search needs
-
-mul-sample : tie.Need-mul-sample Inv-loop μ-loop
-mul-sample c = search needs
-
-slice-set-from-sample : tie.Need-slice-set-from-sample Inv-loop μ-loop
-slice-set-from-sample c = search needs
-
-add-i : tie.Need-add-i Inv-loop μ-loop
-add-i c = search needs
-
-loop-less : tie.Need-loop-less Inv-loop μ-loop
-loop-less c = search needs
 
 loop-again : tie.Need-loop-again Inv-loop μ-loop
 loop-again c =
@@ -100,9 +79,6 @@ loop-again c =
           (ap (λ (r : List ℤ). set r k (amplified z (getD d k (pos 0)))) (l .inv .2) ∙ scaled-turn (amplified z) (pos 0) d (a .at .0) (l .i) h),
     )
 
-same-length : tie.Need-same-length Inv-loop μ-loop
-same-length c = search needs
-
 returns-2 : tie.Need-returns-2 Inv-loop μ-loop
 unfolding ofBits
 returns-2 c =
@@ -115,6 +91,38 @@ returns-2 c =
     λ x. ap (λ (g : ℤ). amplified g x) (gain-is s) ∙ sym (scaled-gain (a .volume) x (s .before .if1 .left)) in
     l .inv .2 ∙ ap (paste (a .area .now) (a .at .0) (map (amplified z) (drop (a .at .0) (a .area .now)))) e
     ∙ paste-cong (amplified z) (a .area .now) (a .at .0) (a .count .0) (scaled (a .volume)) same
+
+-- ---- what search closes
+
+fixed-point-requires : tie.Need-fixed-point-requires Inv-loop μ-loop
+fixed-point-requires c κs = search needs
+
+add-amplify : tie.Need-add-amplify Inv-loop μ-loop
+add-amplify c = search needs
+
+mul-amplify : tie.Need-mul-amplify Inv-loop μ-loop
+mul-amplify c = search needs
+
+slice-copy-out-amplify : tie.Need-slice-copy-out-amplify Inv-loop μ-loop
+slice-copy-out-amplify c = search needs
+
+add-sample : tie.Need-add-sample Inv-loop μ-loop
+add-sample c = search needs
+
+mul-sample : tie.Need-mul-sample Inv-loop μ-loop
+mul-sample c = search needs
+
+slice-set-from-sample : tie.Need-slice-set-from-sample Inv-loop μ-loop
+slice-set-from-sample c = search needs
+
+add-i : tie.Need-add-i Inv-loop μ-loop
+add-i c = search needs
+
+loop-less : tie.Need-loop-less Inv-loop μ-loop
+loop-less c = search needs
+
+same-length : tie.Need-same-length Inv-loop μ-loop
+same-length c = search needs
 
 pub scale-samples-spec : {M : Type 1} → statement M
 scale-samples-spec =

@@ -15,14 +15,41 @@ use Rattle.floats.specs.Write.{sampleIn}
 use Rattle.floats.proofs.samples.samples_in.Statement.{statement}
 use Rattle.floats.proofs.samples.samples_in.Tie as tie
 
+-- ---- the invariant
+
 abbrev Inv-loop : tie.InvT-loop
 Inv-loop source area₀ n t i₀ area i = (i ≤ n) × (length area ≡ length area₀) × (area ≡ paste area₀ t (map sampleIn source) i)
 
 abbrev μ-loop : tie.MeasureT-loop
 μ-loop source area₀ n t i₀ area i = n - i
 
+-- ---- needs
+
 loop-holds : tie.Need-loop-holds Inv-loop μ-loop
 loop-holds c = (omega arith, refl, paste-zero (c .before .args .area .now) (c .before .args .to .0) (map sampleIn (c .before .args .source .now)))
+
+loop-again : tie.Need-loop-again Inv-loop μ-loop
+loop-again c =
+    let l = c .before .before .before .loop in
+    let a = c .before .before .before .before .before .args in
+    let d : List ℤ = a .area .now in
+    let to : ℕ = a .to .0 in
+    let h : to + l .i < length d = omega arith in
+    let k : l .i < length (a .source .now) = omega arith in
+    let v : ℤ = sampleIn (getD (a .source .now) (l .i) nan) in
+    let e = toZ-ofZ {w = w16} {z = c .sample-in .result} (record { sfits = c .sample-in .ok }) in
+    let is : c .sample-in .result ≡ v = c .sample-in .ensures .0 in
+    let turned = map-turn sampleIn nan d (a .source .now) to (l .i) h k in
+    (omega arith, length-set (l .area) (to + l .i) _ ∙ l .inv .1, rw (e, is) (ap (λ (r : List ℤ). set r (to + l .i) v) (l .inv .2) ∙ turned))
+
+returns : tie.Need-returns Inv-loop μ-loop
+returns c =
+    let l = c .before .loop in
+    let a = c .before .before .before .args in
+    let e : l .i ≡ a .count .0 = omega arith in
+    l .inv .2 ∙ ap (paste (a .area .now) (a .to .0) (map sampleIn (a .source .now))) e
+
+-- ---- what search closes
 
 mul-sample-in : tie.Need-mul-sample-in Inv-loop μ-loop
 mul-sample-in c = search needs
@@ -48,45 +75,11 @@ add-i c = search needs
 loop-less : tie.Need-loop-less Inv-loop μ-loop
 loop-less c = search needs
 
-loop-again : tie.Need-loop-again Inv-loop μ-loop
-loop-again c =
-    let l = c .before .before .before .loop in
-    let a = c .before .before .before .before .before .args in
-    let d : List ℤ = a .area .now in
-    let to : ℕ = a .to .0 in
-    let h : to + l .i < length d = omega arith in
-    let k : l .i < length (a .source .now) = omega arith in
-    let v : ℤ = sampleIn (getD (a .source .now) (l .i) nan) in
-    let e = toZ-ofZ {w = w16} {z = c .sample-in .result} (record { sfits = c .sample-in .ok }) in
-    let is : c .sample-in .result ≡ v = c .sample-in .ensures .0 in
-    let turned = map-turn sampleIn nan d (a .source .now) to (l .i) h k in
-    (omega arith, length-set (l .area) (to + l .i) _ ∙ l .inv .1, rw (e, is) (ap (λ (r : List ℤ). set r (to + l .i) v) (l .inv .2) ∙ turned))
-
 same-length : tie.Need-same-length Inv-loop μ-loop
 same-length c = search needs
-
-returns : tie.Need-returns Inv-loop μ-loop
-returns c =
-    let l = c .before .loop in
-    let a = c .before .before .before .args in
-    let e : l .i ≡ a .count .0 = omega arith in
-    l .inv .2 ∙ ap (paste (a .area .now) (a .to .0) (map sampleIn (a .source .now))) e
 
 pub samples-in-spec : {M : Type 1} → statement M
 samples-in-spec =
     tie.close
-    (tie.spec
-    Inv-loop
-    μ-loop
-    loop-holds
-    mul-sample-in
-    shared-slice-read-sample-in
-    sample-in-requires
-    add-x
-    mul-x
-    slice-set-from-x
-    add-i
-    loop-less
-    loop-again
-    same-length
-    returns)
+    (tie.spec Inv-loop μ-loop loop-holds mul-sample-in shared-slice-read-sample-in sample-in-requires add-x mul-x slice-set-from-x add-i loop-less
+    loop-again same-length returns)

@@ -20,6 +20,8 @@ use Rattle.floats.proofs.Cut.{yes, no}
 use Rattle.floats.proofs.steps.copy_count.Statement.{statement}
 use Rattle.floats.proofs.steps.copy_count.Tie as tie
 
+-- ---- places, and what is known there
+
 -- the frames to copy, and the contract's count, of the values passed
 abbrev wanted : tie.Start → Float
 wanted c = toCopy (c .args .error) (c .args .s) (c .args .sample-period)
@@ -34,18 +36,6 @@ by c b h = copy-by (c .args .error) (c .args .s) (c .args .sample-period) (c .ar
 tested : (c : tie.After-frames-to-f32) (b : Bool) → lt (c .frames-to-f32 .result) (c .before .to-copy .result) ≡ b
     → lt (count (c .before .before .args .left .0)) (wanted (c .before .before)) ≡ b
 tested c b h = sym (λ i. lt (c .frames-to-f32 .ensures i) (c .before .to-copy .ensures i)) ∙ h
-
-to-copy-requires : tie.Need-to-copy-requires
-to-copy-requires c κs = search needs
-
-frames-to-f32-requires : tie.Need-frames-to-f32-requires
-frames-to-f32-requires c κs = search needs
-
-returns : tie.Need-returns
-returns c = (by (c .before .before .before) true (tested (c .before) true (c .if1 .taken)), le-refl (c .before .before .before .args .left .0))
-
-f32-to-i32-requires : tie.Need-f32-to-i32-requires
-f32-to-i32-requires c κs = search needs
 
 -- the cast fits, and reads back from its bits
 cast-in : (c : tie.After-f32-to-i32) → mag (c .f32-to-i32 .result) < 2 ^ 31
@@ -65,15 +55,20 @@ few c =
     let s = c .before .before .before .before in
     copy-le (s .args .error) (s .args .s) (s .args .sample-period) (s .args .left .0) (s .pre)
 
-returns-2 : tie.Need-returns-2
-returns-2 c =
-    let none = natOf-below-zero (c .before .f32-to-i32 .result) (yes (rw (back (c .before)) at (c .if2 .taken))) in
-    (sym none ∙ cut (c .before), omega arith)
-
 kept : (c : tie.Else2)
     → T (nonNeg (c .before .f32-to-i32 .result)) × Fits w64 (natAbs (c .before .f32-to-i32 .result))
     × (natAbs (c .before .f32-to-i32 .result) ≡ natOf (c .before .f32-to-i32 .result))
 kept c = natOf-from-zero (c .before .f32-to-i32 .result) (cast-in (c .before)) (no (rw (back (c .before)) at (c .if2 .left)))
+
+-- ---- needs
+
+returns : tie.Need-returns
+returns c = (by (c .before .before .before) true (tested (c .before) true (c .if1 .taken)), le-refl (c .before .before .before .args .left .0))
+
+returns-2 : tie.Need-returns-2
+returns-2 c =
+    let none = natOf-below-zero (c .before .f32-to-i32 .result) (yes (rw (back (c .before)) at (c .if2 .taken))) in
+    (sym none ∙ cut (c .before), omega arith)
 
 cast-n : tie.Need-cast-n
 cast-n c = rw (back (c .before)) (kept c .0, kept c .1)
@@ -83,5 +78,18 @@ returns-3 c =
     let is = ap natAbs (back (c .before)) ∙ kept c .2 ∙ cut (c .before) in
     (is, rw is (few (c .before)))
 
+-- ---- what search closes
+
+to-copy-requires : tie.Need-to-copy-requires
+to-copy-requires c κs = search needs
+
+frames-to-f32-requires : tie.Need-frames-to-f32-requires
+frames-to-f32-requires c κs = search needs
+
+f32-to-i32-requires : tie.Need-f32-to-i32-requires
+f32-to-i32-requires c κs = search needs
+
 pub copy-count-spec : {M : Type 1} → statement M
-copy-count-spec = tie.close (tie.spec to-copy-requires frames-to-f32-requires returns f32-to-i32-requires returns-2 cast-n returns-3)
+copy-count-spec =
+    tie.close
+    (tie.spec to-copy-requires frames-to-f32-requires returns f32-to-i32-requires returns-2 cast-n returns-3)

@@ -12,14 +12,34 @@ use Rattle.period.proofs.Means.{Front, front-none, front-at, front-more
 use Rattle.period.proofs.averages.down_sample_by_two.Statement.{statement}
 use Rattle.period.proofs.averages.down_sample_by_two.Tie as tie
 
+-- ---- the invariant
+
 abbrev Inv-loop : tie.InvT-loop
 Inv-loop samples out₀ num-values i₀ out i = (i ≤ num-values) × Front samples out₀ out i 2
 
 abbrev μ-loop : tie.MeasureT-loop
 μ-loop samples out₀ num-values i₀ out i = num-values - i
 
+-- ---- needs
+
 loop-holds : tie.Need-loop-holds Inv-loop μ-loop
 loop-holds c = (search needs, front-none _ _ _)
+
+loop-again : tie.Need-loop-again Inv-loop μ-loop
+loop-again c =
+    let l = c .before .before .before .before .loop in
+    let s = c .before .before .before .before .before in
+    let m = c .mean-of-two in
+    let x = s .args .samples .now in
+    let a = toZ-ofZ {w = w16} {z = getD x (l .i * 2) (pos 0)} (record { sfits = c .before .before .a .given }) in
+    let b = toZ-ofZ {w = w16} {z = getD x (l .i * 2 + 1) (pos 0)} (record { sfits = c .before .b .given }) in
+    let v : m .result ≡ meanFrom x (l .i * 2) 2 = (rw (a, b) at (m .ensures)) ∙ meanFrom-two x (l .i * 2) in
+    (search needs, front-more (l .inv .1) (omega (arith, s .pre .fits)) (record { sfits = m .ok }) v)
+
+returns : tie.Need-returns Inv-loop μ-loop
+returns c = front-at {m = c .before .before .args .num-values} (omega arith) (c .before .loop .inv .1) .made
+
+-- ---- what search closes
 
 mul-a : tie.Need-mul-a Inv-loop μ-loop
 mul-a c = search needs
@@ -57,42 +77,11 @@ add-i c = search needs
 loop-less : tie.Need-loop-less Inv-loop μ-loop
 loop-less c = search needs
 
-loop-again : tie.Need-loop-again Inv-loop μ-loop
-loop-again c =
-    let l = c .before .before .before .before .loop in
-    let s = c .before .before .before .before .before in
-    let m = c .mean-of-two in
-    let x = s .args .samples .now in
-    let a = toZ-ofZ {w = w16} {z = getD x (l .i * 2) (pos 0)} (record { sfits = c .before .before .a .given }) in
-    let b = toZ-ofZ {w = w16} {z = getD x (l .i * 2 + 1) (pos 0)} (record { sfits = c .before .b .given }) in
-    let v : m .result ≡ meanFrom x (l .i * 2) 2 = (rw (a, b) at (m .ensures)) ∙ meanFrom-two x (l .i * 2) in
-    (search needs, front-more (l .inv .1) (omega (arith, s .pre .fits)) (record { sfits = m .ok }) v)
-
 same-length : tie.Need-same-length Inv-loop μ-loop
 same-length c = search needs
-
-returns : tie.Need-returns Inv-loop μ-loop
-returns c = front-at {m = c .before .before .args .num-values} (omega arith) (c .before .loop .inv .1) .made
 
 pub down-sample-by-two-spec : {M : Type 1} → statement M
 down-sample-by-two-spec =
     tie.close
-    (tie.spec
-    Inv-loop
-    μ-loop
-    loop-holds
-    mul-a
-    mul-a-2
-    shared-slice-copy-out-a
-    mul-b
-    add-b
-    mul-b-2
-    shared-slice-copy-out-b
-    mean-of-two-requires
-    mul-value
-    slice-set-from-value
-    add-i
-    loop-less
-    loop-again
-    same-length
-    returns)
+    (tie.spec Inv-loop μ-loop loop-holds mul-a mul-a-2 shared-slice-copy-out-a mul-b add-b mul-b-2 shared-slice-copy-out-b mean-of-two-requires
+    mul-value slice-set-from-value add-i loop-less loop-again same-length returns)

@@ -10,19 +10,26 @@ use Rattle.period.proofs.Means.{Front, front-none, front-at, front-more
 use Rattle.period.proofs.averages.down_sample_input.Statement.{statement}
 use Rattle.period.proofs.averages.down_sample_input.Tie as tie
 
+-- ---- the invariant
+
 abbrev Inv-loop : tie.InvT-loop
 Inv-loop samples out₀ num-values per-value n from₀ i₀ out from i = (i ≤ num-values) × (from ≡ i * n) × Front samples out₀ out i n
 
 abbrev μ-loop : tie.MeasureT-loop
 μ-loop samples out₀ num-values per-value n from₀ i₀ out from i = num-values - i
 
+-- ---- places, and what is known there
+
+-- the samples of k values from value i on lie within
+inside : {given room num per : ℕ} → Averageable given room num per → (i k : ℕ) → i + k ≤ num → (i + k) * per ≤ given
+inside {given} {room} {num} {per} a i k h = le-trans (mul-le-mul-right per h) (a .enough)
+
+-- ---- needs
+
 down-sample-by-two-requires : tie.Need-down-sample-by-two-requires Inv-loop μ-loop
 down-sample-by-two-requires c κs =
     let s = c .before .before in
     rw (c .before .if1 .taken) at (s .pre)
-
-same-length : tie.Need-same-length Inv-loop μ-loop
-same-length c = search needs
 
 returns : tie.Need-returns Inv-loop μ-loop
 returns c = rw (c .before .before .before .if1 .taken) (c .before .down-sample-by-two .ensures)
@@ -30,50 +37,22 @@ returns c = rw (c .before .before .before .if1 .taken) (c .before .down-sample-b
 loop-holds : tie.Need-loop-holds Inv-loop μ-loop
 loop-holds c = (search needs, omega (arith, zero-mul (c .before .args .per-value .0)), front-none _ _ _)
 
-add-loop : tie.Need-add-loop Inv-loop μ-loop
-add-loop c = search needs
-
--- the samples of k values from value i on lie within
-inside : {given room num per : ℕ} → Averageable given room num per → (i k : ℕ) → i + k ≤ num → (i + k) * per ≤ given
-inside {given} {room} {num} {per} a i k h = le-trans (mul-le-mul-right per h) (a .enough)
-
 means-from-requires : tie.Need-means-from-requires Inv-loop μ-loop
 means-from-requires c κs =
     let l = c .before .loop in
     let p = c .before .before .before .pre in
     (p .some, p .few, omega (arith, l .inv .1, inside p (l .i) 2 (omega arith)))
 
-mul-first : tie.Need-mul-first Inv-loop μ-loop
-mul-first c = search needs
-
-slice-set-from-first : tie.Need-slice-set-from-first Inv-loop μ-loop
-slice-set-from-first c = search needs
-
-add-second : tie.Need-add-second Inv-loop μ-loop
-add-second c = search needs
-
-mul-second : tie.Need-mul-second Inv-loop μ-loop
-mul-second c = search needs
-
 slice-set-from-second : tie.Need-slice-set-from-second Inv-loop μ-loop
 slice-set-from-second c =
     let l = c .before .before .before .before .loop in
     simp length-set (omega (arith, l .inv .2 .long, c .before .before .before .before .before .before .pre .fits))
-
-mul-from : tie.Need-mul-from Inv-loop μ-loop
-mul-from c = search needs
 
 add-from : tie.Need-add-from Inv-loop μ-loop
 add-from c =
     let l = c .before .before .before .before .loop in
     let p = c .before .before .before .before .before .before .pre in
     record { fits = omega (arith, l .inv .1, inside p (l .i) 2 (omega arith)) }
-
-add-i : tie.Need-add-i Inv-loop μ-loop
-add-i c = search needs
-
-loop-less : tie.Need-loop-less Inv-loop μ-loop
-loop-less c = search needs
 
 loop-again : tie.Need-loop-again Inv-loop μ-loop
 loop-again c =
@@ -95,6 +74,46 @@ mean-from-requires c κs =
     let p = c .before .before .before .before .pre in
     (p .some, p .few, omega (arith, l .inv .1, inside p (l .i) 1 (omega arith)))
 
+returns-2 : tie.Need-returns-2 Inv-loop μ-loop
+returns-2 c =
+    let l = c .before .before .before .loop in
+    let s = c .before .before .before .before .before in
+    let n = s .args .per-value .0 in
+    let last : c .mean-from .result ≡ meanFrom (s .args .samples .now) (l .i * n) n = rw (← l .inv .1) (c .mean-from .ensures) in
+    front-at {m = s .args .num-values} (omega arith) (front-more (l .inv .2) (omega (arith, s .pre .fits)) (record { sfits = c .mean-from .ok }) last) .made
+
+returns-3 : tie.Need-returns-3 Inv-loop μ-loop
+returns-3 c = front-at {m = c .before .before .before .before .args .num-values} (omega arith) (c .before .before .loop .inv .2) .made
+
+-- ---- what search closes
+
+same-length : tie.Need-same-length Inv-loop μ-loop
+same-length c = search needs
+
+add-loop : tie.Need-add-loop Inv-loop μ-loop
+add-loop c = search needs
+
+mul-first : tie.Need-mul-first Inv-loop μ-loop
+mul-first c = search needs
+
+slice-set-from-first : tie.Need-slice-set-from-first Inv-loop μ-loop
+slice-set-from-first c = search needs
+
+add-second : tie.Need-add-second Inv-loop μ-loop
+add-second c = search needs
+
+mul-second : tie.Need-mul-second Inv-loop μ-loop
+mul-second c = search needs
+
+mul-from : tie.Need-mul-from Inv-loop μ-loop
+mul-from c = search needs
+
+add-i : tie.Need-add-i Inv-loop μ-loop
+add-i c = search needs
+
+loop-less : tie.Need-loop-less Inv-loop μ-loop
+loop-less c = search needs
+
 mul-last : tie.Need-mul-last Inv-loop μ-loop
 mul-last c = search needs
 
@@ -104,46 +123,12 @@ slice-set-from-last c = search needs
 same-length-2 : tie.Need-same-length-2 Inv-loop μ-loop
 same-length-2 c = search needs
 
-returns-2 : tie.Need-returns-2 Inv-loop μ-loop
-returns-2 c =
-    let l = c .before .before .before .loop in
-    let s = c .before .before .before .before .before in
-    let n = s .args .per-value .0 in
-    let last : c .mean-from .result ≡ meanFrom (s .args .samples .now) (l .i * n) n = rw (← l .inv .1) (c .mean-from .ensures) in
-    front-at {m = s .args .num-values} (omega arith) (front-more (l .inv .2) (omega (arith, s .pre .fits)) (record { sfits = c .mean-from .ok }) last) .made
-
 same-length-3 : tie.Need-same-length-3 Inv-loop μ-loop
 same-length-3 c = search needs
-
-returns-3 : tie.Need-returns-3 Inv-loop μ-loop
-returns-3 c = front-at {m = c .before .before .before .before .args .num-values} (omega arith) (c .before .before .loop .inv .2) .made
 
 pub down-sample-input-spec : {M : Type 1} → statement M
 down-sample-input-spec =
     tie.close
-    (tie.spec
-    Inv-loop
-    μ-loop
-    down-sample-by-two-requires
-    same-length
-    returns
-    loop-holds
-    add-loop
-    means-from-requires
-    mul-first
-    slice-set-from-first
-    add-second
-    mul-second
-    slice-set-from-second
-    mul-from
-    add-from
-    add-i
-    loop-less
-    loop-again
-    mean-from-requires
-    mul-last
-    slice-set-from-last
-    same-length-2
-    returns-2
-    same-length-3
-    returns-3)
+    (tie.spec Inv-loop μ-loop down-sample-by-two-requires same-length returns loop-holds add-loop means-from-requires mul-first slice-set-from-first
+    add-second mul-second slice-set-from-second mul-from add-from add-i loop-less loop-again mean-from-requires mul-last slice-set-from-last
+    same-length-2 returns-2 same-length-3 returns-3)

@@ -10,23 +10,25 @@ use Rattle.period.proofs.Means.{quotient-fits, quotient-narrows, mean-r
 use Rattle.period.proofs.averages.mean_from.Statement.{statement}
 use Rattle.period.proofs.averages.mean_from.Tie as tie
 
+-- ---- the invariant
+
 abbrev Inv-loop : tie.InvT-loop
 Inv-loop samples first n sum₀ i₀ sum i = (i ≤ n) × Total samples first i (toZ w32 sum)
 
 abbrev μ-loop : tie.MeasureT-loop
 μ-loop samples first n sum₀ i₀ sum i = n - i
 
+-- ---- places, and what is known there
+
+-- the whole sum
+whole : (c : tie.After-loop Inv-loop μ-loop)
+    → Total (c .before .before .args .samples .now) (c .before .before .args .from .0) (c .before .before .args .count .0) (toZ w32 (c .before .loop .sum))
+whole c = total-at (omega arith) (c .before .loop .inv .1)
+
+-- ---- needs
+
 loop-holds : tie.Need-loop-holds Inv-loop μ-loop
 loop-holds c = (search needs, total-none _ _)
-
-add-sample : tie.Need-add-sample Inv-loop μ-loop
-add-sample c = search needs
-
-mul-sample : tie.Need-mul-sample Inv-loop μ-loop
-mul-sample c = search needs
-
-shared-slice-copy-out-sample : tie.Need-shared-slice-copy-out-sample Inv-loop μ-loop
-shared-slice-copy-out-sample c = search needs
 
 cast-sum : tie.Need-cast-sum Inv-loop μ-loop
 cast-sum c = sample-widens (c .before .before .loop .inv .1) (c .sample .given) (omega arith)
@@ -34,22 +36,8 @@ cast-sum c = sample-widens (c .before .before .loop .inv .1) (c .sample .given) 
 add-sum : tie.Need-add-sum Inv-loop μ-loop
 add-sum c = added-fits (c .before .before .loop .inv .1) (c .sample .given) (omega arith)
 
-add-i : tie.Need-add-i Inv-loop μ-loop
-add-i c = search needs
-
-loop-less : tie.Need-loop-less Inv-loop μ-loop
-loop-less c = search needs
-
 loop-again : tie.Need-loop-again Inv-loop μ-loop
 loop-again c = (search needs, added-total (c .before .before .loop .inv .1) (c .sample .given) (omega arith))
-
-cast-divisor : tie.Need-cast-divisor Inv-loop μ-loop
-cast-divisor c = search needs
-
--- the whole sum
-whole : (c : tie.After-loop Inv-loop μ-loop)
-    → Total (c .before .before .args .samples .now) (c .before .before .args .from .0) (c .before .before .args .count .0) (toZ w32 (c .before .loop .sum))
-whole c = total-at (omega arith) (c .before .loop .inv .1)
 
 div-result : tie.Need-div-result Inv-loop μ-loop
 div-result c = (search needs, quotient-fits (whole c) (c .before .before .pre .0) (c .before .before .pre .1))
@@ -60,22 +48,28 @@ cast-result c = quotient-narrows (whole c) (c .before .before .pre .0) (c .befor
 returns : tie.Need-returns Inv-loop μ-loop
 returns c = mean-reads (whole c) (c .before .before .pre .0) (c .before .before .pre .1)
 
+-- ---- what search closes
+
+add-sample : tie.Need-add-sample Inv-loop μ-loop
+add-sample c = search needs
+
+mul-sample : tie.Need-mul-sample Inv-loop μ-loop
+mul-sample c = search needs
+
+shared-slice-copy-out-sample : tie.Need-shared-slice-copy-out-sample Inv-loop μ-loop
+shared-slice-copy-out-sample c = search needs
+
+add-i : tie.Need-add-i Inv-loop μ-loop
+add-i c = search needs
+
+loop-less : tie.Need-loop-less Inv-loop μ-loop
+loop-less c = search needs
+
+cast-divisor : tie.Need-cast-divisor Inv-loop μ-loop
+cast-divisor c = search needs
+
 pub mean-from-spec : {M : Type 1} → statement M
 mean-from-spec =
     tie.close
-    (tie.spec
-    Inv-loop
-    μ-loop
-    loop-holds
-    add-sample
-    mul-sample
-    shared-slice-copy-out-sample
-    cast-sum
-    add-sum
-    add-i
-    loop-less
-    loop-again
-    cast-divisor
-    div-result
-    cast-result
-    returns)
+    (tie.spec Inv-loop μ-loop loop-holds add-sample mul-sample shared-slice-copy-out-sample cast-sum add-sum add-i loop-less loop-again cast-divisor
+    div-result cast-result returns)

@@ -9,6 +9,8 @@ use Rattle.period.proofs.Means.{quotient-fits, quotient-narrows, mean-r
 use Rattle.period.proofs.averages.means_from.Statement.{statement}
 use Rattle.period.proofs.averages.means_from.Tie as tie
 
+-- ---- the invariant
+
 abbrev Inv-loop : tie.InvT-loop
 Inv-loop samples first n second sum₀ behind₀ i₀ sum behind i =
     (i ≤ n) × Total samples first i (toZ w32 sum) × Total samples second i (toZ w32 behind)
@@ -16,11 +18,60 @@ Inv-loop samples first n second sum₀ behind₀ i₀ sum behind i =
 abbrev μ-loop : tie.MeasureT-loop
 μ-loop samples first n second sum₀ behind₀ i₀ sum behind i = n - i
 
-add-second : tie.Need-add-second Inv-loop μ-loop
-add-second c = search needs
+-- ---- places, and what is known there
+
+-- the whole sums
+module _ (c : tie.After-loop Inv-loop μ-loop) where
+  abbrev start : tie.Start Inv-loop μ-loop
+  start = c .before .before
+
+  whole : Total (start .args .samples .now) (start .args .from .0) (start .args .count .0) (toZ w32 (c .before .loop .sum))
+      × Total (start .args .samples .now) (start .args .from .0 + start .args .count .0) (start .args .count .0) (toZ w32 (c .before .loop .behind))
+  whole = (total-at (omega arith) (c .before .loop .inv .1), total-at (omega arith) (c .before .loop .inv .2))
+
+-- ---- needs
 
 loop-holds : tie.Need-loop-holds Inv-loop μ-loop
 loop-holds c = (search needs, total-none _ _, total-none _ _)
+
+cast-sum : tie.Need-cast-sum Inv-loop μ-loop
+cast-sum c = sample-widens (c .before .before .before .loop .inv .1) (c .before .a .given) (omega arith)
+
+add-sum : tie.Need-add-sum Inv-loop μ-loop
+add-sum c = added-fits (c .before .before .before .loop .inv .1) (c .before .a .given) (omega arith)
+
+cast-behind : tie.Need-cast-behind Inv-loop μ-loop
+cast-behind c = sample-widens (c .before .before .before .loop .inv .2) (c .b .given) (omega arith)
+
+add-behind : tie.Need-add-behind Inv-loop μ-loop
+add-behind c = added-fits (c .before .before .before .loop .inv .2) (c .b .given) (omega arith)
+
+loop-again : tie.Need-loop-again Inv-loop μ-loop
+loop-again c =
+    let l = c .before .before .before .loop in
+    (search needs, added-total (l .inv .1) (c .before .a .given) (omega arith), added-total (l .inv .2) (c .b .given) (omega arith))
+
+div-t20 : tie.Need-div-t20 Inv-loop μ-loop
+div-t20 c = (search needs, quotient-fits (whole c .0) (c .before .before .pre .0) (c .before .before .pre .1))
+
+cast-t21 : tie.Need-cast-t21 Inv-loop μ-loop
+cast-t21 c = quotient-narrows (whole c .0) (c .before .before .pre .0) (c .before .before .pre .1)
+
+div-t22 : tie.Need-div-t22 Inv-loop μ-loop
+div-t22 c = (search needs, quotient-fits (whole c .1) (c .before .before .pre .0) (c .before .before .pre .1))
+
+cast-t23 : tie.Need-cast-t23 Inv-loop μ-loop
+cast-t23 c = quotient-narrows (whole c .1) (c .before .before .pre .0) (c .before .before .pre .1)
+
+returns : tie.Need-returns Inv-loop μ-loop
+returns c =
+    let p = c .before .before .pre in
+    (mean-reads (whole c .0) (p .0) (p .1), mean-reads (whole c .1) (p .0) (p .1))
+
+-- ---- what search closes
+
+add-second : tie.Need-add-second Inv-loop μ-loop
+add-second c = search needs
 
 add-a : tie.Need-add-a Inv-loop μ-loop
 add-a c = search needs
@@ -40,82 +91,17 @@ mul-b c = search needs
 shared-slice-copy-out-b : tie.Need-shared-slice-copy-out-b Inv-loop μ-loop
 shared-slice-copy-out-b c = search needs
 
-cast-sum : tie.Need-cast-sum Inv-loop μ-loop
-cast-sum c = sample-widens (c .before .before .before .loop .inv .1) (c .before .a .given) (omega arith)
-
-add-sum : tie.Need-add-sum Inv-loop μ-loop
-add-sum c = added-fits (c .before .before .before .loop .inv .1) (c .before .a .given) (omega arith)
-
-cast-behind : tie.Need-cast-behind Inv-loop μ-loop
-cast-behind c = sample-widens (c .before .before .before .loop .inv .2) (c .b .given) (omega arith)
-
-add-behind : tie.Need-add-behind Inv-loop μ-loop
-add-behind c = added-fits (c .before .before .before .loop .inv .2) (c .b .given) (omega arith)
-
 add-i : tie.Need-add-i Inv-loop μ-loop
 add-i c = search needs
 
 loop-less : tie.Need-loop-less Inv-loop μ-loop
 loop-less c = search needs
 
-loop-again : tie.Need-loop-again Inv-loop μ-loop
-loop-again c =
-    let l = c .before .before .before .loop in
-    (search needs, added-total (l .inv .1) (c .before .a .given) (omega arith), added-total (l .inv .2) (c .b .given) (omega arith))
-
 cast-divisor : tie.Need-cast-divisor Inv-loop μ-loop
 cast-divisor c = search needs
-
--- the whole sums
-module _ (c : tie.After-loop Inv-loop μ-loop) where
-  abbrev start : tie.Start Inv-loop μ-loop
-  start = c .before .before
-
-  whole : Total (start .args .samples .now) (start .args .from .0) (start .args .count .0) (toZ w32 (c .before .loop .sum))
-      × Total (start .args .samples .now) (start .args .from .0 + start .args .count .0) (start .args .count .0) (toZ w32 (c .before .loop .behind))
-  whole = (total-at (omega arith) (c .before .loop .inv .1), total-at (omega arith) (c .before .loop .inv .2))
-
-div-t20 : tie.Need-div-t20 Inv-loop μ-loop
-div-t20 c = (search needs, quotient-fits (whole c .0) (c .before .before .pre .0) (c .before .before .pre .1))
-
-cast-t21 : tie.Need-cast-t21 Inv-loop μ-loop
-cast-t21 c = quotient-narrows (whole c .0) (c .before .before .pre .0) (c .before .before .pre .1)
-
-div-t22 : tie.Need-div-t22 Inv-loop μ-loop
-div-t22 c = (search needs, quotient-fits (whole c .1) (c .before .before .pre .0) (c .before .before .pre .1))
-
-cast-t23 : tie.Need-cast-t23 Inv-loop μ-loop
-cast-t23 c = quotient-narrows (whole c .1) (c .before .before .pre .0) (c .before .before .pre .1)
-
-returns : tie.Need-returns Inv-loop μ-loop
-returns c =
-    let p = c .before .before .pre in
-    (mean-reads (whole c .0) (p .0) (p .1), mean-reads (whole c .1) (p .0) (p .1))
 
 pub means-from-spec : {M : Type 1} → statement M
 means-from-spec =
     tie.close
-    (tie.spec
-    Inv-loop
-    μ-loop
-    add-second
-    loop-holds
-    add-a
-    mul-a
-    shared-slice-copy-out-a
-    add-b
-    mul-b
-    shared-slice-copy-out-b
-    cast-sum
-    add-sum
-    cast-behind
-    add-behind
-    add-i
-    loop-less
-    loop-again
-    cast-divisor
-    div-t20
-    cast-t21
-    div-t22
-    cast-t23
-    returns)
+    (tie.spec Inv-loop μ-loop add-second loop-holds add-a mul-a shared-slice-copy-out-a add-b mul-b shared-slice-copy-out-b cast-sum add-sum
+    cast-behind add-behind add-i loop-less loop-again cast-divisor div-t20 cast-t21 div-t22 cast-t23 returns)

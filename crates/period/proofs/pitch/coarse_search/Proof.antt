@@ -11,22 +11,14 @@ use Rattle.period.proofs.Ranges.{Skip, skip-in, coarse-searchable, coar
 use Rattle.period.proofs.pitch.coarse_search.Statement.{statement}
 use Rattle.period.proofs.pitch.coarse_search.Tie as tie
 
-skip-requires : tie.Need-skip-requires
-skip-requires c κs = search needs
-
-min-period-requires : tie.Need-min-period-requires
-min-period-requires c κs = search needs
-
-max-period-requires : tie.Need-max-period-requires
-max-period-requires c κs = search needs
-
-max-required-requires : tie.Need-max-required-requires
-max-required-requires c κs = search needs
+-- ---- places, and what is known there
 
 skip-few : (c : tie.After-struct-known) → Skip (c .before .before .before .before .before .args .rate) (c .before .before .before .before .skip .result)
 skip-few c =
     let s = c .before .before .before .before in
     skip-in (s .before .pre .0) (s .skip .ensures)
+
+-- ---- needs
 
 div-num-values : tie.Need-div-num-values
 div-num-values c = skip-few c .some
@@ -51,9 +43,6 @@ search-values-requires c κs =
       coarse-searchable (p .0) (s .skip .ensures) (low .min-period .ensures) (high .max-period .ensures) (m .max-required .ensures),
     )
 
-same-length : tie.Need-same-length
-same-length c = search needs
-
 returns : tie.Need-returns
 unfolding coarse
 returns c =
@@ -74,18 +63,25 @@ returns c =
       v .search-values .ensures .1,
     )
 
+-- ---- what search closes
+
+skip-requires : tie.Need-skip-requires
+skip-requires c κs = search needs
+
+min-period-requires : tie.Need-min-period-requires
+min-period-requires c κs = search needs
+
+max-period-requires : tie.Need-max-period-requires
+max-period-requires c κs = search needs
+
+max-required-requires : tie.Need-max-required-requires
+max-required-requires c κs = search needs
+
+same-length : tie.Need-same-length
+same-length c = search needs
+
 pub coarse-search-spec : {M : Type 1} → statement M
 coarse-search-spec =
     tie.close
-    (tie.spec
-    skip-requires
-    min-period-requires
-    max-period-requires
-    max-required-requires
-    div-num-values
-    samples-requires
-    div-search-values
-    div-search-values-2
-    search-values-requires
-    same-length
-    returns)
+    (tie.spec skip-requires min-period-requires max-period-requires max-required-requires div-num-values samples-requires div-search-values
+    div-search-values-2 search-values-requires same-length returns)

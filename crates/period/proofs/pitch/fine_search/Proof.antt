@@ -11,26 +11,7 @@ use Rattle.period.proofs.Ranges.{skip-in, fine-searchable, fine-average
 use Rattle.period.proofs.pitch.fine_search.Statement.{statement}
 use Rattle.period.proofs.pitch.fine_search.Tie as tie
 
-skip-requires : tie.Need-skip-requires
-skip-requires c κs = search needs
-
-mul-reach : tie.Need-mul-reach
-mul-reach c = record { fits = omega (arith, skip-in (c .before .pre .0) (c .skip .ensures) .few) }
-
-min-period-requires : tie.Need-min-period-requires
-min-period-requires c κs = search needs
-
-lowered-requires : tie.Need-lowered-requires
-lowered-requires c κs = search needs
-
-max-period-requires : tie.Need-max-period-requires
-max-period-requires c κs = search needs
-
-raised-requires : tie.Need-raised-requires
-raised-requires c κs =
-    let s = c .before .before .before in
-    let p = s .before .pre in
-    omega (arith, skip-in (p .0) (s .skip .ensures) .few, p .0 .rate-high, p .1 .0 .0)
+-- ---- places, and what is known there
 
 -- the range of the search
 module _ (c : tie.After-raised) where
@@ -48,11 +29,16 @@ module _ (c : tie.After-raised) where
       let s = c .before .before .before .before in
       c .raised .ensures ∙ (λ i. min (start .args .near + 4 * s .skip .ensures i) (c .before .max-period .ensures i))
 
-max-required-requires : tie.Need-max-required-requires
-max-required-requires c κs = search needs
+-- ---- needs
 
-samples-requires : tie.Need-samples-requires
-samples-requires c κs = search needs
+mul-reach : tie.Need-mul-reach
+mul-reach c = record { fits = omega (arith, skip-in (c .before .pre .0) (c .skip .ensures) .few) }
+
+raised-requires : tie.Need-raised-requires
+raised-requires c κs =
+    let s = c .before .before .before in
+    let p = s .before .pre in
+    omega (arith, skip-in (p .0) (s .skip .ensures) .few, p .0 .rate-high, p .1 .0 .0)
 
 search-values-requires : tie.Need-search-values-requires
 search-values-requires c κs =
@@ -63,9 +49,6 @@ search-values-requires c κs =
       fine-averageable (p .0) (p .1 .1 .0) (p .1 .1 .1) n (c .before .samples .ensures),
       fine-searchable (p .0) (p .1 .0 .0) (p .1 .0 .1) (low-is r) (high-is r) n,
     )
-
-same-length : tie.Need-same-length
-same-length c = search needs
 
 returns : tie.Need-returns
 unfolding fine
@@ -81,18 +64,31 @@ returns c =
       v .search-values .ensures .1,
     )
 
+-- ---- what search closes
+
+skip-requires : tie.Need-skip-requires
+skip-requires c κs = search needs
+
+min-period-requires : tie.Need-min-period-requires
+min-period-requires c κs = search needs
+
+lowered-requires : tie.Need-lowered-requires
+lowered-requires c κs = search needs
+
+max-period-requires : tie.Need-max-period-requires
+max-period-requires c κs = search needs
+
+max-required-requires : tie.Need-max-required-requires
+max-required-requires c κs = search needs
+
+samples-requires : tie.Need-samples-requires
+samples-requires c κs = search needs
+
+same-length : tie.Need-same-length
+same-length c = search needs
+
 pub fine-search-spec : {M : Type 1} → statement M
 fine-search-spec =
     tie.close
-    (tie.spec
-    skip-requires
-    mul-reach
-    min-period-requires
-    lowered-requires
-    max-period-requires
-    raised-requires
-    max-required-requires
-    samples-requires
-    search-values-requires
-    same-length
-    returns)
+    (tie.spec skip-requires mul-reach min-period-requires lowered-requires max-period-requires raised-requires max-required-requires samples-requires
+    search-values-requires same-length returns)

@@ -10,12 +10,16 @@ use Rattle.period.proofs.Candidates.{searchable-within, sweep-one, swee
 use Rattle.period.proofs.search.find_pitch_period_in_range.Statement.{statement}
 use Rattle.period.proofs.search.find_pitch_period_in_range.Tie as tie
 
+-- ---- the invariant
+
 abbrev Inv-loop : tie.InvT-loop
 Inv-loop samples min-period max-period best₀ worst₀ period₀ b w period =
     (min-period ≤ period) × (period ≤ max-period) × (b ≡ best samples min-period period) × (w ≡ worst samples min-period period) × Bounded b × Bounded w
 
 abbrev μ-loop : tie.MeasureT-loop
 μ-loop samples min-period max-period best₀ worst₀ period₀ b w period = max-period - period
+
+-- ---- needs
 
 candidate-at-requires : tie.Need-candidate-at-requires Inv-loop μ-loop
 candidate-at-requires c κs = searchable-within (c .pre) (le-refl _) (le-refl _) (c .pre .order)
@@ -55,9 +59,6 @@ add-period : tie.Need-add-period Inv-loop μ-loop
 add-period c =
     let n = c .before .before .before .before .before .before in
     record { fits = omega (arith, n .before .before .loop .inv .1, n .before .before .before .before .pre .short) }
-
-loop-less : tie.Need-loop-less Inv-loop μ-loop
-loop-less c = search needs
 
 loop-again : tie.Need-loop-again Inv-loop μ-loop
 loop-again c =
@@ -113,28 +114,14 @@ returns-2 c =
     let w = l .inv .3 ∙ ap (worst (a .samples .now) (a .min-period)) e in
     (c .found-of2 .ensures .0 ∙ (λ i. foundOf (b i) (w i)), c .found-of2 .ensures .1)
 
+-- ---- what search closes
+
+loop-less : tie.Need-loop-less Inv-loop μ-loop
+loop-less c = search needs
+
 pub find-pitch-period-in-range-spec : {M : Type 1} → statement M
 find-pitch-period-in-range-spec =
     tie.close
-    (tie.spec
-    Inv-loop
-    μ-loop
-    candidate-at-requires
-    loop-holds
-    add-loop
-    add-neighbours-from
-    neighbours-from-requires
-    lesser-requires
-    lesser-requires-2
-    greater-requires
-    greater-requires-2
-    add-period
-    loop-less
-    loop-again
-    candidate-at-requires-2
-    lesser-requires-3
-    greater-requires-3
-    found-of-requires
-    returns
-    found-of-requires-2
-    returns-2)
+    (tie.spec Inv-loop μ-loop candidate-at-requires loop-holds add-loop add-neighbours-from neighbours-from-requires lesser-requires lesser-requires-2
+    greater-requires greater-requires-2 add-period loop-less loop-again candidate-at-requires-2 lesser-requires-3 greater-requires-3 found-of-requires
+    returns found-of-requires-2 returns-2)

@@ -4,7 +4,7 @@ use Prim.Native.Nat.{_*_, _/_, _≤_}
 use native.Mathlib.Nat.{min-le-left, min-le-right}
 use native.Mathlib.Omega.{arith}
 use lib.ListN.{length, length-take, length-append}
-use Rattle.reels.specs.Areas.{blockBytes}
+use Rattle.plans.specs.Plans.{blockBytes}
 use Rattle.reels.proofs.Blocks.{whole-fit}
 use Rattle.reels.proofs.reading.read_block.Statement.{statement}
 use Rattle.reels.proofs.reading.read_block.Tie as tie

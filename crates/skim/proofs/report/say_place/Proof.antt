@@ -5,13 +5,17 @@ use native.Mathlib.Omega.{arith}
 use Rattle.skim.proofs.report.say_place.Statement.{statement}
 use Rattle.skim.proofs.report.say_place.Tie as tie
 
-rem-thousandths : tie.Need-rem-thousandths
-rem-thousandths c = search needs
+-- ---- needs
 
 mul-thousandths : tie.Need-mul-thousandths
 mul-thousandths c =
     let l = c .pre in
     record { fits = omega (arith, mod-lt (c .args .frame) {m = c .args .plan .rate} (omega (arith, l .rate-low)), l .rate-high) }
+
+-- ---- what search closes
+
+rem-thousandths : tie.Need-rem-thousandths
+rem-thousandths c = search needs
 
 div-thousandths : tie.Need-div-thousandths
 div-thousandths c = search needs
@@ -61,21 +65,6 @@ returns c = search needs
 pub say-place-spec : {M : Type 1} → statement M
 say-place-spec =
     tie.close
-    (tie.spec
-    rem-thousandths
-    mul-thousandths
-    div-thousandths
-    slice-aggregate-number
-    number-requires
-    slice-aggregate-number-2
-    div-number
-    number-requires-2
-    slice-aggregate-number-3
-    number-requires-3
-    slice-aggregate-number-4
-    number-requires-4
-    slice-aggregate-number-5
-    number-requires-5
-    slice-aggregate-text
-    text-requires
-    returns)
+    (tie.spec rem-thousandths mul-thousandths div-thousandths slice-aggregate-number number-requires slice-aggregate-number-2 div-number
+    number-requires-2 slice-aggregate-number-3 number-requires-3 slice-aggregate-number-4 number-requires-4 slice-aggregate-number-5 number-requires-5
+    slice-aggregate-text text-requires returns)

@@ -20,6 +20,8 @@ use Rattle.stretch.proofs.Outcome.{ended-made, ended-staged, full-made,
 use Rattle.stretch.proofs.speed.change_speed.Statement.{statement}
 use Rattle.stretch.proofs.speed.change_speed.Tie as tie
 
+-- ---- the invariant
+
 abbrev Inv-loop : tie.InvT-loop
 Inv-loop input call time-error stage₀ scratch₀ required held all first place₀ made₀ stage scratch place made =
     Going call input place₀ stage₀ stage first all place made × (length stage ≡ length stage₀) × (length scratch ≡ length scratch₀)
@@ -27,24 +29,11 @@ Inv-loop input call time-error stage₀ scratch₀ required held all first place
 abbrev μ-loop : tie.MeasureT-loop
 μ-loop input call time-error stage₀ scratch₀ required held all first place₀ made₀ stage scratch place made = held - place .position .0
 
-max-required-requires : tie.Need-max-required-requires Inv-loop μ-loop
-max-required-requires c κs = search needs
-
-loop-holds : tie.Need-loop-holds Inv-loop μ-loop
-loop-holds c =
-    let a = c .before .args in
-    let begin = begun (a .time-error) (a .prev) in
-    (going-start (a .call) (a .input .now) begin (a .stage .now) (a .to .0) (a .room .0) (c .before .pre .1 .0) (omega arith), refl, refl)
+-- ---- places, and what is known there
 
 -- what the call is lent
 lent : (c : tie.Start Inv-loop μ-loop) → StretchLent (c .args .call) (c .args .input .now) (c .args .stage .now) (c .args .to .0) (c .args .room .0)
 lent c = record { ready = c .pre .0; whole = c .pre .1 .1 .0; area = c .pre .1 .1 .2 }
-
-add-if1 : tie.Need-add-if1 Inv-loop μ-loop
-add-if1 c =
-    let l = c .before in
-    let b = l .before .before in
-    record { fits = omega (arith, l .loop .inv .0 .within, l .before .max-required .ensures, b .pre .0 .few, b .pre .0 .opened .rate-high) }
 
 -- a turn: where it begins, and that a step is due there
 module _ (c : tie.Then1 Inv-loop μ-loop) where
@@ -63,6 +52,49 @@ module _ (c : tie.Then1 Inv-loop μ-loop) where
 
   due : here .loop .place .position .0 + maxRequired (start .args .call .rate) ≤ start .args .call .held .0
   due = omega (arith, c .if1 .taken, here .before .max-required .ensures)
+
+-- what a turn wrote
+module _ (c : tie.After-take-step Inv-loop μ-loop) where
+  abbrev begun-at : tie.Then1 Inv-loop μ-loop
+  begun-at = c .before .before .before .before .before
+
+  abbrev stageAt : ℕ → List ℤ
+  stageAt to =
+      let a = start begun-at .args in
+      let l = here begun-at .loop in
+      let x = a .input .now in
+      stageFor (a .call) x (l .place) (a .room .0 - l .made) (l .stage) to (nextStep (a .call) x (l .place))
+
+  wrote : c .take-step .last .1 .1 .1 .0 ≡ stageAt (start begun-at .args .to .0 + here begun-at .loop .made * start begun-at .args .call .channels)
+  wrote = c .take-step .ensures .1 ∙ ap (λ (n : ℕ). stageAt (start begun-at .args .to .0 + n)) (c .before .before .before .before .samples .ensures)
+
+-- a turn that went on
+module _ (c : tie.After-turn Inv-loop μ-loop) where
+  abbrev turned : tie.After-take-step Inv-loop μ-loop
+  turned = c .before .before .before .before
+
+  abbrev from : tie.Then1 Inv-loop μ-loop
+  from = begun-at turned
+
+  went : (let a = start from .args in
+      let l = here from .loop in
+      turnFor (a .call) (a .input .now) (l .place) (a .room .0 - l .made) (nextStep (a .call) (a .input .now) (l .place)))
+      ≡ Went (c .turn .given .0 .0) (c .turn .given .0 .1 .0) (c .turn .given .0 .1 .1 .0)
+  went = sym (turned .take-step .ensures .0) ∙ c .turn .given .1
+
+-- ---- needs
+
+loop-holds : tie.Need-loop-holds Inv-loop μ-loop
+loop-holds c =
+    let a = c .before .args in
+    let begin = begun (a .time-error) (a .prev) in
+    (going-start (a .call) (a .input .now) begin (a .stage .now) (a .to .0) (a .room .0) (c .before .pre .1 .0) (omega arith), refl, refl)
+
+add-if1 : tie.Need-add-if1 Inv-loop μ-loop
+add-if1 c =
+    let l = c .before in
+    let b = l .before .before in
+    record { fits = omega (arith, l .loop .inv .0 .within, l .before .max-required .ensures, b .pre .0 .few, b .pre .0 .opened .rate-high) }
 
 samples-requires : tie.Need-samples-requires Inv-loop μ-loop
 samples-requires c κs = omega (arith, at-fits c)
@@ -83,30 +115,6 @@ take-step-requires c κs =
     let scratch : maxRequired (start t .args .call .rate) ≤ length (here t .loop .scratch) = omega (arith, inv .2, p .1 .1 .1) in
     (p .0, (inv .0 .in-order, (due t, p .1 .1 .0, scratch, omega (arith, room t, area, inv .1, s .samples .ensures))))
 
--- what a turn wrote
-module _ (c : tie.After-take-step Inv-loop μ-loop) where
-  abbrev begun-at : tie.Then1 Inv-loop μ-loop
-  begun-at = c .before .before .before .before .before
-
-  abbrev stageAt : ℕ → List ℤ
-  stageAt to =
-      let a = start begun-at .args in
-      let l = here begun-at .loop in
-      let x = a .input .now in
-      stageFor (a .call) x (l .place) (a .room .0 - l .made) (l .stage) to (nextStep (a .call) x (l .place))
-
-  wrote : c .take-step .last .1 .1 .1 .0 ≡ stageAt (start begun-at .args .to .0 + here begun-at .loop .made * start begun-at .args .call .channels)
-  wrote = c .take-step .ensures .1 ∙ ap (λ (n : ℕ). stageAt (start begun-at .args .to .0 + n)) (c .before .before .before .before .samples .ensures)
-
-enum-told : tie.Need-enum-told Inv-loop μ-loop
-enum-told c = search needs
-
-same-length : tie.Need-same-length Inv-loop μ-loop
-same-length c = search needs
-
-same-length-2 : tie.Need-same-length-2 Inv-loop μ-loop
-same-length-2 c = search needs
-
 returns : tie.Need-returns Inv-loop μ-loop
 returns c =
     let k = c .before .before .before .before in
@@ -121,23 +129,6 @@ returns c =
     let kept = going-full-kept (lent (start t)) (l .inv .0) (due t) none (wrote k) in
     (full-made (a .call) x begin (a .room .0) over, full-staged (a .call) x begin (a .room .0) over kept)
 
-enum-known-turn : tie.Need-enum-known-turn Inv-loop μ-loop
-enum-known-turn c = search needs
-
--- a turn that went on
-module _ (c : tie.After-turn Inv-loop μ-loop) where
-  abbrev turned : tie.After-take-step Inv-loop μ-loop
-  turned = c .before .before .before .before
-
-  abbrev from : tie.Then1 Inv-loop μ-loop
-  from = begun-at turned
-
-  went : (let a = start from .args in
-      let l = here from .loop in
-      turnFor (a .call) (a .input .now) (l .place) (a .room .0 - l .made) (nextStep (a .call) (a .input .now) (l .place)))
-      ≡ Went (c .turn .given .0 .0) (c .turn .given .0 .1 .0) (c .turn .given .0 .1 .1 .0)
-  went = sym (turned .take-step .ensures .0) ∙ c .turn .given .1
-
 add-made : tie.Need-add-made Inv-loop μ-loop
 add-made c =
     let v = c .before .before in
@@ -145,9 +136,6 @@ add-made c =
     let fits = going-fits (lent b) (here (from v) .loop .inv .0) (due (from v)) (went v) (wrote (turned v)) (turned v .take-step .ensures .2) in
     let few = count-le (b .args .call .channels) (b .args .room .0) (b .pre .0 .opened .channels-low) in
     record { fits = omega (arith, fits, few, lent b .area) }
-
-answer-requires : tie.Need-answer-requires Inv-loop μ-loop
-answer-requires c κs = search needs
 
 same-length-3 : tie.Need-same-length-3 Inv-loop μ-loop
 same-length-3 c = let v = c .before .before .before .before in turned v .take-step .kept .1 .1 .1 .0 ∙ here (from v) .loop .inv .1
@@ -178,6 +166,32 @@ loop-again c =
     let g = going-on (lent (start t)) (here t .loop .inv .0) (due t) (went v) (wrote (turned v)) order (c .if2 .left) in
     (g, search needs, search needs)
 
+returns-3 : tie.Need-returns-3 Inv-loop μ-loop
+returns-3 c =
+    let l = c .before .before .before in
+    let e = going-end (lent (l .before .before)) (l .loop .inv .0) (omega (arith, c .before .if1 .left, l .before .max-required .ensures)) in
+    (ap Made (c .answer2 .ensures) ∙ ended-made e, ended-staged e)
+
+-- ---- what search closes
+
+max-required-requires : tie.Need-max-required-requires Inv-loop μ-loop
+max-required-requires c κs = search needs
+
+enum-told : tie.Need-enum-told Inv-loop μ-loop
+enum-told c = search needs
+
+same-length : tie.Need-same-length Inv-loop μ-loop
+same-length c = search needs
+
+same-length-2 : tie.Need-same-length-2 Inv-loop μ-loop
+same-length-2 c = search needs
+
+enum-known-turn : tie.Need-enum-known-turn Inv-loop μ-loop
+enum-known-turn c = search needs
+
+answer-requires : tie.Need-answer-requires Inv-loop μ-loop
+answer-requires c κs = search needs
+
 answer-requires-2 : tie.Need-answer-requires-2 Inv-loop μ-loop
 answer-requires-2 c κs = search needs
 
@@ -187,38 +201,9 @@ same-length-5 c = search needs
 same-length-6 : tie.Need-same-length-6 Inv-loop μ-loop
 same-length-6 c = search needs
 
-returns-3 : tie.Need-returns-3 Inv-loop μ-loop
-returns-3 c =
-    let l = c .before .before .before in
-    let e = going-end (lent (l .before .before)) (l .loop .inv .0) (omega (arith, c .before .if1 .left, l .before .max-required .ensures)) in
-    (ap Made (c .answer2 .ensures) ∙ ended-made e, ended-staged e)
-
 pub change-speed-spec : {M : Type 1} → statement M
 change-speed-spec =
     tie.close
-    (tie.spec
-    Inv-loop
-    μ-loop
-    max-required-requires
-    loop-holds
-    add-if1
-    samples-requires
-    add-at
-    sub-left
-    take-step-requires
-    enum-told
-    same-length
-    same-length-2
-    returns
-    enum-known-turn
-    add-made
-    answer-requires
-    same-length-3
-    same-length-4
-    returns-2
-    loop-less
-    loop-again
-    answer-requires-2
-    same-length-5
-    same-length-6
-    returns-3)
+    (tie.spec Inv-loop μ-loop max-required-requires loop-holds add-if1 samples-requires add-at sub-left take-step-requires enum-told same-length
+    same-length-2 returns enum-known-turn add-made answer-requires same-length-3 same-length-4 returns-2 loop-less loop-again answer-requires-2
+    same-length-5 same-length-6 returns-3)

@@ -15,25 +15,7 @@ use Rattle.stretch.proofs.DueStep.{nextStep-copied, nextStep-searched, 
 use Rattle.stretch.proofs.steps.next_step.Statement.{statement}
 use Rattle.stretch.proofs.steps.next_step.Tie as tie
 
-copying-due-requires : tie.Need-copying-due-requires
-copying-due-requires c κs = search needs
-
-sub-left : tie.Need-sub-left
-sub-left c = search needs
-
-copy-count-requires : tie.Need-copy-count-requires
-copy-count-requires c κs = search needs
-
-returns : tie.Need-returns
-unfolding prevAfter
-returns c =
-    let b = c .before .before .before .before .before .before .before in
-    let a = b .args in
-    let x = a .input .now in
-    let due = sym (c .before .before .before .before .copying-due .ensures) ∙ c .before .before .before .if1 .taken in
-    let step : Copied (c .copy-count .result) ≡ nextStep (a .call) x (a .place) =
-    (λ i. Copied (record { 0 = c .copy-count .ensures .0 i })) ∙ sym (nextStep-copied (a .call) x (a .place) due) in
-    (step, ap (prevAfter (a .call) x (a .place)) step, b .pre .1 .0)
+-- ---- places, and what is known there
 
 -- the search stays within the frames held
 inside : (c : tie.Start)
@@ -44,20 +26,6 @@ inside c =
     let required = maxRequired (a .call .rate) in
     let m : (n + required) * a .call .channels ≤ a .call .held .0 * a .call .channels = mul-le-mul-right (a .call .channels) (c .pre .1 .1 .0) in
     omega (arith, m, c .pre .1 .1 .1, add-mul n required (a .call .channels))
-
-samples-requires : tie.Need-samples-requires
-samples-requires c κs = omega (arith, inside (c .before .before .before .before))
-
-search-at-requires : tie.Need-search-at-requires
-search-at-requires c κs =
-    let b = c .before .before .before .before .before .before in
-    (b .pre .0 .opened, (b .pre .1 .0, (omega (arith, inside b, c .before .samples .ensures), search needs)))
-
-period-step-requires : tie.Need-period-step-requires
-period-step-requires c κs = search needs
-
-same-length : tie.Need-same-length
-same-length c = search needs
 
 -- the search
 module _ (c : tie.After-search-at) where
@@ -71,6 +39,27 @@ module _ (c : tie.After-search-at) where
   not-copying : copyingDue (start .args .call .speed) (start .args .place .«time_error») ≡ false
   not-copying = sym (c .before .before .before .before .copying-due .ensures) ∙ c .before .before .before .if1 .left
 
+-- ---- needs
+
+returns : tie.Need-returns
+unfolding prevAfter
+returns c =
+    let b = c .before .before .before .before .before .before .before in
+    let a = b .args in
+    let x = a .input .now in
+    let due = sym (c .before .before .before .before .copying-due .ensures) ∙ c .before .before .before .if1 .taken in
+    let step : Copied (c .copy-count .result) ≡ nextStep (a .call) x (a .place) =
+    (λ i. Copied (record { 0 = c .copy-count .ensures .0 i })) ∙ sym (nextStep-copied (a .call) x (a .place) due) in
+    (step, ap (prevAfter (a .call) x (a .place)) step, b .pre .1 .0)
+
+samples-requires : tie.Need-samples-requires
+samples-requires c κs = omega (arith, inside (c .before .before .before .before))
+
+search-at-requires : tie.Need-search-at-requires
+search-at-requires c κs =
+    let b = c .before .before .before .before .before .before in
+    (b .pre .0 .opened, (b .pre .1 .0, (omega (arith, inside b, c .before .samples .ensures), search needs)))
+
 returns-2 : tie.Need-returns-2
 returns-2 c =
     let found = c .before .before .before .before in
@@ -83,16 +72,25 @@ returns-2 c =
     let same = ap (prevAfter (a .call) x (a .place)) due ∙ prevAfter-period (a .call) x (a .place) (a .call .speed) period in
     (step, ap (λ (z : Chosen). z .prev) (searched found) ∙ sym same, found .search-at .ensures .2)
 
+-- ---- what search closes
+
+copying-due-requires : tie.Need-copying-due-requires
+copying-due-requires c κs = search needs
+
+sub-left : tie.Need-sub-left
+sub-left c = search needs
+
+copy-count-requires : tie.Need-copy-count-requires
+copy-count-requires c κs = search needs
+
+period-step-requires : tie.Need-period-step-requires
+period-step-requires c κs = search needs
+
+same-length : tie.Need-same-length
+same-length c = search needs
+
 pub next-step-spec : {M : Type 1} → statement M
 next-step-spec =
     tie.close
-    (tie.spec
-    copying-due-requires
-    sub-left
-    copy-count-requires
-    returns
-    samples-requires
-    search-at-requires
-    period-step-requires
-    same-length
+    (tie.spec copying-due-requires sub-left copy-count-requires returns samples-requires search-at-requires period-step-requires same-length
     returns-2)

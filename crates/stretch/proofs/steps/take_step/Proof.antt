@@ -13,8 +13,7 @@ use Rattle.stretch.proofs.Soundness.{nextStep-sound, framesOut-le}
 use Rattle.stretch.proofs.steps.take_step.Statement.{statement}
 use Rattle.stretch.proofs.steps.take_step.Tie as tie
 
-next-step-requires : tie.Need-next-step-requires
-next-step-requires c κs = search needs
+-- ---- places, and what is known there
 
 -- the step that is due is sound, and the period record after it in order
 module _ (c : tie.After-next-step) where
@@ -37,13 +36,12 @@ module _ (c : tie.After-next-step) where
 out : (c : tie.After-frames-out) → c .frames-out .result .0 ≡ framesOut (step (c .before .before .before))
 out c = c .frames-out .ensures ∙ ap framesOut (c .before .before .before .next-step .ensures .0)
 
+-- ---- needs
+
 frames-out-requires : tie.Need-frames-out-requires
 frames-out-requires c κs =
     let n = c .before .before in
     omega (arith, sound n .within, framesOut-le (n .next-step .result .step), start n .pre .0 .few)
-
-same-length : tie.Need-same-length
-same-length c = search needs
 
 returns : tie.Need-returns
 unfolding turnFor stageFor
@@ -70,15 +68,6 @@ place-after-requires c κs =
     let n = c .before .before .before .before .before .before .before .before .before in
     (sound n, start n .pre .0 .few)
 
-stalls-requires : tie.Need-stalls-requires
-stalls-requires c κs = search needs
-
-same-length-2 : tie.Need-same-length-2
-same-length-2 c = search needs
-
-same-length-3 : tie.Need-same-length-3
-same-length-3 c = search needs
-
 returns-2 : tie.Need-returns-2
 unfolding turnFor stageFor after
 returns-2 c =
@@ -96,17 +85,25 @@ returns-2 c =
       in-order n,
     )
 
+-- ---- what search closes
+
+next-step-requires : tie.Need-next-step-requires
+next-step-requires c κs = search needs
+
+same-length : tie.Need-same-length
+same-length c = search needs
+
+stalls-requires : tie.Need-stalls-requires
+stalls-requires c κs = search needs
+
+same-length-2 : tie.Need-same-length-2
+same-length-2 c = search needs
+
+same-length-3 : tie.Need-same-length-3
+same-length-3 c = search needs
+
 pub take-step-spec : {M : Type 1} → statement M
 take-step-spec =
     tie.close
-    (tie.spec
-    next-step-requires
-    frames-out-requires
-    same-length
-    returns
-    write-step-requires
-    place-after-requires
-    stalls-requires
-    same-length-2
-    same-length-3
-    returns-2)
+    (tie.spec next-step-requires frames-out-requires same-length returns write-step-requires place-after-requires stalls-requires same-length-2
+    same-length-3 returns-2)

@@ -3,9 +3,9 @@ use borrow.Author.Needs.{needs}
 use mathlib.Core.Path.{_≡_, refl, sym, ap, _∙_}
 use native.Mathlib.Omega.{arith}
 use Rattle.stream.specs.declared.SonicStream.{SonicStream}
-use Rattle.sonic.specs.declared.Gave.{Gave}
-use Rattle.sonic.specs.Reading.{readCall, streamAfterRead}
-use Rattle.reels.specs.Areas.{blockSamples}
+use Rattle.read.specs.declared.Gave.{Gave}
+use Rattle.read.specs.Reading.{readCall, streamAfterRead}
+use Rattle.plans.specs.Plans.{blockSamples}
 use Rattle.reels.proofs.FramesRead.{Given, given-of, same-of}
 use Rattle.reels.proofs.Going.{failed-once, moved}
 use Rattle.reels.proofs.reel.Reel.write_out.Statement.{statement}

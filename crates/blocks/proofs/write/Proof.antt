@@ -1,0 +1,75 @@
+-- `blocks::write` meets its contract. Assumes nothing.
+use borrow.Author.Needs.{needs}
+use mathlib.Core.Path.{ap, _∙_}
+use Prim.Native.Nat.{ℕ, _+_, _%_, _^_}
+use Rattle.sonic.specs.declared.Wrote.{Wrote}
+use Rattle.frames.specs.Areas.{areas}
+use Rattle.sonic.specs.Calls.{writeCall}
+use Rattle.blocks.proofs.Parts.{answered-with}
+use Rattle.blocks.proofs.write.Statement.{statement}
+use Rattle.blocks.proofs.write.Tie as tie
+
+-- ---- the places
+
+abbrev start : tie.After-write-f32 → tie.Start
+start w = w .before .before .before .before .before .before
+
+abbrev after-write : tie.After-frames → tie.After-write-f32
+after-write c = c .before .before .before .before .before
+
+-- ---- the answer
+
+abbrev answer : tie.After-write-f32 → Wrote
+answer w =
+    let a = start w .args in
+    writeCall (a .reel .stream) (a .samples .now) (areas (a .input .now) (a .stage .now) (a .output .now) (a .scratch .now)) .answer
+
+returns : tie.Need-returns
+returns c =
+    let n = c .before in
+    let f = n .before in
+    let w = after-write f in
+    let t = n .answered .result in
+    let written = c .wrapping-add-u64 .ensures ∙ ap (λ (k : ℕ). (start w .args .reel .written + k) % 2 ^ 64) (f .frames .ensures) in
+    answered-with t (c .wrapping-add-u64 .result) (t .flushed) {answer = answer w} (w .write-f32 .ensures .0 .answer) written
+    (n .answered .ensures .flushed-is) (n .answered .ensures)
+
+-- ---- what search closes
+
+write-f32-requires : tie.Need-write-f32-requires
+write-f32-requires c κs = search needs
+
+frames-requires : tie.Need-frames-requires
+frames-requires c κs = search needs
+
+answered-requires : tie.Need-answered-requires
+answered-requires c κs = search needs
+
+wrapping-add-u64-requires : tie.Need-wrapping-add-u64-requires
+wrapping-add-u64-requires c κs = search needs
+
+same-length : tie.Need-same-length
+same-length c = search needs
+
+same-length-2 : tie.Need-same-length-2
+same-length-2 c = search needs
+
+same-length-3 : tie.Need-same-length-3
+same-length-3 c = search needs
+
+same-length-4 : tie.Need-same-length-4
+same-length-4 c = search needs
+
+pub write-spec : {M : Type 1} → statement M
+write-spec =
+    tie.close
+    (tie.spec
+    write-f32-requires
+    frames-requires
+    answered-requires
+    wrapping-add-u64-requires
+    same-length
+    same-length-2
+    same-length-3
+    same-length-4
+    returns)

@@ -1,0 +1,19 @@
+-- What the writes of a block promise: none of its frames is left out unseen. Definitions only. Assumes nothing.
+use mathlib.Core.Path.{_≡_}
+use mathlib.Core.Bool.{true, false}
+use Prim.Native.Nat.{ℕ, _+_, _%_, _^_}
+use Rattle.reels.specs.declared.reel.Reel.{Reel}
+use Rattle.reels.specs.Reels.{going, SameInput}
+
+-- after writes of n frames of a block: a run still going has written them all
+pub record PartWritten (n : ℕ) (r r' : Reel) : Type 0 where
+  pub still : going r' ≡ true → going r ≡ true
+  pub written-is : going r' ≡ true → r' .written ≡ (r .written + n) % 2 ^ 64
+  pub input-kept : SameInput r r'
+  pub flushed-kept : r' .flushed ≡ r .flushed
+  pub channels-kept : r' .stream .channels ≡ r .stream .channels
+
+-- after the writes of a block of n frames: what they made was written out
+pub record BlockWritten (n : ℕ) (r r' : Reel) : Type 0 where
+  pub part : PartWritten n r r'
+  pub none-waits : r' .failed ≡ false → r' .refusal ≡ 0 → r' .stream .waiting .0 ≡ 0

@@ -1,0 +1,85 @@
+// A block is written to the stream, in writes that fill its input as far as the plan says. `specs/Blocks.antt` says what is promised.
+use frames::Frames;
+use frames::Samples;
+use plans::BLOCK_SAMPLES;
+use plans::Plan;
+use reels::reel::Reel;
+ghost use mathlib.Core.Path.{_≡_};
+ghost use Prim.Native.Nat.{_+_, _*_, _/_, _%_, _^_, _≤_, _<_};
+ghost use lib.ListN.{length};
+ghost use Rattle.frames.specs.Areas.{areas};
+ghost use Rattle.sonic.specs.Calls.{writeCall};
+ghost use Rattle.plans.specs.Plans.{Usable};
+ghost use Rattle.reels.specs.Reels.{Answered};
+ghost use Rattle.blocks.specs.Blocks.{BlockWritten};
+
+// Where a write that begins at `at` ends: it fills the input up to the plan's `full` frames, or takes all that is left.
+fn write_end(at: usize, len: usize, held: Frames, plan: Plan) -> usize
+    requires { ⌜ Usable plan × (at < len) × (at % plan .channels ≡ 0) × (len % plan .channels ≡ 0) ⌝ }
+    ensures { λ r. ⌜ (at < r) × (r ≤ len) × (r % plan .channels ≡ 0) ⌝ }
+{
+    let frames = if held.0 < plan.full {
+        plan.full - held.0
+    } else {
+        1
+    };
+    let size = Frames(frames).samples(plan.channels).0;
+    if size < len - at { at + size } else { len }
+}
+
+// One write.
+fn write(
+    reel: Reel,
+    samples: &[f32],
+    channels: usize,
+    input: &mut [i16],
+    stage: &mut [i16],
+    output: &mut [i16],
+    scratch: &mut [i16],
+) -> Reel
+    requires { ⌜ (1 ≤ channels) × (reel .stream .channels ≡ channels) × (length (now samples) % channels ≡ 0) ⌝ }
+    ensures { λ r. ⌜ Answered ((reel .written + length (now (samples .entry)) / channels) % 2 ^ 64) (reel .flushed) reel
+        (writeCall (reel .stream) (now (samples .entry))
+        (areas (now (input .entry)) (now (stage .entry)) (now (output .entry)) (now (scratch .entry))) .answer) r ⌝ }
+{
+    let answer = sonic::write_f32(reel.stream, samples, input, stage, output, scratch);
+    let n = Samples(samples.len()).frames(channels);
+    let mut after = reel.answered(answer);
+    after.written = std::num::wrapping_add_u64(reel.written, n.0 as u64);
+    after
+}
+
+// Writes a block to the stream, and writes out what that makes. Between its writes fewer frames wait than a block holds.
+pub fn write_block(
+    mut reel: Reel,
+    block: &[f32],
+    plan: Plan,
+    input: &mut [i16],
+    stage: &mut [i16],
+    output: &mut [i16],
+    scratch: &mut [i16],
+    values: &mut [f32],
+    bytes: &mut [u8],
+) -> Reel
+    requires { ⌜ Usable plan × (reel .stream .channels ≡ plan .channels) × (length (now block) % plan .channels ≡ 0) ⌝ }
+    requires { ⌜ (32 ≤ length (now values)) × (2 * length (now values) ≤ length (now bytes)) ⌝ }
+    ensures { λ r. ⌜ BlockWritten (length (now (block .entry)) / plan .channels) reel r ⌝ }
+{
+    let few = Samples(BLOCK_SAMPLES).frames(plan.channels).0;
+    let mut at: usize = 0;
+    while at < block.len() && reel.is_going() {
+        let end = write_end(at, block.len(), reel.stream.held, plan);
+        reel = write(
+            reel,
+            &block[at..end],
+            plan.channels,
+            input,
+            stage,
+            output,
+            scratch,
+        );
+        reel = reel.drain(few, output, values, bytes);
+        at = end;
+    }
+    reel.drain(1, output, values, bytes)
+}

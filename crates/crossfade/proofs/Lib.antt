@@ -1,0 +1,4 @@
+pub mod Reciprocal
+pub mod WeightedMean
+pub mod Crossfading
+pub mod Figures

@@ -1,0 +1,123 @@
+-- `jobs::arguments::read` meets its contract: the default job and a checked one are in their ranges. Assumes nothing.
+use borrow.Author.Needs.{needs}
+use mathlib.Core.Path.{_≡_, refl}
+use mathlib.Core.Bool.{Bool, true, false, cond}
+use lib.Ieee.{ofBits, le, lt, eq}
+use Rattle.stream.specs.Refusals.{rateBad, channelsBad, within}
+use Rattle.floats.specs.Settings.{minSpeed, maxSpeed, minPitch, maxPitch, minVolume, maxVolume}
+use Rattle.jobs.specs.declared.Job.{Job}
+use Rattle.jobs.specs.declared.Asked.{Asked}
+use Rattle.jobs.specs.Arguments.{askedOf, AskedInRange}
+use Rattle.jobs.proofs.arguments.read.Statement.{statement}
+use Rattle.jobs.proofs.arguments.read.Tie as tie
+
+-- ---- places, and what is known there
+
+-- a job that is answered is the one that was checked
+same-job : (j k : Job) → Asked.Run k ≡ askedOf j → k ≡ j
+unfolding askedOf
+same-job j k =
+    go (rateBad (j .rate)) (channelsBad (j .channels)) (within minSpeed maxSpeed (j .speed)) (within minPitch maxPitch (j .pitch))
+    (within minVolume maxVolume (j .volume))
+  where
+    go : (rate channels speed pitch volume : Bool)
+        → Asked.Run k ≡ cond rate (Asked.Wrong 1) (cond channels (Asked.Wrong 2)
+        (cond speed (cond pitch (cond volume (Asked.Run j) (Asked.Wrong 5)) (Asked.Wrong 4)) (Asked.Wrong 3))) → k ≡ j
+    go true _ _ _ _ e = cc
+    go false true _ _ _ e = cc
+    go false false false _ _ e = cc
+    go false false true false _ e = cc
+    go false false true true false e = cc
+    go false false true true true e = cc
+
+asked-in-range : (j : Job) (r : Asked) → r ≡ askedOf j → AskedInRange r
+asked-in-range j Asked.Help e = tt
+asked-in-range j (Asked.Wrong place) e = tt
+asked-in-range j (Asked.Run k) e = cc (same-job j k e)
+
+-- ---- needs
+
+returns : tie.Need-returns
+unfolding askedOf rateBad channelsBad ofBits le lt eq
+returns c = refl
+
+returns-4 : tie.Need-returns-4
+returns-4 c = asked-in-range _ (c .checked .result) (c .checked .ensures)
+
+-- ---- what search closes
+
+arg-count-requires : tie.Need-arg-count-requires
+arg-count-requires c κs = search needs
+
+skipped-requires : tie.Need-skipped-requires
+skipped-requires c κs = search needs
+
+add-if1 : tie.Need-add-if1
+add-if1 c = search needs
+
+add-if2 : tie.Need-add-if2
+add-if2 c = search needs
+
+add-is-word : tie.Need-add-is-word
+add-is-word c = search needs
+
+slice-aggregate-is-word : tie.Need-slice-aggregate-is-word
+slice-aggregate-is-word c = search needs
+
+is-word-requires : tie.Need-is-word-requires
+is-word-requires c κs = search needs
+
+returns-2 : tie.Need-returns-2
+returns-2 c = search needs
+
+add-if4 : tie.Need-add-if4
+add-if4 c = search needs
+
+add-if5 : tie.Need-add-if5
+add-if5 c = search needs
+
+returns-3 : tie.Need-returns-3
+returns-3 c = search needs
+
+add-if6 : tie.Need-add-if6
+add-if6 c = search needs
+
+add-value : tie.Need-add-value
+add-value c = search needs
+
+value-requires : tie.Need-value-requires
+value-requires c κs = search needs
+
+add-whole : tie.Need-add-whole
+add-whole c = search needs
+
+whole-requires : tie.Need-whole-requires
+whole-requires c κs = search needs
+
+add-whole-2 : tie.Need-add-whole-2
+add-whole-2 c = search needs
+
+whole-requires-2 : tie.Need-whole-requires-2
+whole-requires-2 c κs = search needs
+
+add-value-2 : tie.Need-add-value-2
+add-value-2 c = search needs
+
+value-requires-2 : tie.Need-value-requires-2
+value-requires-2 c κs = search needs
+
+add-value-3 : tie.Need-add-value-3
+add-value-3 c = search needs
+
+value-requires-3 : tie.Need-value-requires-3
+value-requires-3 c κs = search needs
+
+checked-requires : tie.Need-checked-requires
+checked-requires c κs = search needs
+
+pub read-spec : {M : Type 1} → statement M
+read-spec =
+    tie.close
+    (tie.spec arg-count-requires skipped-requires add-if1 returns add-if2 add-is-word slice-aggregate-is-word is-word-requires returns-2 add-if4
+    add-if5 returns-3 add-if6 add-value value-requires add-whole whole-requires add-whole-2 whole-requires-2 add-value-2 value-requires-2 add-value-3
+    value-requires-3 checked-requires returns-4)

@@ -1,0 +1,15 @@
+-- The stream of a job: a fresh one with the job's settings. Definitions only. Assumes nothing.
+use Rattle.stream.specs.declared.Setting.{Setting}
+use Rattle.stream.specs.declared.Setting.the-variants.{Speed, Pitch, Volume}
+use Rattle.stream.specs.declared.SonicStream.{SonicStream}
+use Rattle.stream.specs.Stream.{streamOf, unlent}
+use Rattle.stream.specs.Settings.{withSetting}
+use Rattle.jobs.specs.declared.Job.{Job}
+
+-- a stream with one setting changed
+abbrev pub withOne : SonicStream → Setting → SonicStream
+withOne s v = streamOf (withSetting v (unlent s)) (s .waiting .0)
+
+-- speed, then pitch, then volume
+abbrev pub settled : SonicStream → Job → SonicStream
+settled s j = withOne (withOne (withOne s (Speed (j .speed))) (Pitch (j .pitch))) (Volume (j .volume))

@@ -1,0 +1,30 @@
+// The stream of a job.
+use crate::Job;
+use stream::Changed;
+use stream::Setting;
+use stream::SonicStream;
+ghost use mathlib.Core.Path.{_≡_};
+ghost use mathlib.Core.Bool.{true};
+ghost use Rattle.stream.specs.Refusals.{inOrder};
+ghost use Rattle.jobs.specs.Settings.{withOne, settled};
+
+// A stream with one setting changed.
+fn set(stream: SonicStream, setting: Setting) -> SonicStream
+    requires { ⌜ inOrder stream ≡ true ⌝ }
+    ensures { λ r. ⌜ (inOrder r ≡ true) × (r ≡ withOne stream setting) ⌝ }
+{
+    match stream.set(setting) {
+        Changed::Refused(_, same) => same,
+        Changed::Done(changed) => changed,
+    }
+}
+
+// A fresh stream with the job's settings.
+pub fn settle(fresh: SonicStream, job: Job) -> SonicStream
+    requires { ⌜ inOrder fresh ≡ true ⌝ }
+    ensures { λ r. ⌜ (inOrder r ≡ true) × (r ≡ settled fresh job) ⌝ }
+{
+    let faster = set(fresh, Setting::Speed(job.speed));
+    let pitched = set(faster, Setting::Pitch(job.pitch));
+    set(pitched, Setting::Volume(job.volume))
+}
