@@ -19,6 +19,13 @@ use Rattle.sinc.proofs.interpolate.Tie as tie
 
 -- ---- the invariant
 
+-- the taps of a channel, the first at `from`; the weights
+abbrev taps : List ℤ → ℕ → ℕ → ℕ → ℤ
+taps stage from channels i = getD stage (from + i * channels) (pos 0)
+
+abbrev values : List ℤ → ℕ → ℤ
+values weights i = getD weights i (pos 0)
+
 abbrev Inv-loop : tie.InvT-loop
 Inv-loop stage channels weights f sum₀ i₀ sum i =
     (i ≤ sincFilterPoints) × (toZ w64 sum ≡ weightedSum (taps stage f channels) (values weights) i)
@@ -28,13 +35,6 @@ abbrev μ-loop : tie.MeasureT-loop
 μ-loop stage channels weights f sum₀ i₀ sum i = sincFilterPoints - i
 
 -- ---- places, and what is known there
-
--- the taps of a channel, the first at `from`; the weights
-abbrev taps : List ℤ → ℕ → ℕ → ℕ → ℤ
-taps stage from channels i = getD stage (from + i * channels) (pos 0)
-
-abbrev values : List ℤ → ℕ → ℤ
-values weights i = getD weights i (pos 0)
 
 -- the tap at i lies in the stage
 inside : (c : tie.In-loop Inv-loop μ-loop)

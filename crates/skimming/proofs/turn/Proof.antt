@@ -6,7 +6,7 @@ use native.Mathlib.Omega.{arith}
 use lib.ListN.{length-take}
 use Rattle.stream.specs.declared.SonicStream.{SonicStream}
 use Rattle.reels.proofs.Blocks.{front-length}
-use Rattle.skimming.specs.Skimming.{BlockWritten}
+use Rattle.blocks.specs.Blocks.{BlockWritten}
 use Rattle.skimming.proofs.Turning.{samples-whole, turned}
 use Rattle.skimming.proofs.turn.Statement.{statement}
 use Rattle.skimming.proofs.turn.Tie as tie

@@ -1,7 +1,7 @@
 -- `jobs::settling::set` meets its contract: a setting of a stream in order is accepted. Assumes nothing.
 use borrow.Author.Needs.{needs}
 use mathlib.Core.Path.{sym, _∙_}
-use Rattle.jobs.proofs.Settling.{never-refused, stays-set}
+use Rattle.jobs.proofs.SettingDone.{never-refused, stays-set}
 use Rattle.jobs.proofs.settling.set.Statement.{statement}
 use Rattle.jobs.proofs.settling.set.Tie as tie
 
