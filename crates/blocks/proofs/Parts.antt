@@ -7,7 +7,7 @@ use mathlib.Core.Bool.{Bool, true}
 use Prim.Native.Nat.{ℕ, _+_, _%_, _^_, _≤_, _<_}
 use native.Mathlib.Nat.{mod-eq-of-lt}
 use native.Mathlib.Omega.{arith}
-use Rattle.sonic.specs.declared.Wrote.{Wrote}
+use Rattle.adding.specs.declared.Wrote.{Wrote}
 use Rattle.reels.specs.declared.reel.Reel.{Reel}
 use Rattle.reels.specs.Reels.{going, Answered, WrittenOut, Drained}
 use Rattle.reels.proofs.Blocks.{counted}

@@ -13,7 +13,7 @@ use Rattle.stream.specs.Refusals.{refusal}
 use Rattle.process.specs.declared.Outcome.{Outcome}
 use Rattle.process.specs.Process.{Made, wholeFrames, writeWork}
 use Rattle.process.proofs.Taken.{write-settings}
-use Rattle.sonic.specs.Calls.{refusedCall, acceptedCall, callBy, writeCall, streamAfter}
+use Rattle.adding.specs.Calls.{refusedCall, acceptedCall, callBy, writeCall, streamAfter}
 
 module _ (s : SonicStream) (a : Areas) where
   channels-by : (k : ℕ) (outcome : Outcome) (t : State) (frames : List Frame) → t .channels ≡ s .channels

@@ -8,7 +8,7 @@ ghost use mathlib.Core.Path.{_≡_};
 ghost use Prim.Native.Nat.{_+_, _*_, _/_, _%_, _^_, _≤_, _<_};
 ghost use lib.ListN.{length};
 ghost use Rattle.frames.specs.Areas.{areas};
-ghost use Rattle.sonic.specs.Calls.{writeCall};
+ghost use Rattle.adding.specs.Calls.{writeCall};
 ghost use Rattle.plans.specs.Plans.{Usable};
 ghost use Rattle.reels.specs.Reels.{Answered};
 ghost use Rattle.blocks.specs.Blocks.{BlockWritten};

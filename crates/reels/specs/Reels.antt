@@ -11,9 +11,9 @@ use lib.Dec.{eqb, ltb}
 use Rattle.process.specs.declared.Outcome.{Outcome}
 use Rattle.process.specs.declared.Outcome.the-variants.{Empty, Copied, Waiting, Stretched, Stalled}
 use Rattle.stream.specs.declared.SonicStream.{SonicStream}
-use Rattle.sonic.specs.declared.Wrote.{Wrote}
+use Rattle.adding.specs.declared.Wrote.{Wrote}
 use Rattle.read.specs.declared.Gave.{Gave}
-use Rattle.sonic.specs.Calls.{streamAfter}
+use Rattle.adding.specs.Calls.{streamAfter}
 use Rattle.read.specs.Reading.{streamAfterRead}
 use Rattle.plans.specs.declared.Plan.{Plan}
 use Rattle.reels.specs.declared.reading.BlockBytes.{BlockBytes}

@@ -1,10 +1,10 @@
 // A run: its stream, with what is told of it at the end.
+use adding::Wrote;
 use frames::Frames;
 use libc::STDOUT_FILENO;
 use plans::BLOCK_SAMPLES;
-use sonic::Gave;
-use sonic::Outcome;
-use sonic::Wrote;
+use process::Outcome;
+use read::Gave;
 use stream::SonicStream;
 use stream::refusals;
 ghost use mathlib.Core.Path.{_≡_};
@@ -124,7 +124,7 @@ impl Reel {
         ensures { λ r. ⌜ FewerWait (readCall (self .stream) blockSamples (now (values .entry)) (now (output .entry)) .answer) self r ⌝ }
     {
         let channels = self.stream.channels as usize;
-        match sonic::read_f32(self.stream, Frames(BLOCK_SAMPLES), values, output) {
+        match read::read_f32(self.stream, Frames(BLOCK_SAMPLES), values, output) {
             Gave::Refused(number, stream) => {
                 self.stream = stream;
                 self.refusal = number;

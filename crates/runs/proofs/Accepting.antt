@@ -18,7 +18,7 @@ use Rattle.stream.specs.State.{State}
 use Rattle.stream.specs.Stream.{stateOf, streamOf}
 use Rattle.stream.specs.Refusals.{refusal}
 use Rattle.process.specs.Process.{Made, wholeFrames, joined, process, writeWork, flushWork, expected, cleared}
-use Rattle.sonic.proofs.Room.{Room, room-of}
+use Rattle.adding.proofs.Room.{Room, room-of}
 use Rattle.runs.specs.Ledger.{write, flush, Ledger, entry}
 use Rattle.runs.specs.Run.{Moment, Lent}
 use Rattle.runs.proofs.KeptParts.{frames-shown}

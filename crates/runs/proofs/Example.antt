@@ -29,9 +29,9 @@ use Rattle.stream.specs.Refusals.{inOrder, sizesBad, partsBad, areasBad, output
 use Rattle.stream.specs.Settings.{fresh, withSetting, openCall, setCall}
 use Rattle.process.specs.declared.Outcome.the-variants.{Copied}
 use Rattle.process.specs.Process.{wholeFrames, joined, removed, nothing, copied, takenAt, taken, finished, process, writeWork, flushWork, expected, cleared}
-use Rattle.sonic.specs.declared.Wrote.{Wrote}
+use Rattle.adding.specs.declared.Wrote.{Wrote}
 use Rattle.read.specs.declared.Gave.{Gave}
-use Rattle.sonic.specs.Calls.{refusedCall, acceptedCall, writeCall, flushCall}
+use Rattle.adding.specs.Calls.{refusedCall, acceptedCall, writeCall, flushCall}
 use Rattle.read.specs.Reading.{readCount, readCall}
 use Rattle.runs.specs.Ledger.{Ledger, begun, entry, posted, ledgerFrom, ledger}
 use Rattle.runs.specs.Run.{ReadAreas, Event, setting-went, write-went, flush-went, read-went, opening, Agree, leave}

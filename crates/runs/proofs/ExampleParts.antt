@@ -32,8 +32,8 @@ use Rattle.stream.specs.Refusals.{sizesBad, partsBad, areasBad, refusal}
 use Rattle.stream.specs.Settings.{fresh, withSetting, openCall, setCall}
 use Rattle.process.specs.declared.Outcome.the-variants.{Copied}
 use Rattle.process.specs.Process.{wholeFrames, joined, removed, nothing, copied, takenAt, taken, finished, process, writeWork, flushWork, expected, cleared}
-use Rattle.sonic.specs.declared.Wrote.{Wrote}
-use Rattle.sonic.specs.Calls.{refusedCall, acceptedCall, writeCall, flushCall}
+use Rattle.adding.specs.declared.Wrote.{Wrote}
+use Rattle.adding.specs.Calls.{refusedCall, acceptedCall, writeCall, flushCall}
 use Rattle.runs.specs.Ledger.{setting, write, begun, entry, posted, ledgerFrom, ledger}
 use Rattle.runs.specs.Run.{Event, setting-went, write-went, flush-went, opening, Agree, leave, afterSetting, afterCall, after, end, values, total, fed}
 use Rattle.runs.specs.Demand.{RunOf, last, ledgerOf, unlessRead, acceptedIn, marked, joinedFrames, framesIn}

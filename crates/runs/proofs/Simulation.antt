@@ -15,7 +15,7 @@ use Rattle.stream.specs.Stream.{stateOf, streamOf, zeroStream}
 use Rattle.stream.specs.Refusals.{badRate, badChannels, rateBad, channelsBad, inOrder, refusal, readRefusal}
 use Rattle.stream.specs.Settings.{fresh, openCall, setCall}
 use Rattle.process.specs.Process.{Made, wholeFrames, writeWork, flushWork, expected, cleared}
-use Rattle.sonic.specs.Calls.{writeCall, flushCall, CallEnsures}
+use Rattle.adding.specs.Calls.{writeCall, flushCall, CallEnsures}
 use Rattle.read.specs.Reading.{readCount, readCall, ReadEnsures}
 use Rattle.stream.proofs.Passing.{read-room}
 use Rattle.runs.specs.Ledger.{write, flush, Ledger, begun, posted, ledgerFrom, ledger}

@@ -12,8 +12,8 @@ use Rattle.stream.specs.declared.SonicStream.{SonicStream}
 use Rattle.stream.specs.State.{State}
 use Rattle.stream.specs.Stream.{streamOf}
 use Rattle.process.specs.declared.Outcome.{Outcome}
-use Rattle.sonic.specs.declared.Wrote.{Wrote}
-use Rattle.sonic.specs.Calls.{refusedCall, acceptedCall, callBy, CallEnsures}
+use Rattle.adding.specs.declared.Wrote.{Wrote}
+use Rattle.adding.specs.Calls.{refusedCall, acceptedCall, callBy, CallEnsures}
 use Rattle.runs.specs.Ledger.{Call, Ledger, entry, posted}
 use Rattle.runs.specs.Run.{Moment, Lent, SameLengths, leave, afterCall, values, callAccepted}
 use Rattle.runs.proofs.KeptParts.{frames-shown, frames-kept, frames-left, length-left}

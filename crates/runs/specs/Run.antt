@@ -16,9 +16,9 @@ use Rattle.stream.specs.declared.Setting.{Setting}
 use Rattle.stream.specs.declared.Changed.{Changed}
 use Rattle.stream.specs.Settings.{setCall}
 use Rattle.process.specs.declared.Outcome.{Outcome}
-use Rattle.sonic.specs.declared.Wrote.{Wrote}
+use Rattle.adding.specs.declared.Wrote.{Wrote}
 use Rattle.read.specs.declared.Gave.{Gave}
-use Rattle.sonic.specs.Calls.{writeCall, flushCall, CallEnsures, streamAfter}
+use Rattle.adding.specs.Calls.{writeCall, flushCall, CallEnsures, streamAfter}
 use Rattle.read.specs.Reading.{readCall, ReadEnsures, streamAfterRead, countRead}
 use Rattle.runs.specs.Ledger.{setting, write, flush, read, Fed}
 

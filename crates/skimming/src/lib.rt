@@ -10,7 +10,7 @@ ghost use mathlib.Core.Path.{_≡_};
 ghost use Prim.Native.Nat.{_%_};
 ghost use lib.ListN.{length};
 ghost use Rattle.frames.specs.Areas.{areas};
-ghost use Rattle.sonic.specs.Calls.{flushCall};
+ghost use Rattle.adding.specs.Calls.{flushCall};
 ghost use Rattle.plans.specs.Plans.{blockSamples, blockBytes, Usable};
 ghost use Rattle.skimming.specs.Skimming.{Turned, Flushed, ReelReady, Complete};
 

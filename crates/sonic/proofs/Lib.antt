@@ -1,7 +1,1 @@
-pub mod Room
 pub mod Stalls
-mod Answers
-mod Joining
-mod Adding
-mod Writing
-mod Clearing

@@ -21,11 +21,11 @@ use Rattle.stream.proofs.AreaTests.{areas-of}
 use Rattle.process.specs.declared.Outcome.{Outcome}
 use Rattle.process.specs.Process.{wholeFrames, joined, writeWork, flushWork}
 use Rattle.process.proofs.Claims.{Held, StallsExactly, stalled-exactly}
-use Rattle.sonic.specs.declared.Wrote.{Wrote}
-use Rattle.sonic.specs.Calls.{refusedCall, acceptedCall, callBy, writeCall, flushCall}
-use Rattle.sonic.specs.Adding.{Accepted}
-use Rattle.sonic.proofs.Room.{room-of}
-use Rattle.sonic.proofs.Adding.{workOf}
+use Rattle.adding.specs.declared.Wrote.{Wrote}
+use Rattle.adding.specs.Calls.{refusedCall, acceptedCall, callBy, writeCall, flushCall}
+use Rattle.adding.specs.Adding.{Accepted}
+use Rattle.adding.proofs.Room.{room-of}
+use Rattle.adding.proofs.Adding.{workOf}
 
 -- a call that answers `Done` was not refused, and its outcome is that of the work
 done-of : (number : ℕ) (s t : SonicStream) (a : Areas) (o o' : Outcome) (state : State) (frames : List Frame)

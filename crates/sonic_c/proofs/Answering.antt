@@ -5,9 +5,9 @@ use Prim.Native.Nat.{ℕ}
 use lib.IntN.{ℤ}
 use lib.Ieee.{Float}
 use Rattle.frames.specs.Areas.{Areas}
-use Rattle.sonic.specs.declared.Wrote as write-answer
+use Rattle.adding.specs.declared.Wrote as write-answer
 use Rattle.read.specs.declared.Gave as read-answer
-use Rattle.sonic.specs.Calls.{CallResult, CallEnsures}
+use Rattle.adding.specs.Calls.{CallResult, CallEnsures}
 use Rattle.read.specs.Reading.{ReadResult, ReadEnsures}
 use Rattle.sonic_c.specs.declared.Wrote.{Wrote}
 use Rattle.sonic_c.specs.declared.Gave.{Gave}

@@ -14,9 +14,9 @@ use Rattle.stream.specs.declared.Available as available-answer
 use Rattle.stream.specs.Refusals.{accepted}
 use Rattle.process.specs.declared.Outcome.{Outcome}
 use Rattle.process.specs.declared.Outcome.the-variants.{Empty, Copied, Waiting, Stretched, Stalled}
-use Rattle.sonic.specs.declared.Wrote as write-answer
+use Rattle.adding.specs.declared.Wrote as write-answer
 use Rattle.read.specs.declared.Gave as read-answer
-use Rattle.sonic.specs.Calls.{CallResult}
+use Rattle.adding.specs.Calls.{CallResult}
 use Rattle.read.specs.Reading.{ReadResult}
 use Rattle.sonic_c.specs.declared.Opened.{Opened}
 use Rattle.sonic_c.specs.declared.Changed.{Changed}

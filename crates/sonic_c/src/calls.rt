@@ -16,7 +16,7 @@ ghost use mathlib.Core.Path.{_≡_};
 ghost use Rattle.frames.specs.Areas.{areas};
 ghost use Rattle.stream.specs.declared.Setting.the-variants.{Speed, Pitch, Volume};
 ghost use Rattle.stream.specs.Settings.{openCall, setCall, availableCall};
-ghost use Rattle.sonic.specs.Calls.{writeCall, flushCall};
+ghost use Rattle.adding.specs.Calls.{writeCall, flushCall};
 ghost use Rattle.read.specs.Reading.{readCall};
 ghost use Rattle.sonic_c.specs.Answers.{openedOf, changedOf, availableOf, WroteEnsures, GaveEnsures};
 

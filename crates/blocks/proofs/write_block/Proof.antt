@@ -10,7 +10,7 @@ use native.Mathlib.Omega.{arith}
 use lib.Ieee.{Float}
 use lib.ListN.{length, take, drop}
 use Rattle.frames.specs.Areas.{Areas, areas}
-use Rattle.sonic.specs.Calls.{writeCall}
+use Rattle.adding.specs.Calls.{writeCall}
 use Rattle.reels.specs.Reels.{going}
 use Rattle.reels.proofs.Blocks.{few-least, write-frames, write-whole}
 use Rattle.reels.proofs.Going.{failed-once}

@@ -4,9 +4,9 @@ use mathlib.Core.Path.{_≡_, refl, sym, _∙_}
 use mathlib.Core.Bool.{true, false, not}
 use borrow.Author.Tests.{not-true, not-false}
 use lib.Dec.{eqb}
-use Rattle.sonic.specs.declared.Wrote.{Wrote}
+use Rattle.adding.specs.declared.Wrote.{Wrote}
 use Rattle.frames.specs.Areas.{areas}
-use Rattle.sonic.specs.Calls.{flushCall}
+use Rattle.adding.specs.Calls.{flushCall}
 use Rattle.stream.proofs.InOrder.{both}
 use Rattle.reels.specs.Reels.{going}
 use Rattle.reels.proofs.Going.{failed-once}

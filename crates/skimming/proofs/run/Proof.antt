@@ -6,7 +6,7 @@ use native.Mathlib.Omega.{arith}
 use borrow.Author.Tests.{not-true, not-false}
 use lib.ListN.{length}
 use Rattle.frames.specs.Areas.{Areas, areas}
-use Rattle.sonic.specs.Calls.{flushCall}
+use Rattle.adding.specs.Calls.{flushCall}
 use Rattle.reels.specs.declared.reel.Reel.{Reel}
 use Rattle.skimming.proofs.Turning.{Level, level-start, level-again, Closed, closed-failed, closed-ended, complete}
 use Rattle.skimming.proofs.run.Statement.{statement}

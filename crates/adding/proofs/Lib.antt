@@ -1,0 +1,4 @@
+pub mod Room
+pub mod Answers
+pub mod Joining
+pub mod Adding

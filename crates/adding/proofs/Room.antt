@@ -1,0 +1,45 @@
+-- What a write or a flush says of its stream and its areas when it was accepted. For the crates above. Assumes nothing.
+use mathlib.Core.Path.{_≡_}
+use mathlib.Core.Bool.{not}
+use Prim.Native.Nat.{ℕ, _+_, _*_, _≤_}
+use native.Mathlib.Omega.{arith}
+use borrow.Author.Tests.{ltb-false}
+use lib.ListN.{length}
+use Rattle.frames.specs.Areas.{Areas}
+use Rattle.stream.specs.declared.SonicStream.{SonicStream}
+use Rattle.stream.specs.Refusals.{accepted, badStream, badAreas, inputFull, stageFull, outputFull, inOrder, tooShort, areasBad, refusal}
+use Rattle.stream.proofs.AreaTests.{areas-of}
+use Rattle.stream.proofs.Passing.{passed, in-order-passed}
+use Rattle.adding.specs.Adding.{Accepted}
+
+-- the facts behind an accepted write or flush that adds, stages and makes so many frames
+pub record Room (s : SonicStream) (a : Areas) (added staged made : ℕ) : Type 0 where
+  pub accepted : Accepted s a added
+  pub held-fits : s .held .0 * s .channels ≤ length (a .input)
+  pub tail-fits : s .tail .0 * s .channels ≤ length (a .stage)
+  pub waiting-fits : s .waiting .0 * s .channels ≤ length (a .output)
+  pub stage : (s .tail .0 + staged) * s .channels ≤ length (a .stage)
+  pub output : (s .waiting .0 + made) * s .channels ≤ length (a .output)
+
+pub room-of : (s : SonicStream) (a : Areas) (added staged made : ℕ) → refusal s a added staged made ≡ accepted → Room s a added staged made
+unfolding refusal
+room-of s a added staged made e =
+    let ch : ℕ = s .channels in
+    let in-order = passed (not (inOrder s)) badStream _ (omega arith) e in
+    let areas = passed (areasBad s a) badAreas _ (omega arith) (in-order .1) in
+    let input = passed (tooShort ch (s .held .0 + added) (a .input)) inputFull _ (omega arith) (areas .1) in
+    let stage = passed (tooShort ch (s .tail .0 + staged) (a .stage)) stageFull _ (omega arith) (input .1) in
+    let output = passed (tooShort ch (s .waiting .0 + made) (a .output)) outputFull accepted (omega arith) (stage .1) in
+    let good = areas-of s a (areas .0) in
+    record {
+      accepted = record {
+        in-order = in-order-passed (inOrder s) (in-order .0);
+        areas-good = areas .0;
+        fits = ltb-false (length (a .input)) ((s .held .0 + added) * ch) (input .0);
+      };
+      held-fits = good .held;
+      tail-fits = good .tail;
+      waiting-fits = good .waiting;
+      stage = ltb-false (length (a .stage)) ((s .tail .0 + staged) * ch) (stage .0);
+      output = ltb-false (length (a .output)) ((s .waiting .0 + made) * ch) (output .0);
+    }
