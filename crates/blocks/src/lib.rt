@@ -1,17 +1,19 @@
-// A block is written to the stream, in writes that fill its input as far as the plan says. `specs/Blocks.antt` says what is promised.
+// A block of a reel is read, and written to the stream in writes that fill its input as far as the plan says. `specs/Blocks.antt` says what
+// is promised.
 use frames::Frames;
 use frames::Samples;
 use plans::BLOCK_SAMPLES;
 use plans::Plan;
+use reels::reading::read_block;
 use reels::reel::Reel;
 ghost use mathlib.Core.Path.{_≡_};
 ghost use Prim.Native.Nat.{_+_, _*_, _/_, _%_, _^_, _≤_, _<_};
 ghost use lib.ListN.{length};
 ghost use Rattle.frames.specs.Areas.{areas};
 ghost use Rattle.adding.specs.Calls.{writeCall};
-ghost use Rattle.plans.specs.Plans.{Usable};
+ghost use Rattle.plans.specs.Plans.{blockSamples, blockBytes, Usable};
 ghost use Rattle.reels.specs.Reels.{Answered};
-ghost use Rattle.blocks.specs.Blocks.{BlockWritten};
+ghost use Rattle.blocks.specs.Blocks.{BlockWritten, Turned};
 
 // Where a write that begins at `at` ends: it fills the input up to the plan's `full` frames, or takes all that is left.
 fn write_end(at: usize, len: usize, held: Frames, plan: Plan) -> usize
@@ -50,7 +52,7 @@ fn write(
 }
 
 // Writes a block to the stream, and writes out what that makes. Between its writes fewer frames wait than a block holds.
-pub fn write_block(
+fn write_block(
     mut reel: Reel,
     block: &[f32],
     plan: Plan,
@@ -82,4 +84,35 @@ pub fn write_block(
         at = end;
     }
     reel.drain(1, output, values, bytes)
+}
+
+// Reads a block, writes it to the stream, and writes out what that makes.
+pub fn turn(
+    reel: Reel,
+    plan: Plan,
+    input: &mut [i16],
+    stage: &mut [i16],
+    output: &mut [i16],
+    scratch: &mut [i16],
+    block: &mut [f32],
+    values: &mut [f32],
+    bytes: &mut [u8],
+) -> Reel
+    requires { ⌜ Usable plan × (reel .stream .channels ≡ plan .channels) × (plan .block % plan .channels ≡ 0) × (reel .partial ≡ 0) ⌝ }
+    requires { ⌜ (blockSamples ≡ length (now block)) × (blockSamples ≡ length (now values)) × (blockBytes ≡ length (now bytes)) ⌝ }
+    ensures { λ r. ⌜ Turned reel r ⌝ }
+{
+    let read = read_block(reel, plan, block, bytes);
+    let samples = read.samples;
+    write_block(
+        read.reel,
+        &block[..samples],
+        plan,
+        input,
+        stage,
+        output,
+        scratch,
+        values,
+        bytes,
+    )
 }

@@ -1,6 +1,6 @@
 -- What a whole run promises: no frame is lost unseen. In this order:
---   flushes                            what a run is asked
---   Turned, Flushed, ReelReady, Complete   after a block read and written; after the flush; before and after a whole run
+--   flushes                        what a run is asked
+--   Flushed, ReelReady, Complete   after the flush; before and after a whole run
 -- Definitions only. Assumes nothing.
 use mathlib.Core.Path.{_≡_}
 use mathlib.Core.Bool.{Bool, true, false, not, _&&_}
@@ -16,15 +16,6 @@ abbrev pub flushes : Reel → Bool
 flushes r = going r && not (eqb (r .written) 0)
 
 -- ---- a whole run
-
--- after a block was read and written: a run still going that had written each frame it read has done so again, and only the last block
--- may leave bytes over
-pub record Turned (r r' : Reel) : Type 0 where
-  pub still : going r' ≡ true → going r ≡ true
-  pub level : going r' ≡ true → r .written ≡ r .«frames_in» → r' .written ≡ r' .«frames_in»
-  pub partial-last : r' .ended ≡ false → r' .partial ≡ 0
-  pub flushed-kept : r' .flushed ≡ r .flushed
-  pub channels-kept : r' .stream .channels ≡ r .stream .channels
 
 -- after the flush, if there is one, with this answer
 pub record Flushed (answer : Wrote) (r r' : Reel) : Type 0 where

@@ -1,49 +1,16 @@
 // A whole reel through the stream: blocks are read and written to it, and it is flushed at the end. After a stall or a refusal the input is
 // only counted. `specs/Skimming.antt` says what is promised.
-use blocks::write_block;
+use blocks::turn;
 use plans::BLOCK_BYTES;
 use plans::BLOCK_SAMPLES;
 use plans::Plan;
-use reels::reading::read_block;
 use reels::reel::Reel;
 ghost use mathlib.Core.Path.{_≡_};
-ghost use Prim.Native.Nat.{_%_};
 ghost use lib.ListN.{length};
 ghost use Rattle.frames.specs.Areas.{areas};
 ghost use Rattle.adding.specs.Calls.{flushCall};
 ghost use Rattle.plans.specs.Plans.{blockSamples, blockBytes, Usable};
-ghost use Rattle.skimming.specs.Skimming.{Turned, Flushed, ReelReady, Complete};
-
-// Reads a block, writes it to the stream, and writes out what that makes.
-fn turn(
-    reel: Reel,
-    plan: Plan,
-    input: &mut [i16],
-    stage: &mut [i16],
-    output: &mut [i16],
-    scratch: &mut [i16],
-    block: &mut [f32],
-    values: &mut [f32],
-    bytes: &mut [u8],
-) -> Reel
-    requires { ⌜ Usable plan × (reel .stream .channels ≡ plan .channels) × (plan .block % plan .channels ≡ 0) × (reel .partial ≡ 0) ⌝ }
-    requires { ⌜ (blockSamples ≡ length (now block)) × (blockSamples ≡ length (now values)) × (blockBytes ≡ length (now bytes)) ⌝ }
-    ensures { λ r. ⌜ Turned reel r ⌝ }
-{
-    let read = read_block(reel, plan, block, bytes);
-    let samples = read.samples;
-    write_block(
-        read.reel,
-        &block[..samples],
-        plan,
-        input,
-        stage,
-        output,
-        scratch,
-        values,
-        bytes,
-    )
-}
+ghost use Rattle.skimming.specs.Skimming.{Flushed, ReelReady, Complete};
 
 // Flushes the stream, if anything was written to it and nothing has stopped it.
 fn flush(

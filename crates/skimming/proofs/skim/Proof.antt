@@ -1,34 +1,49 @@
 -- `skimming::skim` meets its contract: the areas have their lengths. Assumes nothing.
-use mathlib.Core.Path.{refl, sym}
+use mathlib.Core.Path.{_≡_, sym}
+use Prim.Native.Nat.{ℕ}
+use lib.Ieee.{Float}
 use lib.IntN.{ℤ, pos}
-use lib.ListN.{length-replicate}
-use Rattle.plans.specs.Plans.{inputArea, stageArea, outputArea, scratchArea}
+use lib.ListN.{length, replicate, length-replicate}
+use Rattle.floats.specs.Numbers.{zero}
+use Rattle.plans.specs.Plans.{inputArea, stageArea, outputArea, scratchArea, blockSamples, blockBytes}
 use Rattle.skimming.proofs.skim.Statement.{statement}
 use Rattle.skimming.proofs.skim.Tie as tie
 
+-- the lengths of the arrays
+samples-length : (n : ℕ) → n ≡ length (replicate n (pos 0))
+samples-length n = sym (length-replicate {A = ℤ} n (pos 0))
+
+values-length : (x : Float) → blockSamples ≡ length (replicate blockSamples x)
+values-length x = sym (length-replicate {A = Float} blockSamples x)
+
+bytes-length : blockBytes ≡ length {A = ℕ} (replicate blockBytes 0)
+bytes-length = sym (length-replicate {A = ℕ} blockBytes 0)
+
+-- ---- needs
+
 slice-aggregate-run : tie.Need-slice-aggregate-run
-slice-aggregate-run c = sym (length-replicate {A = ℤ} inputArea (pos 0))
+slice-aggregate-run c = samples-length inputArea
 
 slice-aggregate-run-2 : tie.Need-slice-aggregate-run-2
-slice-aggregate-run-2 c = sym (length-replicate {A = ℤ} stageArea (pos 0))
+slice-aggregate-run-2 c = samples-length stageArea
 
 slice-aggregate-run-3 : tie.Need-slice-aggregate-run-3
-slice-aggregate-run-3 c = sym (length-replicate {A = ℤ} outputArea (pos 0))
+slice-aggregate-run-3 c = samples-length outputArea
 
 slice-aggregate-run-4 : tie.Need-slice-aggregate-run-4
-slice-aggregate-run-4 c = sym (length-replicate {A = ℤ} scratchArea (pos 0))
+slice-aggregate-run-4 c = samples-length scratchArea
 
 slice-aggregate-run-5 : tie.Need-slice-aggregate-run-5
-slice-aggregate-run-5 c = refl
+slice-aggregate-run-5 c = values-length zero
 
 slice-aggregate-run-6 : tie.Need-slice-aggregate-run-6
-slice-aggregate-run-6 c = refl
+slice-aggregate-run-6 c = values-length zero
 
 slice-aggregate-run-7 : tie.Need-slice-aggregate-run-7
-slice-aggregate-run-7 c = refl
+slice-aggregate-run-7 c = bytes-length
 
 run-requires : tie.Need-run-requires
-run-requires c κs = (c .before .before .before .before .before .before .before .pre, (refl, refl, refl))
+run-requires c κs = (c .before .before .before .before .before .before .before .pre, (values-length zero, values-length zero, bytes-length))
 
 returns : tie.Need-returns
 returns c = c .before .before .before .before .before .before .before .run .ensures

@@ -1,4 +1,4 @@
--- `skimming::turn` meets its contract. Assumes nothing.
+-- `blocks::turn` meets its contract. Assumes nothing.
 use borrow.Author.Needs.{needs}
 use mathlib.Core.Path.{ap, subst, _∙_}
 use Prim.Native.Nat.{ℕ, _/_, _%_}
@@ -6,10 +6,10 @@ use native.Mathlib.Omega.{arith}
 use lib.ListN.{length-take}
 use Rattle.stream.specs.declared.SonicStream.{SonicStream}
 use Rattle.reels.proofs.Blocks.{front-length}
 use Rattle.blocks.specs.Blocks.{BlockWritten}
-use Rattle.skimming.proofs.Turning.{samples-whole, turned}
-use Rattle.skimming.proofs.turn.Statement.{statement}
-use Rattle.skimming.proofs.turn.Tie as tie
+use Rattle.blocks.proofs.Parts.{samples-whole, turned}
+use Rattle.blocks.proofs.turn.Statement.{statement}
+use Rattle.blocks.proofs.turn.Tie as tie
 
 -- ---- the places: after the block was read, and written
 
