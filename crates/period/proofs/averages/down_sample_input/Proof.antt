@@ -94,7 +94,8 @@ returns-2 c =
     let s = start (one-left (c .before)) in
     let n = s .args .per-value .0 in
     let last : c .mean-from .result ≡ meanFrom (s .args .samples .now) (l .i * n) n = rw (← l .inv .1) (c .mean-from .ensures) in
-    front-at {m = s .args .num-values} (omega arith) (front-more (l .inv .2) (omega (arith, s .pre .fits)) (record { sfits = c .mean-from .ok }) last) .made
+    let all = front-more (l .inv .2) (omega (arith, s .pre .fits)) (record { sfits = c .mean-from .ok }) last in
+    front-at {m = s .args .num-values} (omega arith) all .made
 
 returns-3 : tie.Need-returns-3 Inv-loop μ-loop
 returns-3 c =

@@ -14,7 +14,8 @@ use Rattle.period.proofs.search.find_pitch_period_in_range.Tie as tie
 
 abbrev Inv-loop : tie.InvT-loop
 Inv-loop samples min-period max-period best₀ worst₀ period₀ b w period =
-    (min-period ≤ period) × (period ≤ max-period) × (b ≡ best samples min-period period) × (w ≡ worst samples min-period period) × Bounded b × Bounded w
+    (min-period ≤ period) × (period ≤ max-period) × (b ≡ best samples min-period period)
+    × (w ≡ worst samples min-period period) × Bounded b × Bounded w
 
 abbrev μ-loop : tie.MeasureT-loop
 μ-loop samples min-period max-period best₀ worst₀ period₀ b w period = max-period - period
@@ -96,11 +97,13 @@ loop-again c =
     let a = start d .args in
     let two = n .neighbours-from .ensures in
     let m = c .before .before in
+    let low = m .before .lesser .ensures .0 in
+    let high = c .before .greater .ensures .0 in
     let x = a .samples .now in (
       omega (arith, l .inv .0),
       omega (arith, n .before .loop-test),
-      sweep-two lesser x (a .min-period) (l .period) (l .inv .0) (l .inv .2) (two .0) (two .2) (m .before .lesser .ensures .0) (m .lesser2 .ensures .0),
-      sweep-two greater x (a .min-period) (l .period) (l .inv .0) (l .inv .3) (two .0) (two .2) (c .before .greater .ensures .0) (c .greater2 .ensures .0),
+      sweep-two lesser x (a .min-period) (l .period) (l .inv .0) (l .inv .2) (two .0) (two .2) low (m .lesser2 .ensures .0),
+      sweep-two greater x (a .min-period) (l .period) (l .inv .0) (l .inv .3) (two .0) (two .2) high (c .greater2 .ensures .0),
       m .lesser2 .ensures .1,
       c .greater2 .ensures .1,
     )

@@ -32,11 +32,11 @@ module _ (c : tie.After-gap Inv-loop μ-loop) where
 
 -- the second sum after it
 module _ (c : tie.After-gap2 Inv-loop μ-loop) where
-  abbrev first : tie.After-gap Inv-loop μ-loop
-  first = c .before
+  abbrev gap : tie.After-gap Inv-loop μ-loop
+  gap = c .before
 
-  more-next : Sum (start first .args .samples .now) (start first .args .period + 1) (turn first .loop .i + 1) (turn first .loop .next + c .gap2 .result)
-  more-next = sum-more (turn first .loop .inv .2) (read first .a .given) (first .before .c .given) (c .gap2 .ensures)
+  more-next : Sum (start gap .args .samples .now) (start gap .args .period + 1) (turn gap .loop .i + 1) (turn gap .loop .next + c .gap2 .result)
+  more-next = sum-more (turn gap .loop .inv .2) (read gap .a .given) (gap .before .c .given) (c .gap2 .ensures)
 
 -- the loop has ended: the second sum with its last difference
 module _ (c : tie.After-gap3 Inv-loop μ-loop) where
