@@ -2,7 +2,7 @@
 -- Assumes nothing.
 use mathlib.Core.Path.{_≡_, refl, sym, ap, _∙_}
 use mathlib.Core.List.{List}
-use Prim.Native.Nat.{ℕ, _-_, _*_, _≤_}
+use Prim.Native.Nat.{ℕ, _-_, _*_, _/_, _%_, _≤_, _<_}
 use native.Mathlib.Nat.{mod-lt}
 use native.Mathlib.Omega.{arith}
 use borrow.Author.Needs.{needs}
@@ -12,6 +12,7 @@ use lib.Seq.{paste}
 use mir.Syntax.{w32}
 use mir.Val.{toZ, ofZ}
 use mir.Facts.{toZ-ofZ}
+use Rattle.laws.specs.Reciprocal.{reciprocalParts, reciprocalOf}
 use Rattle.sinc.specs.Sinc.{sincFilterPoints, lobePoints, tabulate, sincCoefficient, sincCoefficients}
 use Rattle.sinc.proofs.Coefficient.{reciprocal-lt, place-lt, place-product-lt, place-is, place-reaches, behind-is, sincCoefficient-is}
 use Rattle.sinc.proofs.Tabulated.{front-turn}
@@ -27,6 +28,35 @@ Inv-loop table ratio width n reciprocal points place remainder weights₀ i₀ w
 abbrev μ-loop : tie.MeasureT-loop
 μ-loop table ratio width n reciprocal points place remainder weights₀ i₀ weights i = sincFilterPoints - i
 
+-- ---- places, and what is known there
+
+-- the place and the remainder, as they are computed
+module _ (c : tie.Start Inv-loop μ-loop) where
+  abbrev points : ℕ
+  points = lobePoints * c .args .ratio
+
+  abbrev place : ℕ
+  place = points * reciprocalOf (c .args .width) / reciprocalParts
+
+  place-computed : place ≡ points / c .args .width
+  place-computed = place-is (c .args .ratio) (c .args .width) (c .pre .1) (c .pre .2)
+
+  remainder-computed : points - place * c .args .width ≡ points % c .args .width
+  remainder-computed = behind-is (c .args .ratio) (c .args .width) (c .pre .1) (c .pre .2)
+
+  reached : place * c .args .width ≤ points
+  reached = place-reaches (c .args .ratio) (c .args .width) (c .pre .1) (c .pre .2)
+
+  -- the place lies within a lobe
+  within : points / c .args .width < lobePoints
+  within = place-lt (c .args .ratio) (c .args .width) (c .pre .1)
+
+abbrev start : tie.At-loop Inv-loop μ-loop → tie.Start Inv-loop μ-loop
+start c = c .before
+
+abbrev turn : tie.After-find-sinc-coefficient Inv-loop μ-loop → tie.At-loop Inv-loop μ-loop
+turn c = c .before .before
+
 -- ---- needs
 
 add-reciprocal : tie.Need-add-reciprocal Inv-loop μ-loop
@@ -36,47 +66,45 @@ mul-place : tie.Need-mul-place Inv-loop μ-loop
 mul-place c = record { fits = place-product-lt (c .args .ratio) (c .args .width) (c .pre .1) (c .pre .2) }
 
 mul-remainder : tie.Need-mul-remainder Inv-loop μ-loop
-mul-remainder c = record { fits = omega (arith, place-reaches (c .args .ratio) (c .args .width) (c .pre .1) (c .pre .2)) }
+mul-remainder c = record { fits = omega (arith, reached c) }
 
 sub-remainder : tie.Need-sub-remainder Inv-loop μ-loop
-sub-remainder c = place-reaches (c .args .ratio) (c .args .width) (c .pre .1) (c .pre .2)
+sub-remainder c = reached c
 
 add-find-sinc-coefficient : tie.Need-add-find-sinc-coefficient Inv-loop μ-loop
 add-find-sinc-coefficient c =
-    let s = c .before .before in
-    let a = s .args in
-    rw (place-is (a .ratio) (a .width) (s .pre .1) (s .pre .2)) (record { fits = omega (arith, place-lt (a .ratio) (a .width) (s .pre .1)) })
+    let s = start (c .before) in
+    rw (place-computed s) (record { fits = omega (arith, within s) })
 
 find-sinc-coefficient-requires : tie.Need-find-sinc-coefficient-requires Inv-loop μ-loop
 find-sinc-coefficient-requires c κs =
-    let s = c .before .before in
-    let a = s .args in
-    rw (behind-is (a .ratio) (a .width) (s .pre .1) (s .pre .2), place-is (a .ratio) (a .width) (s .pre .1) (s .pre .2))
-    (s .pre .0, omega (arith, place-lt (a .ratio) (a .width) (s .pre .1)), mod-lt (lobePoints * a .ratio) (omega arith), s .pre .2, refl)
+    let s = start (c .before) in
+    rw (remainder-computed s, place-computed s) (s .pre .0, omega (arith, within s), mod-lt (points s) (omega arith), s .pre .2, refl)
 
 loop-again : tie.Need-loop-again Inv-loop μ-loop
 unfolding sincCoefficients
 loop-again c =
-    let l = c .before .before .loop in
-    let a = c .before .before .before .args in
-    let h = c .before .before .before .pre in
+    let l = turn c .loop in
+    let s = start (turn c) in
+    let a = s .args in
     let call = c .find-sinc-coefficient in
     let f : ℕ → ℤ = λ j. sincCoefficient j (a .ratio) (a .width) in
     let zeros : List ℤ = replicate sincFilterPoints (pos 0) in
     let e : toZ w32 (ofZ w32 (call .result)) ≡ f (l .i) =
     toZ-ofZ {w = w32} (record { sfits = call .ok })
-    ∙ rw (behind-is (a .ratio) (a .width) (h .1) (h .2), place-is (a .ratio) (a .width) (h .1) (h .2)) at (call .ensures)
+    ∙ rw (remainder-computed s, place-computed s) at (call .ensures)
     ∙ sym (sincCoefficient-is (l .i) (a .ratio) (a .width)) in (
       omega arith,
       length-set (l .weights) (l .i) _ ∙ l .inv .1,
-      rw e (ap (λ (r : List ℤ). set r (l .i) (f (l .i))) (l .inv .2) ∙ front-turn zeros sincFilterPoints f (l .i) (pos 0) (omega arith) (omega arith)),
+      rw e (ap (λ (r : List ℤ). set r (l .i) (f (l .i))) (l .inv .2)
+          ∙ front-turn zeros sincFilterPoints f (l .i) (pos 0) (omega arith) (omega arith)),
     )
 
 returns : tie.Need-returns Inv-loop μ-loop
 unfolding sincCoefficients tabulate
 returns c =
     let l = c .before .loop in
-    let a = c .before .before .args in
+    let a = start (c .before) .args in
     let e : l .i ≡ sincFilterPoints = omega arith in
     l .inv .2 ∙ ap (paste (replicate sincFilterPoints (pos 0)) 0 (sincCoefficients (a .ratio) (a .width))) e
 

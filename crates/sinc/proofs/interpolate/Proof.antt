@@ -1,6 +1,6 @@
 -- `sinc::interpolate` meets its contract. The loop's invariant: the sum is that of the first i taps, and within its limit.
 -- Assumes nothing.
-use mathlib.Core.Path.{_≡_, ap, _∙_}
+use mathlib.Core.Path.{_≡_, ap, _∙_, subst}
 use mathlib.Core.List.{List}
 use Prim.Native.Nat.{ℕ, _+_, _-_, _*_, _≤_, _<_}
 use native.Mathlib.Nat.{mul-le-mul-right}
@@ -36,31 +36,47 @@ abbrev μ-loop : tie.MeasureT-loop
 
 -- ---- places, and what is known there
 
+abbrev start : tie.At-loop Inv-loop μ-loop → tie.Start Inv-loop μ-loop
+start c = c .before
+
+-- the taps and the weights of the call
+module _ (c : tie.Start Inv-loop μ-loop) where
+  abbrev taps-of : ℕ → ℤ
+  taps-of = taps (c .args .stage .now) (c .args .from .0) (c .args .channels)
+
+  abbrev values-of : ℕ → ℤ
+  values-of = values (c .args .weights .now)
+
 -- the tap at i lies in the stage
 inside : (c : tie.In-loop Inv-loop μ-loop)
-    → c .before .before .args .from .0 + c .before .loop .i * c .before .before .args .channels < length (c .before .before .args .stage .now)
+    → let a = start (c .before) .args in a .from .0 + c .before .loop .i * a .channels < length (a .stage .now)
 inside c =
-    let a = c .before .before .args in
+    let s = start (c .before) in
     let most : c .before .loop .i < sincFilterPoints = omega arith in
-    omega (arith, c .before .before .pre .0, mul-le-mul-right (a .channels) most)
+    omega (arith, s .pre .0, mul-le-mul-right (s .args .channels) most)
 
--- tap and weight, as the loop has read them
-sample-read : (c : tie.After-tap Inv-loop μ-loop)
-    → let a = c .before .before .before .args in SFits w16 (taps (a .stage .now) (a .from .0) (a .channels) (c .before .before .loop .i))
+-- it is read
+sample-read : (c : tie.After-tap Inv-loop μ-loop) → SFits w16 (taps-of (start (c .before .before)) (c .before .before .loop .i))
 sample-read c = record { sfits = c .tap .given }
 
-tap : (c : tie.After-weight Inv-loop μ-loop)
-    → let a = c .before .before .before .before .args in
-    Tap (taps (a .stage .now) (a .from .0) (a .channels)) (values (a .weights .now)) (c .before .before .before .loop .i)
-tap c =
-    let l = c .before .before .before .loop in
-    record {
-      sample = sample-read (c .before);
-      weight = record { sfits = c .weight .given };
-      small = c .before .before .before .before .pre .1 (l .i) (omega arith);
-      early = omega arith;
-      before = l .inv .2;
-    }
+-- so is its weight
+module _ (c : tie.After-weight Inv-loop μ-loop) where
+  abbrev turn : tie.At-loop Inv-loop μ-loop
+  turn = c .before .before .before
+
+  tap : Tap (taps-of (start turn)) (values-of (start turn)) (turn .loop .i)
+  tap =
+      record {
+        sample = sample-read (c .before);
+        weight = record { sfits = c .weight .given };
+        small = start turn .pre .1 (turn .loop .i) (omega arith);
+        early = omega arith;
+        before = turn .loop .inv .2;
+      }
+
+-- the loop has ended
+abbrev ended : tie.After-hold Inv-loop μ-loop → tie.At-loop Inv-loop μ-loop
+ended c = c .before .before
 
 -- ---- needs
 
@@ -90,19 +106,20 @@ mul-sum : tie.Need-mul-sum Inv-loop μ-loop
 mul-sum c = product-fits (tap c)
 
 add-sum : tie.Need-add-sum Inv-loop μ-loop
-add-sum c = rw (c .before .before .before .loop .inv .1) (sum-fits (tap c))
+add-sum c = rw (turn c .loop .inv .1) (sum-fits (tap c))
 
 loop-again : tie.Need-loop-again Inv-loop μ-loop
-loop-again c = (omega arith, rw (c .before .before .before .loop .inv .1) (sum-reads (tap c)), next-abs (tap c))
+loop-again c = (omega arith, rw (turn c .loop .inv .1) (sum-reads (tap c)), next-abs (tap c))
 
 returns : tie.Need-returns Inv-loop μ-loop
 returns c =
-    let l = c .before .before .loop in
-    let a = c .before .before .before .args in
-    let total : ℕ → ℤ = weightedSum (taps (a .stage .now) (a .from .0) (a .channels)) (values (a .weights .now)) in
+    let l = ended c .loop in
+    let s = start (ended c) in
+    let total : ℕ → ℤ = weightedSum (taps-of s) (values-of s) in
     let e : l .i ≡ sincFilterPoints = omega arith in
-    let small : natAbs (total sincFilterPoints) ≤ limit sincFilterPoints = rw e at (l .inv .2) in
-    toZ-ofZ {w = w16} (record { sfits = c .hold .ok }) ∙ held-is (l .sum) (total sincFilterPoints) 65536 (l .inv .1 ∙ ap total e) small (c .hold .ensures)
+    let small = subst (λ (k : ℕ). natAbs (total k) ≤ limit k) e (l .inv .2) in
+    let held = held-is (l .sum) (total sincFilterPoints) 65536 (l .inv .1 ∙ ap total e) small (c .hold .ensures) in
+    toZ-ofZ {w = w16} (record { sfits = c .hold .ok }) ∙ held
 
 -- ---- what search closes
 

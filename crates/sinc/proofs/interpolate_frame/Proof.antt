@@ -25,28 +25,43 @@ Inv-loop table stage channels ratio width output₀ f t weights c₀ output c =
 abbrev μ-loop : tie.MeasureT-loop
 μ-loop table stage channels ratio width output₀ f t weights c₀ output c = channels - c
 
+-- ---- places, and what is known there
+
+abbrev start : tie.At-loop Inv-loop μ-loop → tie.Start Inv-loop μ-loop
+start c = c .before .before
+
+abbrev turn : tie.After-weights Inv-loop μ-loop → tie.At-loop Inv-loop μ-loop
+turn c = c .before .before
+
+-- the frame to be written
+abbrev frame : tie.Start Inv-loop μ-loop → List ℤ
+frame c =
+    let a = c .args in
+    interpolateFrame (drop (a .from .0) (a .stage .now)) (a .channels) (a .ratio) (a .width)
+
 -- ---- needs
 
 loop-holds : tie.Need-loop-holds Inv-loop μ-loop
 loop-holds c =
     let a = c .before .args in
-    (omega arith, refl, paste-zero (a .output .now) (a .to .0) (interpolateFrame (drop (a .from .0) (a .stage .now)) (a .channels) (a .ratio) (a .width)))
+    (omega arith, refl, paste-zero (a .output .now) (a .to .0) (frame (c .before)))
 
 interpolate-requires : tie.Need-interpolate-requires Inv-loop μ-loop
 interpolate-requires c κs =
-    let s = c .before .before .before .before in
-    let call = c .before .before .before .coefficients in
+    let s = start (turn c) in
+    let call = turn c .before .coefficients in
     let e : call .result ≡ sincCoefficients (s .args .ratio) (s .args .width) = call .ensures in
     (omega arith, λ i h. rw e (coefficient-small i (s .args .ratio) (s .args .width) h (omega arith)))
 
 loop-again : tie.Need-loop-again Inv-loop μ-loop
 unfolding interpolateFrame
 loop-again c =
-    let l = c .before .before .before .loop in
-    let a = c .before .before .before .before .before .args in
+    let d = turn (c .before) in
+    let l = d .loop in
+    let a = start d .args in
     let x : List ℤ = a .stage .now in
     let sample : ℕ → ℤ = λ k. interpolate (λ i. getD (drop (a .from .0) x) (i * a .channels + k) (pos 0)) (a .ratio) (a .width) in
-    let weights = c .before .before .before .before .coefficients .ensures in
+    let weights = d .before .coefficients .ensures in
     let e : c .interpolate .result ≡ sample (l .c) =
     channel-is x (a .from .0) (a .channels) (l .c) (a .ratio) (a .width) weights (c .interpolate .ensures) in
     let h : a .to .0 + l .c < length (a .output .now) = omega arith in (
@@ -60,9 +75,9 @@ loop-again c =
 returns : tie.Need-returns Inv-loop μ-loop
 returns c =
     let l = c .before .loop in
-    let a = c .before .before .before .args in
-    let e : l .c ≡ a .channels = omega arith in
-    l .inv .2 ∙ ap (paste (a .output .now) (a .to .0) (interpolateFrame (drop (a .from .0) (a .stage .now)) (a .channels) (a .ratio) (a .width))) e
+    let s = start (c .before) in
+    let e : l .c ≡ s .args .channels = omega arith in
+    l .inv .2 ∙ ap (paste (s .args .output .now) (s .args .to .0) (frame s)) e
 
 -- ---- what search closes
 

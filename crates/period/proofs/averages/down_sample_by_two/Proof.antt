@@ -20,6 +20,24 @@ Inv-loop samples out₀ num-values i₀ out i = (i ≤ num-values) × Front samp
 abbrev μ-loop : tie.MeasureT-loop
 μ-loop samples out₀ num-values i₀ out i = num-values - i
 
+-- ---- places, and what is known there
+
+-- a turn: the loop, and the mean of the two samples at it
+module _ (c : tie.After-mean-of-two Inv-loop μ-loop) where
+  abbrev turn : tie.At-loop Inv-loop μ-loop
+  turn = c .before .before .before .before
+
+  abbrev start : tie.Start Inv-loop μ-loop
+  start = turn .before
+
+  mean-is : c .mean-of-two .result ≡ meanFrom (start .args .samples .now) (turn .loop .i * 2) 2
+  mean-is =
+      let x = start .args .samples .now in
+      let i = turn .loop .i in
+      let a = toZ-ofZ {w = w16} {z = getD x (i * 2) (pos 0)} (record { sfits = c .before .before .a .given }) in
+      let b = toZ-ofZ {w = w16} {z = getD x (i * 2 + 1) (pos 0)} (record { sfits = c .before .b .given }) in
+      (rw (a, b) at (c .mean-of-two .ensures)) ∙ meanFrom-two x (i * 2)
+
 -- ---- needs
 
 loop-holds : tie.Need-loop-holds Inv-loop μ-loop
@@ -27,14 +45,7 @@ loop-holds c = (search needs, front-none _ _ _)
 
 loop-again : tie.Need-loop-again Inv-loop μ-loop
 loop-again c =
-    let l = c .before .before .before .before .loop in
-    let s = c .before .before .before .before .before in
-    let m = c .mean-of-two in
-    let x = s .args .samples .now in
-    let a = toZ-ofZ {w = w16} {z = getD x (l .i * 2) (pos 0)} (record { sfits = c .before .before .a .given }) in
-    let b = toZ-ofZ {w = w16} {z = getD x (l .i * 2 + 1) (pos 0)} (record { sfits = c .before .b .given }) in
-    let v : m .result ≡ meanFrom x (l .i * 2) 2 = (rw (a, b) at (m .ensures)) ∙ meanFrom-two x (l .i * 2) in
-    (search needs, front-more (l .inv .1) (omega (arith, s .pre .fits)) (record { sfits = m .ok }) v)
+    (search needs, front-more (turn c .loop .inv .1) (omega (arith, start c .pre .fits)) (record { sfits = c .mean-of-two .ok }) (mean-is c))
 
 returns : tie.Need-returns Inv-loop μ-loop
 returns c = front-at {m = c .before .before .args .num-values} (omega arith) (c .before .loop .inv .1) .made

@@ -20,10 +20,17 @@ abbrev μ-loop : tie.MeasureT-loop
 
 -- ---- places, and what is known there
 
--- the whole sum
-whole : (c : tie.After-loop Inv-loop μ-loop)
-    → Total (c .before .before .args .samples .now) (c .before .before .args .from .0) (c .before .before .args .count .0) (toZ w32 (c .before .loop .sum))
-whole c = total-at (omega arith) (c .before .loop .inv .1)
+-- a turn
+abbrev turn : tie.After-sample Inv-loop μ-loop → tie.At-loop Inv-loop μ-loop
+turn c = c .before .before
+
+-- the loop has ended: the whole sum
+module _ (c : tie.After-loop Inv-loop μ-loop) where
+  abbrev start : tie.Start Inv-loop μ-loop
+  start = c .before .before
+
+  whole : Total (start .args .samples .now) (start .args .from .0) (start .args .count .0) (toZ w32 (c .before .loop .sum))
+  whole = total-at (omega arith) (c .before .loop .inv .1)
 
 -- ---- needs
 
@@ -31,22 +38,22 @@ loop-holds : tie.Need-loop-holds Inv-loop μ-loop
 loop-holds c = (search needs, total-none _ _)
 
 cast-sum : tie.Need-cast-sum Inv-loop μ-loop
-cast-sum c = sample-widens (c .before .before .loop .inv .1) (c .sample .given) (omega arith)
+cast-sum c = sample-widens (turn c .loop .inv .1) (c .sample .given) (omega arith)
 
 add-sum : tie.Need-add-sum Inv-loop μ-loop
-add-sum c = added-fits (c .before .before .loop .inv .1) (c .sample .given) (omega arith)
+add-sum c = added-fits (turn c .loop .inv .1) (c .sample .given) (omega arith)
 
 loop-again : tie.Need-loop-again Inv-loop μ-loop
-loop-again c = (search needs, added-total (c .before .before .loop .inv .1) (c .sample .given) (omega arith))
+loop-again c = (search needs, added-total (turn c .loop .inv .1) (c .sample .given) (omega arith))
 
 div-result : tie.Need-div-result Inv-loop μ-loop
-div-result c = (search needs, quotient-fits (whole c) (c .before .before .pre .0) (c .before .before .pre .1))
+div-result c = (search needs, quotient-fits (whole c) (start c .pre .0) (start c .pre .1))
 
 cast-result : tie.Need-cast-result Inv-loop μ-loop
-cast-result c = quotient-narrows (whole c) (c .before .before .pre .0) (c .before .before .pre .1)
+cast-result c = quotient-narrows (whole c) (start c .pre .0) (start c .pre .1)
 
 returns : tie.Need-returns Inv-loop μ-loop
-returns c = mean-reads (whole c) (c .before .before .pre .0) (c .before .before .pre .1)
+returns c = mean-reads (whole c) (start c .pre .0) (start c .pre .1)
 
 -- ---- what search closes
 

@@ -20,7 +20,11 @@ abbrev μ-loop : tie.MeasureT-loop
 
 -- ---- places, and what is known there
 
--- the whole sums
+-- a turn
+abbrev turn : tie.After-b Inv-loop μ-loop → tie.At-loop Inv-loop μ-loop
+turn c = c .before .before .before
+
+-- the loop has ended: the whole sums
 module _ (c : tie.After-loop Inv-loop μ-loop) where
   abbrev start : tie.Start Inv-loop μ-loop
   start = c .before .before
@@ -35,37 +39,37 @@ loop-holds : tie.Need-loop-holds Inv-loop μ-loop
 loop-holds c = (search needs, total-none _ _, total-none _ _)
 
 cast-sum : tie.Need-cast-sum Inv-loop μ-loop
-cast-sum c = sample-widens (c .before .before .before .loop .inv .1) (c .before .a .given) (omega arith)
+cast-sum c = sample-widens (turn c .loop .inv .1) (c .before .a .given) (omega arith)
 
 add-sum : tie.Need-add-sum Inv-loop μ-loop
-add-sum c = added-fits (c .before .before .before .loop .inv .1) (c .before .a .given) (omega arith)
+add-sum c = added-fits (turn c .loop .inv .1) (c .before .a .given) (omega arith)
 
 cast-behind : tie.Need-cast-behind Inv-loop μ-loop
-cast-behind c = sample-widens (c .before .before .before .loop .inv .2) (c .b .given) (omega arith)
+cast-behind c = sample-widens (turn c .loop .inv .2) (c .b .given) (omega arith)
 
 add-behind : tie.Need-add-behind Inv-loop μ-loop
-add-behind c = added-fits (c .before .before .before .loop .inv .2) (c .b .given) (omega arith)
+add-behind c = added-fits (turn c .loop .inv .2) (c .b .given) (omega arith)
 
 loop-again : tie.Need-loop-again Inv-loop μ-loop
 loop-again c =
-    let l = c .before .before .before .loop in
+    let l = turn c .loop in
     (search needs, added-total (l .inv .1) (c .before .a .given) (omega arith), added-total (l .inv .2) (c .b .given) (omega arith))
 
 div-t20 : tie.Need-div-t20 Inv-loop μ-loop
-div-t20 c = (search needs, quotient-fits (whole c .0) (c .before .before .pre .0) (c .before .before .pre .1))
+div-t20 c = (search needs, quotient-fits (whole c .0) (start c .pre .0) (start c .pre .1))
 
 cast-t21 : tie.Need-cast-t21 Inv-loop μ-loop
-cast-t21 c = quotient-narrows (whole c .0) (c .before .before .pre .0) (c .before .before .pre .1)
+cast-t21 c = quotient-narrows (whole c .0) (start c .pre .0) (start c .pre .1)
 
 div-t22 : tie.Need-div-t22 Inv-loop μ-loop
-div-t22 c = (search needs, quotient-fits (whole c .1) (c .before .before .pre .0) (c .before .before .pre .1))
+div-t22 c = (search needs, quotient-fits (whole c .1) (start c .pre .0) (start c .pre .1))
 
 cast-t23 : tie.Need-cast-t23 Inv-loop μ-loop
-cast-t23 c = quotient-narrows (whole c .1) (c .before .before .pre .0) (c .before .before .pre .1)
+cast-t23 c = quotient-narrows (whole c .1) (start c .pre .0) (start c .pre .1)
 
 returns : tie.Need-returns Inv-loop μ-loop
 returns c =
-    let p = c .before .before .pre in
+    let p = start c .pre in
     (mean-reads (whole c .0) (p .0) (p .1), mean-reads (whole c .1) (p .0) (p .1))
 
 -- ---- what search closes

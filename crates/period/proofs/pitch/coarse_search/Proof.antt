@@ -13,34 +13,48 @@ use Rattle.period.proofs.pitch.coarse_search.Tie as tie
 
 -- ---- places, and what is known there
 
-skip-few : (c : tie.After-struct-known) → Skip (c .before .before .before .before .before .args .rate) (c .before .before .before .before .skip .result)
-skip-few c =
-    let s = c .before .before .before .before in
-    skip-in (s .before .pre .0) (s .skip .ensures)
+-- the numbers computed from the rate
+module _ (c : tie.After-max-required) where
+  abbrev high : tie.After-max-period
+  high = c .before
+
+  abbrev low : tie.After-min-period
+  low = high .before
+
+  abbrev skipped : tie.After-skip
+  skipped = low .before
+
+  abbrev start : tie.Start
+  start = skipped .before
+
+  skip-few : Skip (start .args .rate) (skipped .skip .result)
+  skip-few = skip-in (start .pre .0) (skipped .skip .ensures)
+
+abbrev numbers : tie.After-samples → tie.After-max-required
+numbers c = c .before .before
 
 -- ---- needs
 
 div-num-values : tie.Need-div-num-values
-div-num-values c = skip-few c .some
+div-num-values c = skip-few (c .before) .some
 
 samples-requires : tie.Need-samples-requires
-samples-requires c κs = omega (arith, mul-le-mul (skip-few c .few) (c .before .before .before .before .before .pre .0 .channels-high))
+samples-requires c κs = omega (arith, mul-le-mul (skip-few (c .before) .few) (start (c .before) .pre .0 .channels-high))
 
 div-search-values : tie.Need-div-search-values
-div-search-values c = skip-few (c .before) .some
+div-search-values c = skip-few (numbers c) .some
 
 div-search-values-2 : tie.Need-div-search-values-2
-div-search-values-2 c = skip-few (c .before) .some
+div-search-values-2 c = skip-few (numbers c) .some
 
 search-values-requires : tie.Need-search-values-requires
 search-values-requires c κs =
-    let m = c .before .before .before in
-    let high = m .before in
-    let low = high .before in
-    let s = low .before in
-    let p = s .before .pre in (
-      coarse-averageable (p .0) (p .1 .0) (p .1 .1) (s .skip .ensures) (m .max-required .ensures) (c .before .samples .ensures),
-      coarse-searchable (p .0) (s .skip .ensures) (low .min-period .ensures) (high .max-period .ensures) (m .max-required .ensures),
+    let m = numbers (c .before) in
+    let p = start m .pre in
+    let k = skipped m .skip .ensures in
+    let n = m .max-required .ensures in (
+      coarse-averageable (p .0) (p .1 .0) (p .1 .1) k n (c .before .samples .ensures),
+      coarse-searchable (p .0) k (low m .min-period .ensures) (high m .max-period .ensures) n,
     )
 
 returns : tie.Need-returns
@@ -48,17 +62,14 @@ unfolding coarse
 returns c =
     let v = c .before in
     let a = v .before .before in
-    let m = a .before .before in
-    let high = m .before in
-    let low = high .before in
-    let s = low .before in
-    let x = s .before .args .samples .now in
-    let channels = s .before .args .channels in
-    let k = s .skip .ensures in
+    let m = numbers a in
+    let x = start m .args .samples .now in
+    let channels = start m .args .channels in
+    let k = skipped m .skip .ensures in
     let n = m .max-required .ensures in
-    let per : a .samples .result .0 ≡ skip (s .before .args .rate) * channels = a .samples .ensures ∙ ap (λ (t : ℕ). t * channels) k in
-    let l = low .min-period .ensures in
-    let h = high .max-period .ensures in (
+    let per : a .samples .result .0 ≡ skip (start m .args .rate) * channels = a .samples .ensures ∙ ap (λ (t : ℕ). t * channels) k in
+    let l = low m .min-period .ensures in
+    let h = high m .max-period .ensures in (
       v .search-values .ensures .0 ∙ (λ i. findPitchPeriodInRange (valuesOf x (n i / k i) (per i)) (l i / k i) (h i / k i)),
       v .search-values .ensures .1,
     )

@@ -13,21 +13,25 @@ use Rattle.period.proofs.pitch.fine_search.Tie as tie
 
 -- ---- places, and what is known there
 
+-- the skip is computed
+abbrev skipped : tie.After-max-period → tie.After-skip
+skipped c = c .before .before .before
+
 -- the range of the search
 module _ (c : tie.After-raised) where
   abbrev start : tie.Start
-  start = c .before .before .before .before .before
+  start = skipped (c .before) .before
+
+  skip-is : skipped (c .before) .skip .result ≡ skip (start .args .rate)
+  skip-is = skipped (c .before) .skip .ensures
 
   low-is : c .before .before .lowered .result ≡ max (start .args .near - 4 * skip (start .args .rate)) (minPeriod (start .args .rate))
   low-is =
       let l = c .before .before in
-      let s = l .before .before in
-      l .lowered .ensures ∙ (λ i. max (start .args .near - 4 * s .skip .ensures i) (l .before .min-period .ensures i))
+      l .lowered .ensures ∙ (λ i. max (start .args .near - 4 * skip-is i) (l .before .min-period .ensures i))
 
   high-is : c .raised .result ≡ min (start .args .near + 4 * skip (start .args .rate)) (maxPeriod (start .args .rate))
-  high-is =
-      let s = c .before .before .before .before in
-      c .raised .ensures ∙ (λ i. min (start .args .near + 4 * s .skip .ensures i) (c .before .max-period .ensures i))
+  high-is = c .raised .ensures ∙ (λ i. min (start .args .near + 4 * skip-is i) (c .before .max-period .ensures i))
 
 -- ---- needs
 
@@ -36,7 +40,7 @@ mul-reach c = record { fits = omega (arith, skip-in (c .before .pre .0) (c .skip
 
 raised-requires : tie.Need-raised-requires
 raised-requires c κs =
-    let s = c .before .before .before in
+    let s = skipped c in
     let p = s .before .pre in
     omega (arith, skip-in (p .0) (s .skip .ensures) .few, p .0 .rate-high, p .1 .0 .0)
 

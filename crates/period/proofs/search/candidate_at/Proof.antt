@@ -16,13 +16,13 @@ abbrev μ-loop : tie.MeasureT-loop
 
 -- ---- places, and what is known there
 
--- the sum after a turn
+-- a turn: the loop, and the sum after it
 module _ (c : tie.After-gap Inv-loop μ-loop) where
-  abbrev start : tie.Start Inv-loop μ-loop
-  start = c .before .before .before .before .before
-
   abbrev turn : tie.At-loop Inv-loop μ-loop
   turn = c .before .before .before .before
+
+  abbrev start : tie.Start Inv-loop μ-loop
+  start = turn .before
 
   more : Sum (start .args .samples .now) (start .args .period) (turn .loop .i + 1) (turn .loop .sum + c .gap .result)
   more = sum-more (turn .loop .inv .1) (c .before .before .a .given) (c .before .b .given) (c .gap .ensures)

@@ -16,34 +16,39 @@ abbrev μ-loop : tie.MeasureT-loop
 
 -- ---- places, and what is known there
 
--- the two sums after a turn, and the second with its last difference
+-- a turn: its first sample, the loop, and the first sum after it
 module _ (c : tie.After-gap Inv-loop μ-loop) where
-  abbrev start : tie.Start Inv-loop μ-loop
-  start = c .before .before .before .before .before .before
+  abbrev read : tie.After-a Inv-loop μ-loop
+  read = c .before .before .before
 
   abbrev turn : tie.At-loop Inv-loop μ-loop
-  turn = c .before .before .before .before .before
+  turn = read .before .before
+
+  abbrev start : tie.Start Inv-loop μ-loop
+  start = turn .before
 
   more-this : Sum (start .args .samples .now) (start .args .period) (turn .loop .i + 1) (turn .loop .this + c .gap .result)
-  more-this = sum-more (turn .loop .inv .1) (c .before .before .before .a .given) (c .before .before .b .given) (c .gap .ensures)
+  more-this = sum-more (turn .loop .inv .1) (read .a .given) (c .before .before .b .given) (c .gap .ensures)
 
+-- the second sum after it
 module _ (c : tie.After-gap2 Inv-loop μ-loop) where
-  abbrev b : tie.After-gap Inv-loop μ-loop
-  b = c .before
+  abbrev gap : tie.After-gap Inv-loop μ-loop
+  gap = c .before
 
-  more-next : Sum (start b .args .samples .now) (start b .args .period + 1) (turn b .loop .i + 1) (turn b .loop .next + c .gap2 .result)
-  more-next = sum-more (turn b .loop .inv .2) (b .before .before .before .a .given) (b .before .c .given) (c .gap2 .ensures)
+  more-next : Sum (start gap .args .samples .now) (start gap .args .period + 1) (turn gap .loop .i + 1) (turn gap .loop .next + c .gap2 .result)
+  more-next = sum-more (turn gap .loop .inv .2) (read gap .a .given) (gap .before .c .given) (c .gap2 .ensures)
 
+-- the loop has ended: the second sum with its last difference
 module _ (c : tie.After-gap3 Inv-loop μ-loop) where
+  abbrev ended : tie.At-loop Inv-loop μ-loop
+  ended = c .before .before .before .before
+
   abbrev begun : tie.Start Inv-loop μ-loop
-  begun = c .before .before .before .before .before
+  begun = ended .before
 
-  abbrev all : tie.At-loop Inv-loop μ-loop
-  all = c .before .before .before .before
-
-  last-next : Sum (begun .args .samples .now) (begun .args .period + 1) (begun .args .period + 1) (all .loop .next + c .gap3 .result)
+  last-next : Sum (begun .args .samples .now) (begun .args .period + 1) (begun .args .period + 1) (ended .loop .next + c .gap3 .result)
   last-next =
-      let sum = sum-at {m = begun .args .period} (omega arith) (all .loop .inv .2) in
+      let sum = sum-at {m = begun .args .period} (omega arith) (ended .loop .inv .2) in
       sum-more sum (c .before .before .a2 .given) (c .before .c2 .given) (c .gap3 .ensures)
 
 -- ---- needs
@@ -66,7 +71,7 @@ add-next-2 c = omega (arith, last-next c .each)
 returns : tie.Need-returns Inv-loop μ-loop
 returns c =
     let s = begun c in
-    let this = sum-whole (s .pre .some) (omega (arith, s .pre .short)) (sum-at (omega arith) (all c .loop .inv .1)) in
+    let this = sum-whole (s .pre .some) (omega (arith, s .pre .short)) (sum-at (omega arith) (ended c .loop .inv .1)) in
     let next = sum-whole (omega (arith, s .pre .some)) (s .pre .short) (last-next c) in
     (this .0, this .1, next .0, next .1)
 

@@ -10,6 +10,7 @@ use lib.ListN.{length}
 use Rattle.frames.proofs.Room.{count-le}
 use Rattle.period.specs.Rates.{maxRequired}
 use Rattle.stretch.specs.declared.Stretched.the-variants.{Made}
+use Rattle.stretch.specs.declared.Turn.{Turn}
 use Rattle.stretch.specs.declared.Turn.the-variants.{NoRoom, Went}
 use Rattle.stretch.specs.Steps.{nextStep, turnFor, stageFor}
 use Rattle.stretch.specs.Speed.{begun}
@@ -35,13 +36,16 @@ abbrev μ-loop : tie.MeasureT-loop
 lent : (c : tie.Start Inv-loop μ-loop) → StretchLent (c .args .call) (c .args .input .now) (c .args .stage .now) (c .args .to .0) (c .args .room .0)
 lent c = record { ready = c .pre .0; whole = c .pre .1 .1 .0; area = c .pre .1 .1 .2 }
 
+abbrev entry : tie.At-loop Inv-loop μ-loop → tie.Start Inv-loop μ-loop
+entry c = c .before .before
+
 -- a turn: where it begins, and that a step is due there
 module _ (c : tie.Then1 Inv-loop μ-loop) where
   abbrev here : tie.At-loop Inv-loop μ-loop
   here = c .before .before
 
   abbrev start : tie.Start Inv-loop μ-loop
-  start = here .before .before
+  start = entry here
 
   room : here .loop .made * start .args .call .channels + (start .args .room .0 - here .loop .made) * start .args .call .channels
       ≡ start .args .room .0 * start .args .call .channels
@@ -53,10 +57,24 @@ module _ (c : tie.Then1 Inv-loop μ-loop) where
   due : here .loop .place .position .0 + maxRequired (start .args .call .rate) ≤ start .args .call .held .0
   due = omega (arith, c .if1 .taken, here .before .max-required .ensures)
 
--- what a turn wrote
+-- the place of its frames is computed
+abbrev counted : tie.After-take-step-arg2 Inv-loop μ-loop → tie.After-samples Inv-loop μ-loop
+counted c = c .before .before .before
+
+-- what a turn gave, and wrote
 module _ (c : tie.After-take-step Inv-loop μ-loop) where
   abbrev begun-at : tie.Then1 Inv-loop μ-loop
-  begun-at = c .before .before .before .before .before
+  begun-at = counted (c .before) .before
+
+  abbrev turn-due : Turn
+  turn-due =
+      let a = start begun-at .args in
+      let l = here begun-at .loop in
+      let x = a .input .now in
+      turnFor (a .call) x (l .place) (a .room .0 - l .made) (nextStep (a .call) x (l .place))
+
+  gave : (r : Turn) → c .take-step .result ≡ r → turn-due ≡ r
+  gave r e = sym (c .take-step .ensures .0) ∙ e
 
   abbrev stageAt : ℕ → List ℤ
   stageAt to =
@@ -66,7 +84,7 @@ module _ (c : tie.After-take-step Inv-loop μ-loop) where
       stageFor (a .call) x (l .place) (a .room .0 - l .made) (l .stage) to (nextStep (a .call) x (l .place))
 
   wrote : c .take-step .last .1 .1 .1 .0 ≡ stageAt (start begun-at .args .to .0 + here begun-at .loop .made * start begun-at .args .call .channels)
-  wrote = c .take-step .ensures .1 ∙ ap (λ (n : ℕ). stageAt (start begun-at .args .to .0 + n)) (c .before .before .before .before .samples .ensures)
+  wrote = c .take-step .ensures .1 ∙ ap (λ (n : ℕ). stageAt (start begun-at .args .to .0 + n)) (counted (c .before) .samples .ensures)
 
 -- a turn that went on
 module _ (c : tie.After-turn Inv-loop μ-loop) where
@@ -76,11 +94,20 @@ module _ (c : tie.After-turn Inv-loop μ-loop) where
   abbrev from : tie.Then1 Inv-loop μ-loop
   from = begun-at turned
 
-  went : (let a = start from .args in
-      let l = here from .loop in
-      turnFor (a .call) (a .input .now) (l .place) (a .room .0 - l .made) (nextStep (a .call) (a .input .now) (l .place)))
-      ≡ Went (c .turn .given .0 .0) (c .turn .given .0 .1 .0) (c .turn .given .0 .1 .1 .0)
-  went = sym (turned .take-step .ensures .0) ∙ c .turn .given .1
+  went : turn-due turned ≡ Went (c .turn .given .0 .0) (c .turn .given .0 .1 .0) (c .turn .given .0 .1 .1 .0)
+  went = gave turned _ (c .turn .given .1)
+
+-- the test whether it stalled
+abbrev gone : tie.After-struct-known3 Inv-loop μ-loop → tie.After-turn Inv-loop μ-loop
+gone c = c .before .before
+
+-- a turn that had no room
+abbrev no-room : tie.After-enum-told Inv-loop μ-loop → tie.After-take-step Inv-loop μ-loop
+no-room c = c .before .before .before .before
+
+-- too few frames are left
+abbrev ended : tie.Else1 Inv-loop μ-loop → tie.At-loop Inv-loop μ-loop
+ended c = c .before .before
 
 -- ---- needs
 
@@ -93,7 +120,7 @@ loop-holds c =
 add-if1 : tie.Need-add-if1 Inv-loop μ-loop
 add-if1 c =
     let l = c .before in
-    let b = l .before .before in
+    let b = entry l in
     record { fits = omega (arith, l .loop .inv .0 .within, l .before .max-required .ensures, b .pre .0 .few, b .pre .0 .opened .rate-high) }
 
 samples-requires : tie.Need-samples-requires Inv-loop μ-loop
@@ -107,7 +134,7 @@ sub-left c = here (c .before .before) .loop .inv .0 .fits
 
 take-step-requires : tie.Need-take-step-requires Inv-loop μ-loop
 take-step-requires c κs =
-    let s = c .before .before .before in
+    let s = counted c in
     let t = s .before in
     let p = start t .pre in
     let inv = here t .loop .inv in
@@ -117,35 +144,34 @@ take-step-requires c κs =
 
 returns : tie.Need-returns Inv-loop μ-loop
 returns c =
-    let k = c .before .before .before .before in
+    let k = no-room c in
     let t = begun-at k in
     let a = start t .args in
     let l = here t .loop in
     let x = a .input .now in
     let begin = begun (a .time-error) (a .prev) in
-    let none : turnFor (a .call) x (l .place) (a .room .0 - l .made) (nextStep (a .call) x (l .place)) ≡ NoRoom =
-    sym (k .take-step .ensures .0) ∙ c .enum-told .given .1 in
+    let none = gave k NoRoom (c .enum-told .given .1) in
     let over = going-full (lent (start t)) (l .inv .0) (due t) none in
     let kept = going-full-kept (lent (start t)) (l .inv .0) (due t) none (wrote k) in
     (full-made (a .call) x begin (a .room .0) over, full-staged (a .call) x begin (a .room .0) over kept)
 
 add-made : tie.Need-add-made Inv-loop μ-loop
 add-made c =
-    let v = c .before .before in
+    let v = gone c in
     let b = start (from v) in
     let fits = going-fits (lent b) (here (from v) .loop .inv .0) (due (from v)) (went v) (wrote (turned v)) (turned v .take-step .ensures .2) in
     let few = count-le (b .args .call .channels) (b .args .room .0) (b .pre .0 .opened .channels-low) in
     record { fits = omega (arith, fits, few, lent b .area) }
 
 same-length-3 : tie.Need-same-length-3 Inv-loop μ-loop
-same-length-3 c = let v = c .before .before .before .before in turned v .take-step .kept .1 .1 .1 .0 ∙ here (from v) .loop .inv .1
+same-length-3 c = let v = gone (c .before .before) in turned v .take-step .kept .1 .1 .1 .0 ∙ here (from v) .loop .inv .1
 
 same-length-4 : tie.Need-same-length-4 Inv-loop μ-loop
-same-length-4 c = let v = c .before .before .before .before in turned v .take-step .kept .1 .1 .1 .1 .1 .1 .0 ∙ here (from v) .loop .inv .2
+same-length-4 c = let v = gone (c .before .before) in turned v .take-step .kept .1 .1 .1 .1 .1 .1 .0 ∙ here (from v) .loop .inv .2
 
 returns-2 : tie.Need-returns-2 Inv-loop μ-loop
 returns-2 c =
-    let v = c .before .before .before .before in
+    let v = gone (c .before .before) in
     let t = from v in
     let order = turned v .take-step .ensures .2 in
     let e = going-stall (lent (start t)) (here t .loop .inv .0) (due t) (went v) (wrote (turned v)) order (c .before .if2 .taken) in
@@ -153,14 +179,14 @@ returns-2 c =
 
 loop-less : tie.Need-loop-less Inv-loop μ-loop
 loop-less c =
-    let v = c .before .before .before in
+    let v = gone (c .before) in
     let t = from v in
     let f = going-further (lent (start t)) (here t .loop .inv .0) (due t) (went v) (wrote (turned v)) (turned v .take-step .ensures .2) in
     omega (arith, f, due t, required-some (start t .pre .0))
 
 loop-again : tie.Need-loop-again Inv-loop μ-loop
 loop-again c =
-    let v = c .before .before .before in
+    let v = gone (c .before) in
     let t = from v in
     let order = turned v .take-step .ensures .2 in
     let g = going-on (lent (start t)) (here t .loop .inv .0) (due t) (went v) (wrote (turned v)) order (c .if2 .left) in
@@ -168,8 +194,8 @@ loop-again c =
 
 returns-3 : tie.Need-returns-3 Inv-loop μ-loop
 returns-3 c =
-    let l = c .before .before .before in
-    let e = going-end (lent (l .before .before)) (l .loop .inv .0) (omega (arith, c .before .if1 .left, l .before .max-required .ensures)) in
+    let l = ended (c .before) in
+    let e = going-end (lent (entry l)) (l .loop .inv .0) (omega (arith, c .before .if1 .left, l .before .max-required .ensures)) in
     (ap Made (c .answer2 .ensures) ∙ ended-made e, ended-staged e)
 
 -- ---- what search closes

@@ -27,43 +27,62 @@ inside c =
     let m : (n + required) * a .call .channels ≤ a .call .held .0 * a .call .channels = mul-le-mul-right (a .call .channels) (c .pre .1 .1 .0) in
     omega (arith, m, c .pre .1 .1 .1, add-mul n required (a .call .channels))
 
--- the search
-module _ (c : tie.After-search-at) where
-  abbrev start : tie.Start
-  start = c .before .before .before .before .before .before .before
+-- the test whether a copy step is due
+abbrev start : tie.After-copying-due → tie.Start
+start c = c .before .before .before
 
-  searched : c .search-at .result ≡ searchAt (start .args .call) (start .args .input .now) (start .args .place)
+-- it is due
+abbrev copying : tie.After-copy-count → tie.Then1
+copying c = c .before .before .before
+
+-- it is not: the search
+abbrev searching : tie.After-search-at-arg → tie.Else1
+searching c = c .before .before
+
+module _ (c : tie.After-search-at) where
+  abbrev not-due : tie.Else1
+  not-due = searching (c .before)
+
+  abbrev begun : tie.Start
+  begun = start (not-due .before)
+
+  searched : c .search-at .result ≡ searchAt (begun .args .call) (begun .args .input .now) (begun .args .place)
   unfolding searchAt
   searched = rw (c .before .before .samples .ensures) at (c .search-at .ensures .0)
 
-  not-copying : copyingDue (start .args .call .speed) (start .args .place .«time_error») ≡ false
-  not-copying = sym (c .before .before .before .before .copying-due .ensures) ∙ c .before .before .before .if1 .left
+  not-copying : copyingDue (begun .args .call .speed) (begun .args .place .«time_error») ≡ false
+  not-copying = sym (not-due .before .copying-due .ensures) ∙ not-due .if1 .left
+
+-- its answer makes the step
+abbrev answered : tie.After-period-step → tie.After-search-at
+answered c = c .before .before .before .before
 
 -- ---- needs
 
 returns : tie.Need-returns
 unfolding prevAfter
 returns c =
-    let b = c .before .before .before .before .before .before .before in
-    let a = b .args in
+    let t = copying c in
+    let s = start (t .before) in
+    let a = s .args in
     let x = a .input .now in
-    let due = sym (c .before .before .before .before .copying-due .ensures) ∙ c .before .before .before .if1 .taken in
+    let due = sym (t .before .copying-due .ensures) ∙ t .if1 .taken in
     let step : Copied (c .copy-count .result) ≡ nextStep (a .call) x (a .place) =
     (λ i. Copied (record { 0 = c .copy-count .ensures .0 i })) ∙ sym (nextStep-copied (a .call) x (a .place) due) in
-    (step, ap (prevAfter (a .call) x (a .place)) step, b .pre .1 .0)
+    (step, ap (prevAfter (a .call) x (a .place)) step, s .pre .1 .0)
 
 samples-requires : tie.Need-samples-requires
-samples-requires c κs = omega (arith, inside (c .before .before .before .before))
+samples-requires c κs = omega (arith, inside (start (c .before)))
 
 search-at-requires : tie.Need-search-at-requires
 search-at-requires c κs =
-    let b = c .before .before .before .before .before .before in
-    (b .pre .0 .opened, (b .pre .1 .0, (omega (arith, inside b, c .before .samples .ensures), search needs)))
+    let s = start (searching c .before) in
+    (s .pre .0 .opened, (s .pre .1 .0, (omega (arith, inside s, c .before .samples .ensures), search needs)))
 
 returns-2 : tie.Need-returns-2
 returns-2 c =
-    let found = c .before .before .before .before in
-    let a = start found .args in
+    let found = answered c in
+    let a = begun found .args in
     let x = a .input .now in
     let due = nextStep-searched (a .call) x (a .place) (not-copying found) in
     let step : c .period-step .result ≡ nextStep (a .call) x (a .place) =

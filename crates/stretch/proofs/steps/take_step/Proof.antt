@@ -8,14 +8,14 @@ use borrow.Author.Tests.{lt-ltb, le-ltb}
 use Rattle.period.specs.Pitch.{PrevInOrder}
 use Rattle.stretch.specs.declared.Step.{Step}
 use Rattle.stretch.specs.declared.Turn.the-variants.{Went}
-use Rattle.stretch.specs.Steps.{nextStep, framesOut, stalls, prevAfter, after, turnFor, stageFor, Sound}
+use Rattle.stretch.specs.Steps.{nextStep, framesOut, stalls, prevAfter, placeAfter, after, turnFor, stageFor, Sound}
 use Rattle.stretch.proofs.Soundness.{nextStep-sound, framesOut-le}
 use Rattle.stretch.proofs.steps.take_step.Statement.{statement}
 use Rattle.stretch.proofs.steps.take_step.Tie as tie
 
 -- ---- places, and what is known there
 
--- the step that is due is sound, and the period record after it in order
+-- the step that is due is sound; the period record after it is in order; the place after it
 module _ (c : tie.After-next-step) where
   abbrev start : tie.Start
   start = c .before .before
@@ -32,9 +32,26 @@ module _ (c : tie.After-next-step) where
   in-order : PrevInOrder (start .args .call .rate) (prevAfter (start .args .call) (start .args .input .now) (start .args .place) step)
   in-order = subst (PrevInOrder (start .args .call .rate)) (c .next-step .ensures .1) (c .next-step .ensures .2)
 
+  next-is : placeAfter (start .args .call) (start .args .place) (c .next-step .result .step) (c .next-step .result .prev)
+      ≡ after (start .args .call) (start .args .input .now) (start .args .place) step
+  unfolding after
+  next-is = λ i. placeAfter (start .args .call) (start .args .place) (c .next-step .ensures .0 i) (c .next-step .ensures .1 i)
+
 -- its frames, as counted
-out : (c : tie.After-frames-out) → c .frames-out .result .0 ≡ framesOut (step (c .before .before .before))
-out c = c .frames-out .ensures ∙ ap framesOut (c .before .before .before .next-step .ensures .0)
+module _ (c : tie.After-frames-out) where
+  abbrev stepped : tie.After-next-step
+  stepped = c .before .before .before
+
+  out : c .frames-out .result .0 ≡ framesOut (step stepped)
+  out = c .frames-out .ensures ∙ ap framesOut (stepped .next-step .ensures .0)
+
+-- the test whether they fit
+abbrev counted : tie.After-struct-known2 → tie.After-frames-out
+counted c = c .before .before
+
+-- they fit, and are written
+abbrev fitting : tie.After-stage → tie.Else1
+fitting c = c .before .before .before
 
 -- ---- needs
 
@@ -46,15 +63,15 @@ frames-out-requires c κs =
 returns : tie.Need-returns
 unfolding turnFor stageFor
 returns c =
-    let f = c .before .before .before in
-    let n = f .before .before .before in
+    let f = counted (c .before) in
+    let n = stepped f in
     let t = lt-ltb (start n .args .room .0) (framesOut (step n)) (omega (arith, out f, c .if1 .taken)) in
     (sym (rw t), sym (rw t), in-order n)
 
 write-step-requires : tie.Need-write-step-requires
 write-step-requires c κs =
-    let f = c .before .before .before .before in
-    let n = f .before .before .before in
+    let f = counted (c .before .before) in
+    let n = stepped f in
     let a = start n .args in
     let p = start n .pre in
     let s = n .next-step .result .step in
@@ -65,23 +82,22 @@ write-step-requires c κs =
 
 place-after-requires : tie.Need-place-after-requires
 place-after-requires c κs =
-    let n = c .before .before .before .before .before .before .before .before .before in
+    let n = stepped (counted (fitting c .before)) in
     (sound n, start n .pre .0 .few)
 
 returns-2 : tie.Need-returns-2
-unfolding turnFor stageFor after
+unfolding turnFor stageFor
 returns-2 c =
-    let f = c .before .before .before .before .before .before .before .before in
-    let n = f .before .before .before in
+    let w = c .before .before in
+    let f = counted (fitting w .before) in
+    let n = stepped f in
     let a = start n .args in
-    let x = a .input .now in
     let is = n .next-step .ensures .0 in
-    let t = le-ltb (a .room .0) (framesOut (step n)) (omega (arith, out f, c .before .before .before .before .before .if1 .left)) in
-    let place : c .before .place-after .result ≡ after (a .call) x (a .place) (step n) =
-    rw (is, n .next-step .ensures .1) at (c .before .place-after .ensures) in
+    let t = le-ltb (a .room .0) (framesOut (step n)) (omega (arith, out f, fitting w .if1 .left)) in
+    let place = c .before .place-after .ensures ∙ next-is n in
     let stall : c .stalls .result ≡ stalls (step n) = c .stalls .ensures ∙ ap stalls is in (
       rw t (λ i. Went (place i) (record { 0 = out f i }) (stall i)),
-      rw t (rw is at (c .before .before .before .write-step .ensures)),
+      rw t (rw is at (w .before .write-step .ensures)),
       in-order n,
     )
 
