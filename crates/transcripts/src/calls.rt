@@ -10,67 +10,10 @@ use printing::print_word;
 use scripts::sums::slice_sum;
 use sonic::Gave;
 use sonic::Wrote;
-use stream::Available;
-use stream::Changed;
-use stream::Opened;
-use stream::Setting;
 use stream::SonicStream;
 
 // What the places of a read's slice hold before it.
 const UNREAD: f32 = 0.5;
-
-// The stream before the first opening: that of a refused one.
-pub fn unopened() -> SonicStream {
-    match SonicStream::new(0, 0) {
-        Opened::Refused {
-            number: _,
-            given: _,
-            stream,
-        } => stream,
-        Opened::Done(stream) => stream,
-    }
-}
-
-// Opens a stream. A refusal carries the number given.
-pub fn open(rate: u32, channels: u32) -> SonicStream {
-    match SonicStream::new(rate, channels) {
-        Opened::Refused {
-            number,
-            given,
-            stream,
-        } => {
-            print_refused(number);
-            print_count(given as u64);
-            stream
-        }
-        Opened::Done(stream) => stream,
-    }
-}
-
-// Changes a setting.
-pub fn set(stream: SonicStream, setting: Setting) -> SonicStream {
-    match stream.set(setting) {
-        Changed::Refused(number, after) => {
-            print_refused(number);
-            after
-        }
-        Changed::Done(after) => after,
-    }
-}
-
-// Asks for the frames available.
-pub fn available(stream: SonicStream) -> SonicStream {
-    match stream.available_frames() {
-        Available::Refused(number, after) => {
-            print_refused(number);
-            after
-        }
-        Available::Waiting(n) => {
-            print_count(n.0 as u64);
-            stream
-        }
-    }
-}
 
 // Prints the answer of a write or a flush.
 fn wrote(answer: Wrote) -> SonicStream {

@@ -1,21 +1,16 @@
 // The replay: line after line, each on the stream and the lengths that the lines before have left.
-use crate::edits::with_field;
 use printing::print;
 use printing::print_stream;
 use scripts::signal::fill;
 use scripts::signal::signal_of;
-use scripts::sums::float;
-use scripts::sums::word;
 use scripts::text::Line;
 use scripts::text::parse;
-use stream::Setting;
+use small_calls::small_call;
+use small_calls::unopened;
+use small_calls::with_field;
 use stream::SonicStream;
-use transcripts::calls::available;
 use transcripts::calls::flush;
-use transcripts::calls::open;
 use transcripts::calls::read;
-use transcripts::calls::set;
-use transcripts::calls::unopened;
 use transcripts::calls::write;
 use transcripts::lent::LentLengths;
 use transcripts::lent::of_slice;
@@ -59,19 +54,6 @@ fn is_call(letter: u8) -> bool {
     match letter {
         b'#' | b'l' | b'e' => false,
         _ => true,
-    }
-}
-
-// Makes the call of a line that names no areas.
-fn small_call(stream: SonicStream, line: Line) -> SonicStream {
-    let letter = line.letter;
-    let first = word(line.a);
-    match letter {
-        b'o' => open(first, word(line.b)),
-        b's' => set(stream, Setting::Speed(float(first))),
-        b'p' => set(stream, Setting::Pitch(float(first))),
-        b'v' => set(stream, Setting::Volume(float(first))),
-        _ => available(stream),
     }
 }
 

@@ -36,7 +36,7 @@ fn with_count(mut stream: SonicStream, field: u64, value: u64) -> SonicStream {
 }
 
 // A stream with the field at a place of the struct set to a number, or a float to its bits.
-pub(crate) fn with_field(stream: SonicStream, field: u64, value: u64) -> SonicStream {
+pub fn with_field(stream: SonicStream, field: u64, value: u64) -> SonicStream {
     if field < 8 {
         with_setting(stream, field, value)
     } else {
