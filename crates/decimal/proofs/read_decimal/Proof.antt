@@ -58,10 +58,12 @@ returns-3 : tie.Need-returns-3
 returns-3 c =
     let w = behind-read c in
     let r = before-read w in
+    let l = text r in
+    let p = point r in
     let n = w .whole .given .0 .0 in
-    let inside : point r ≡ length (text r) → ⊥ = λ e. omega arith in
-    let rest : c .read-places .result ≡ placesFrom n (take (length (text r) - (point r + 1)) (drop (point r + 1) (text r))) = c .read-places .ensures in
-    rest ∙ ap (placesFrom n) (behind-point (text r) (point r)) ∙ sym (decimal-behind (text r) (point r) (first-point r) n inside (whole-is w))
+    let inside : p ≡ length l → ⊥ = λ e. omega arith in
+    let rest : c .read-places .result ≡ placesFrom n (take (length l - (p + 1)) (drop (p + 1) l)) = c .read-places .ensures in
+    rest ∙ ap (placesFrom n) (behind-point l p) ∙ sym (decimal-behind l p (first-point r) n inside (whole-is w))
 
 -- ---- what search closes
 
