@@ -1,13 +1,42 @@
 -- `decimal::read_decimal` meets its contract, by the place of the first point. Assumes nothing.
 use borrow.Author.Needs.{needs}
 use mathlib.Core.Path.{_≡_, sym, ap, _∙_}
-use Prim.Native.Nat.{_+_, _-_}
+use mathlib.Core.List.{List}
+use Prim.Native.Nat.{ℕ, _+_, _-_}
 use native.Mathlib.Omega.{arith}
 use lib.ListN.{length, take, drop, length-take}
-use Rattle.decimal.specs.Decimal.{placesFrom}
+use Rattle.bytes.specs.Bytes.{indexOf}
+use Rattle.decimal.specs.declared.Digits.{Digits}
+use Rattle.decimal.specs.Decimal.{wholeOf, placesFrom}
 use Rattle.decimal.proofs.Reading.{find-point, behind-point, decimal-whole, decimal-behind, decimal-refused}
 use Rattle.decimal.proofs.read_decimal.Statement.{statement}
 use Rattle.decimal.proofs.read_decimal.Tie as tie
+
+-- ---- places, and what is known there
+
+-- the point is searched for, then the text before it is read
+abbrev searched : tie.After-read-whole → tie.After-find
+searched c = c .before .before
+
+-- that text is a number
+abbrev before-read : tie.After-whole → tie.After-read-whole
+before-read c = c .before .before
+
+-- the text behind the point is read
+abbrev behind-read : tie.After-read-places → tie.After-whole
+behind-read c = c .before .before .before .before
+
+abbrev text : tie.After-read-whole → List ℕ
+text c = searched c .before .before .args .text .now
+
+abbrev point : tie.After-read-whole → ℕ
+point c = searched c .find .result
+
+first-point : (c : tie.After-read-whole) → point c ≡ indexOf 46 (text c)
+first-point c = find-point (text c) (point c) (searched c .find .ensures .0)
+
+whole-is : (c : tie.After-whole) → wholeOf (take (point (before-read c)) (text (before-read c))) ≡ Digits.Number (c .whole .given .0 .0)
+whole-is c = sym (before-read c .read-whole .ensures) ∙ c .whole .given .1
 
 -- ---- needs
 
@@ -16,30 +45,25 @@ slice-aggregate-read-whole c = simp length-take (omega arith)
 
 returns : tie.Need-returns
 returns c =
-    let k = c .before .before in
-    let f = k .before .before .before in
-    let text = f .before .before .before .args .text .now in
-    let w = sym (k .before .before .read-whole .ensures) ∙ k .whole .given .1 in
-    sym (decimal-whole text (f .before .find .result) (find-point text (f .before .find .result) (f .before .find .ensures .0)) _ (omega arith) w)
+    let w = c .before .before in
+    let r = before-read w in
+    sym (decimal-whole (text r) (point r) (first-point r) _ (omega arith) (whole-is w))
 
 returns-2 : tie.Need-returns-2
 returns-2 c =
-    let f = c .before .before .before in
-    let text = f .before .before .before .args .text .now in
-    let w = sym (c .before .before .read-whole .ensures) ∙ c .enum-told .given .1 in
-    sym (decimal-refused text (f .before .find .result) (find-point text (f .before .find .result) (f .before .find .ensures .0)) w)
+    let r = c .before .before in
+    sym (decimal-refused (text r) (point r) (first-point r) (sym (r .read-whole .ensures) ∙ c .enum-told .given .1))
 
 returns-3 : tie.Need-returns-3
 returns-3 c =
-    let k = c .before .before .before .before in
-    let f = k .before .before .before in
-    let text = f .before .before .before .args .text .now in
-    let w = sym (k .before .before .read-whole .ensures) ∙ k .whole .given .1 in
-    let p = f .before .find .result in
-    let n = k .whole .given .0 .0 in
-    let inside : p ≡ length text → ⊥ = λ e. omega arith in
-    let rest : c .read-places .result ≡ placesFrom n (take (length text - (p + 1)) (drop (p + 1) text)) = c .read-places .ensures in
-    rest ∙ ap (placesFrom n) (behind-point text p) ∙ sym (decimal-behind text p (find-point text p (f .before .find .ensures .0)) n inside w)
+    let w = behind-read c in
+    let r = before-read w in
+    let l = text r in
+    let p = point r in
+    let n = w .whole .given .0 .0 in
+    let inside : p ≡ length l → ⊥ = λ e. omega arith in
+    let rest : c .read-places .result ≡ placesFrom n (take (length l - (p + 1)) (drop (p + 1) l)) = c .read-places .ensures in
+    rest ∙ ap (placesFrom n) (behind-point l p) ∙ sym (decimal-behind l p (first-point r) n inside (whole-is w))
 
 -- ---- what search closes
 

@@ -1,7 +1,8 @@
 -- `decimal::read_digits` meets its contract: what is left to read gives what the whole text gives. Assumes nothing.
 use borrow.Author.Needs.{needs}
 use mathlib.Core.Path.{_≡_, refl, sym, _∙_}
-use Prim.Native.Nat.{_-_, _≤_}
+use mathlib.Core.List.{List}
+use Prim.Native.Nat.{ℕ, _-_, _≤_}
 use native.Mathlib.Numerals.{add-one}
 use native.Mathlib.Omega.{arith}
 use lib.ListN.{length, drop}
@@ -18,6 +19,19 @@ Inv-loop before text n₀ i₀ n i = (i ≤ length text) × (digitsFrom n (drop 
 abbrev μ-loop : tie.MeasureT-loop
 μ-loop before text n₀ i₀ n i = length text - i
 
+-- ---- places, and what is known there
+
+abbrev text : tie.At-loop Inv-loop μ-loop → List ℕ
+text l = l .before .args .text .now
+
+-- a byte is read
+abbrev turn : tie.After-shared-slice-known Inv-loop μ-loop → tie.At-loop Inv-loop μ-loop
+turn c = c .before .before
+
+-- it is a digit
+abbrev digit-turn : tie.Else2 Inv-loop μ-loop → tie.At-loop Inv-loop μ-loop
+digit-turn c = turn (c .before .before)
+
 -- ---- needs
 
 loop-holds : tie.Need-loop-holds Inv-loop μ-loop
@@ -25,33 +39,29 @@ loop-holds c = (omega arith, refl)
 
 returns : tie.Need-returns Inv-loop μ-loop
 returns c =
-    let l = c .before .before .before .loop in
-    let text = c .before .before .before .before .args .text .now in
-    sym (digits-below text (l .n) (l .i) (omega arith) (omega arith)) ∙ l .inv .1
+    let t = turn (c .before) in
+    sym (digits-below (text t) (t .loop .n) (t .loop .i) (omega arith) (omega arith)) ∙ t .loop .inv .1
 
 returns-2 : tie.Need-returns-2 Inv-loop μ-loop
 returns-2 c =
-    let l = c .before .before .before .before .loop in
-    let text = c .before .before .before .before .before .args .text .now in
-    sym (digits-above text (l .n) (l .i) (omega arith) (omega arith)) ∙ l .inv .1
+    let t = turn (c .before .before) in
+    sym (digits-above (text t) (t .loop .n) (t .loop .i) (omega arith) (omega arith)) ∙ t .loop .inv .1
 
 returns-3 : tie.Need-returns-3 Inv-loop μ-loop
 returns-3 c =
-    let l = c .before .before .before .before .before .loop in
-    let text = c .before .before .before .before .before .before .args .text .now in
-    sym (digits-full text (l .n) (l .i) (omega arith) (omega arith) (omega arith) (omega arith)) ∙ l .inv .1
+    let t = digit-turn (c .before) in
+    sym (digits-full (text t) (t .loop .n) (t .loop .i) (omega arith) (omega arith) (omega arith) (omega arith)) ∙ t .loop .inv .1
 
 loop-again : tie.Need-loop-again Inv-loop μ-loop
 loop-again c =
-    let l = c .before .before .before .before .before .loop in
-    let text = c .before .before .before .before .before .before .args .text .now in
-    (omega arith, rw add-one (sym (digits-more text (l .n) (l .i) (omega arith) (omega arith) (omega arith) (omega arith)) ∙ l .inv .1))
+    let t = digit-turn (c .before) in
+    let more = digits-more (text t) (t .loop .n) (t .loop .i) (omega arith) (omega arith) (omega arith) (omega arith) in
+    (omega arith, rw add-one (sym more ∙ t .loop .inv .1))
 
 returns-4 : tie.Need-returns-4 Inv-loop μ-loop
 returns-4 c =
     let l = c .before .loop in
-    let text = c .before .before .args .text .now in
-    sym (digits-end text (l .n) (l .i) (omega arith)) ∙ l .inv .1
+    sym (digits-end (text (c .before)) (l .n) (l .i) (omega arith)) ∙ l .inv .1
 
 -- ---- what search closes
 

@@ -6,8 +6,8 @@ use mathlib.Core.Path.{_≡_}
 use mathlib.Core.Bool.{true, false}
 use lib.IntN.{pos, natAbs, _-ℤ_}
 use lib.Signed.{ltZ, natAbs-le}
-use mir.Syntax.{w32}
-use mir.Val.{SFits}
+use mir.Syntax.{w16, w32}
+use mir.Val.{SFits, toZ, ofZ}
 use mir.Facts.{toZ-ofZ}
 use Rattle.laws.proofs.Integers.{sfits-of-natAbs, natAbs-negated, negated-nonNeg, kept-nonNeg}
 use Rattle.laws.proofs.Widening.{widened-reads, widened-fits}
@@ -15,6 +15,18 @@ use Rattle.figures.proofs.print_sample.Statement.{statement}
 use Rattle.figures.proofs.print_sample.Tie as tie
 
 -- ---- places, and what is known there
+
+-- a sample below 0 is printed
+abbrev start-below : tie.After-print-number-arg → tie.Start
+start-below c = c .before .before .before .before
+
+-- one not below 0 is
+abbrev start-not-below : tie.After-print-number-arg2 → tie.Start
+start-not-below c = c .before .before .before .before
+
+-- the sample as an `i32` is the sample
+reads-back : (c : tie.Start) → toZ w32 (ofZ w32 (toZ w16 (ofZ w16 (c .args .sample)))) ≡ c .args .sample
+reads-back c = widened-reads w32 tt (c .fits .sample)
 
 size-le : (c : tie.Start) → natAbs (c .args .sample) ≤ 32768
 size-le c = natAbs-le (c .args .sample) (c .fits .sample .sfits)
@@ -28,22 +40,20 @@ cast-value : tie.Need-cast-value
 cast-value c = widened-fits tt (c .before .fits .sample)
 
 sub-print-number : tie.Need-sub-print-number
-sub-print-number c =
-    let s = c .before .before .before .before in
-    rw (widened-reads w32 tt (s .fits .sample)) (negated-fits s)
+sub-print-number c = rw (reads-back (start-below c)) (negated-fits (start-below c))
 
 cast-print-number : tie.Need-cast-print-number
 cast-print-number c =
-    let s = c .before .before .before .before in
-    let below : ltZ (s .args .sample) (pos 0) ≡ true = rw (widened-reads w32 tt (s .fits .sample)) at (c .before .if1 .taken) in
-    rw (widened-reads w32 tt (s .fits .sample), toZ-ofZ {w = w32} (negated-fits s))
+    let s = start-below c in
+    let below : ltZ (s .args .sample) (pos 0) ≡ true = rw (reads-back s) at (c .before .if1 .taken) in
+    rw (reads-back s, toZ-ofZ {w = w32} (negated-fits s))
     (negated-nonNeg (s .args .sample) below, omega (arith, size-le s, natAbs-negated (s .args .sample)))
 
 cast-print-number-2 : tie.Need-cast-print-number-2
 cast-print-number-2 c =
-    let s = c .before .before .before .before in
-    let not-below : ltZ (s .args .sample) (pos 0) ≡ false = rw (widened-reads w32 tt (s .fits .sample)) at (c .before .if1 .left) in
-    rw (widened-reads w32 tt (s .fits .sample)) (kept-nonNeg (s .args .sample) not-below, omega (arith, size-le s))
+    let s = start-not-below c in
+    let not-below : ltZ (s .args .sample) (pos 0) ≡ false = rw (reads-back s) at (c .before .if1 .left) in
+    rw (reads-back s) (kept-nonNeg (s .args .sample) not-below, omega (arith, size-le s))
 
 -- ---- what search closes
 

@@ -21,6 +21,12 @@ Inv-loop source area₀ f t n i₀ area i = (i ≤ n) × (length area ≡ length
 abbrev μ-loop : tie.MeasureT-loop
 μ-loop source area₀ f t n i₀ area i = n - i
 
+-- ---- places, and what is known there
+
+-- a sample is read
+abbrev turn : tie.After-x Inv-loop μ-loop → tie.At-loop Inv-loop μ-loop
+turn c = c .before .before
+
 -- ---- needs
 
 loop-holds : tie.Need-loop-holds Inv-loop μ-loop
@@ -28,8 +34,8 @@ loop-holds c = (omega arith, refl, paste-zero (c .args .area .now) (c .args .to 
 
 loop-again : tie.Need-loop-again Inv-loop μ-loop
 loop-again c =
-    let l = c .before .before .loop in
-    let a = c .before .before .before .args in
+    let l = turn c .loop in
+    let a = turn c .before .args in
     let s : List ℤ = a .source .now in
     let d : List ℤ = a .area .now in
     let x : ℤ = getD s (a .from .0 + l .i) (pos 0) in

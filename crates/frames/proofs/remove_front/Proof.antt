@@ -21,6 +21,12 @@ Inv-loop area₀ n m i₀ area i = (i ≤ m) × (length area ≡ length area₀)
 abbrev μ-loop : tie.MeasureT-loop
 μ-loop area₀ n m i₀ area i = m - i
 
+-- ---- places, and what is known there
+
+-- a sample is read
+abbrev turn : tie.After-x Inv-loop μ-loop → tie.At-loop Inv-loop μ-loop
+turn c = c .before .before
+
 -- ---- needs
 
 loop-holds : tie.Need-loop-holds Inv-loop μ-loop
@@ -28,8 +34,8 @@ loop-holds c = (omega arith, refl, paste-zero (c .args .area .now) 0 (drop (c .a
 
 loop-again : tie.Need-loop-again Inv-loop μ-loop
 loop-again c =
-    let l = c .before .before .loop in
-    let a = c .before .before .before .args in
+    let l = turn c .loop in
+    let a = turn c .before .args in
     let d : List ℤ = a .area .now in
     let n : ℕ = a .count .0 in
     let x : ℤ = getD (l .area) (n + l .i) (pos 0) in

@@ -20,6 +20,15 @@ Inv-loop bytes count values₀ i₀ values i = (i ≤ count) × (length values �
 abbrev μ-loop : tie.MeasureT-loop
 μ-loop bytes count values₀ i₀ values i = count - i
 
+-- ---- places, and what is known there
+
+abbrev start : tie.At-loop Inv-loop μ-loop → tie.Start Inv-loop μ-loop
+start l = l .before .before .before
+
+-- a sample is read and made a value
+abbrev turn : tie.After-sample-out Inv-loop μ-loop → tie.At-loop Inv-loop μ-loop
+turn c = c .before .before .before .before .before
+
 -- ---- needs
 
 loop-holds : tie.Need-loop-holds Inv-loop μ-loop
@@ -27,8 +36,8 @@ loop-holds c = (omega arith, refl, record { value = λ i l. absurd (omega arith)
 
 loop-again : tie.Need-loop-again Inv-loop μ-loop
 loop-again c =
-    let l = c .before .before .before .before .before .loop in
-    let a = c .before .before .before .before .before .before .before .before .args in
+    let l = turn c .loop in
+    let a = start (turn c) .args in
     let inside : l .i < length (l .values) = omega arith in
     let v = toZ-ofZ {w = w16} {z = c .before .sample .result} (record { sfits = c .before .sample .ok }) in
     let x = c .sample-out .ensures ∙ ap sampleOut (v ∙ c .before .sample .ensures) in (
@@ -40,7 +49,7 @@ loop-again c =
 returns : tie.Need-returns Inv-loop μ-loop
 returns c =
     let l = c .before .loop in
-    let a = c .before .before .before .before .args in
+    let a = start (c .before) .args in
     let e : l .i ≡ a .count = omega arith in
     subst (λ (n : ℕ). Decoded n (a .bytes .now) (l .values)) e (l .inv .2)
 

@@ -19,20 +19,27 @@ Inv-loop values count bytes₀ i₀ bytes i = (i ≤ count) × (length bytes ≡
 abbrev μ-loop : tie.MeasureT-loop
 μ-loop values count bytes₀ i₀ bytes i = count - i
 
+-- ---- places, and what is known there
+
+abbrev start : tie.At-loop Inv-loop μ-loop → tie.Start Inv-loop μ-loop
+start l = l .before .before .before
+
+-- a value is read and made two bytes
+abbrev turn : tie.After-pair Inv-loop μ-loop → tie.At-loop Inv-loop μ-loop
+turn c = c .before .before .before .before
+
 -- ---- needs
 
 loop-holds : tie.Need-loop-holds Inv-loop μ-loop
 loop-holds c = (omega arith, refl, record { low = λ i l. absurd (omega arith); high = λ i l. absurd (omega arith) })
 
 slice-write-bytes-2 : tie.Need-slice-write-bytes-2 Inv-loop μ-loop
-slice-write-bytes-2 c =
-    let l = c .before .before .before .before .loop in
-    omega (arith, length-set (l .bytes) (2 * l .i) (c .pair .result % 256))
+slice-write-bytes-2 c = omega (arith, length-set (turn c .loop .bytes) (2 * turn c .loop .i) (c .pair .result % 256))
 
 loop-again : tie.Need-loop-again Inv-loop μ-loop
 loop-again c =
-    let l = c .before .before .before .before .loop in
-    let a = c .before .before .before .before .before .before .before .args in
+    let l = turn c .loop in
+    let a = start (turn c) .args in
     let n = c .pair .result in
     let inside : 2 * l .i + 1 < length (l .bytes) = omega arith in
     let v = toZ-ofZ {w = w16} {z = c .before .sample-read .result} (record { sfits = c .before .sample-read .ok }) in
@@ -47,7 +54,7 @@ loop-again c =
 returns : tie.Need-returns Inv-loop μ-loop
 returns c =
     let l = c .before .loop in
-    let a = c .before .before .before .before .args in
+    let a = start (c .before) .args in
     let e : l .i ≡ a .count = omega arith in
     subst (λ (n : ℕ). Encoded n (a .values .now) (l .bytes)) e (l .inv .2)
 

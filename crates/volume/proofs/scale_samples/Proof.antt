@@ -39,8 +39,18 @@ scaled-gain : (v : Float) (x : ℤ) → eq v one ≡ false → scaled v x ≡ am
 unfolding scaled
 scaled-gain v x e = rw e
 
+abbrev start : tie.After-fixed-point Inv-loop μ-loop → tie.Start Inv-loop μ-loop
+start c = c .before .before
+
+-- a sample is amplified
+abbrev turn : tie.After-amplify-arg Inv-loop μ-loop → tie.At-loop Inv-loop μ-loop
+turn c = c .before .before
+
 -- the gain that the loop uses
-gain-is : (c : tie.After-fixed-point Inv-loop μ-loop) → toZ w32 (ofZ w32 (c .fixed-point .result)) ≡ pos (gain (c .before .before .args .volume))
+abbrev used-gain : tie.After-fixed-point Inv-loop μ-loop → ℤ
+used-gain c = toZ w32 (ofZ w32 (c .fixed-point .result))
+
+gain-is : (c : tie.After-fixed-point Inv-loop μ-loop) → used-gain c ≡ pos (gain (start c .args .volume))
 gain-is c = toZ-ofZ {w = w32} {z = c .fixed-point .result} (record { sfits = c .fixed-point .ok }) ∙ c .fixed-point .ensures .0
 
 -- ---- needs
@@ -53,19 +63,18 @@ returns c =
 
 loop-holds : tie.Need-loop-holds Inv-loop μ-loop
 loop-holds c =
-    let a = c .before .before .args in
-    let z : ℤ = toZ w32 (ofZ w32 (c .fixed-point .result)) in
-    (omega arith, refl, paste-zero (a .area .now) (a .at .0) (map (amplified z) (drop (a .at .0) (a .area .now))))
+    let a = start c .args in
+    (omega arith, refl, paste-zero (a .area .now) (a .at .0) (map (amplified (used-gain c)) (drop (a .at .0) (a .area .now))))
 
 amplify-requires : tie.Need-amplify-requires Inv-loop μ-loop
-amplify-requires c κs =
-    rw (gain-is (c .before .before .before)) (c .before .before .before .fixed-point .ensures .1)
+amplify-requires c κs = rw (gain-is (turn c .before)) (turn c .before .fixed-point .ensures .1)
 
 loop-again : tie.Need-loop-again Inv-loop μ-loop
 loop-again c =
-    let l = c .before .before .before .loop in
-    let a = c .before .before .before .before .before .before .args in
-    let z : ℤ = toZ w32 (ofZ w32 (c .before .before .before .before .fixed-point .result)) in
+    let t = turn (c .before) in
+    let l = t .loop in
+    let a = start (t .before) .args in
+    let z : ℤ = used-gain (t .before) in
     let d : List ℤ = a .area .now in
     let k : ℕ = a .at .0 + l .i in
     let h : k < length d = omega arith in
@@ -83,10 +92,10 @@ returns-2 : tie.Need-returns-2 Inv-loop μ-loop
 unfolding ofBits
 returns-2 c =
     let l = c .before .loop in
-    let a = c .before .before .before .before .args in
     let s = c .before .before in
+    let a = start s .args in
     let e : l .i ≡ a .count .0 = omega arith in
-    let z : ℤ = toZ w32 (ofZ w32 (s .fixed-point .result)) in
+    let z : ℤ = used-gain s in
     let same : (x : ℤ) → amplified z x ≡ scaled (a .volume) x =
     λ x. ap (λ (g : ℤ). amplified g x) (gain-is s) ∙ sym (scaled-gain (a .volume) x (s .before .if1 .left)) in
     l .inv .2 ∙ ap (paste (a .area .now) (a .at .0) (map (amplified z) (drop (a .at .0) (a .area .now)))) e

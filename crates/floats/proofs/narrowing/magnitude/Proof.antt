@@ -18,23 +18,34 @@ use Rattle.floats.proofs.narrowing.magnitude.Tie as tie
 shifted : (w : ℕ) → w < 64 → 1 * 2 ^ w % 2 ^ 64 ≡ 2 ^ w
 shifted w h = shl-exact {a = 1} 1 w 64 (lit< tt) (omega arith) ∙ one-mul (2 ^ w)
 
+-- e is from 873 below 897
+abbrev low : tie.After-closest → tie.Start
+low c = c .before .before .before
+
+-- from 897 below 1151
+abbrev mid : tie.After-closest2 → tie.Start
+mid c = c .before .before .before .before
+
+-- from 1151
+abbrev high : tie.Else3 → tie.Start
+high c = c .before .before .before
+
 -- what is kept of a subnormal `f32`
-kept : (c : tie.After-closest)
-    → c .closest .result ≡ closest (2 ^ 52 + c .before .before .before .args .t) (2 ^ (926 - c .before .before .before .args .e))
+kept : (c : tie.After-closest) → c .closest .result ≡ closest (2 ^ 52 + low c .args .t) (2 ^ (926 - low c .args .e))
 kept c =
-    let a = c .before .before .before .args in
+    let a = low c .args in
     c .closest .ensures ∙ ap (closest (2 ^ 52 + a .t)) (shifted (926 - a .e) (omega arith))
 
 kept-le : (c : tie.After-closest) → c .closest .result ≤ 2 ^ 23
 kept-le c =
-    let s = c .before .before .before in
+    let s = low c in
     let t = s .args .t in
     rw (kept c) (low-le (2 ^ 52 + t) (926 - s .args .e) (with-lead t (s .pre .1 .0)) (omega arith))
 
 -- what is kept of a normal one
 kept-le-2 : (c : tie.After-closest2) → c .closest2 .result ≤ 2 ^ 24
 kept-le-2 c =
-    let s = c .before .before .before .before in
+    let s = mid c in
     rw (c .closest2 .ensures) (mid-le (2 ^ 52 + s .args .t) (with-lead (s .args .t) (s .pre .1 .0)))
 
 -- ---- needs
@@ -52,7 +63,7 @@ cast-result c = omega (arith, kept-le c)
 
 returns-2 : tie.Need-returns-2
 returns-2 c =
-    let s = c .before .before .before in
+    let s = low c in
     let is = sym (kept c) in
     let from : 873 ≤ s .args .e = omega arith in
     (λ t. low-is t (s .args .e) (s .args .t) from (c .before .if2 .taken) (s .pre .1 .0) ∙ (λ i. mark t + is i), omega (arith, kept-le c))
@@ -65,7 +76,7 @@ cast-result-2 c = omega (arith, kept-le-2 c)
 
 returns-3 : tie.Need-returns-3
 returns-3 c =
-    let s = c .before .before .before .before in
+    let s = mid c in
     let e = s .args .e in
     let is = sym (c .closest2 .ensures) in
     let from : 897 ≤ e = omega arith in (
@@ -75,7 +86,7 @@ returns-3 c =
 
 returns-4 : tie.Need-returns-4
 returns-4 c =
-    let s = c .before .before .before in
+    let s = high c in
     (λ t. high-is t (s .args .e) (s .args .t) (c .if3 .left) (s .pre .0) (s .pre .1 .0) (s .pre .1 .1), lit< tt)
 
 -- ---- what search closes

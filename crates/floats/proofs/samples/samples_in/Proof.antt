@@ -23,6 +23,15 @@ Inv-loop source area₀ n t i₀ area i = (i ≤ n) × (length area ≡ length a
 abbrev μ-loop : tie.MeasureT-loop
 μ-loop source area₀ n t i₀ area i = n - i
 
+-- ---- places, and what is known there
+
+abbrev start : tie.At-loop Inv-loop μ-loop → tie.Start Inv-loop μ-loop
+start l = l .before .before
+
+-- a value is made a sample
+abbrev turn : tie.After-sample-in Inv-loop μ-loop → tie.At-loop Inv-loop μ-loop
+turn c = c .before .before .before
+
 -- ---- needs
 
 loop-holds : tie.Need-loop-holds Inv-loop μ-loop
@@ -30,8 +39,8 @@ loop-holds c = (omega arith, refl, paste-zero (c .before .args .area .now) (c .b
 
 loop-again : tie.Need-loop-again Inv-loop μ-loop
 loop-again c =
-    let l = c .before .before .before .loop in
-    let a = c .before .before .before .before .before .args in
+    let l = turn c .loop in
+    let a = start (turn c) .args in
     let d : List ℤ = a .area .now in
     let to : ℕ = a .to .0 in
     let h : to + l .i < length d = omega arith in
@@ -45,7 +54,7 @@ loop-again c =
 returns : tie.Need-returns Inv-loop μ-loop
 returns c =
     let l = c .before .loop in
-    let a = c .before .before .before .args in
+    let a = start (c .before) .args in
     let e : l .i ≡ a .count .0 = omega arith in
     l .inv .2 ∙ ap (paste (a .area .now) (a .to .0) (map sampleIn (a .source .now))) e
 

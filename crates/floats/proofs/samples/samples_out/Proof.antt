@@ -23,6 +23,15 @@ Inv-loop area slice₀ n i₀ slice i = (i ≤ n) × (length slice ≡ length sl
 abbrev μ-loop : tie.MeasureT-loop
 μ-loop area slice₀ n i₀ slice i = n - i
 
+-- ---- places, and what is known there
+
+abbrev start : tie.At-loop Inv-loop μ-loop → tie.Start Inv-loop μ-loop
+start l = l .before .before
+
+-- a sample is made a value
+abbrev turn : tie.After-sample-out Inv-loop μ-loop → tie.At-loop Inv-loop μ-loop
+turn c = c .before .before .before
+
 -- ---- needs
 
 loop-holds : tie.Need-loop-holds Inv-loop μ-loop
@@ -30,8 +39,8 @@ loop-holds c = (omega arith, refl, paste-zero (c .before .args .slice .now) 0 (m
 
 loop-again : tie.Need-loop-again Inv-loop μ-loop
 loop-again c =
-    let l = c .before .before .before .loop in
-    let a = c .before .before .before .before .before .args in
+    let l = turn c .loop in
+    let a = start (turn c) .args in
     let h : 0 + l .i < length (a .slice .now) = omega arith in
     let k : l .i < length (a .area .now) = omega arith in
     let at : 0 + l .i ≡ l .i = omega arith in
@@ -45,7 +54,7 @@ loop-again c =
 returns : tie.Need-returns Inv-loop μ-loop
 returns c =
     let l = c .before .loop in
-    let a = c .before .before .before .args in
+    let a = start (c .before) .args in
     let e : l .i ≡ a .count .0 = omega arith in
     l .inv .2 ∙ ap (paste (a .slice .now) 0 (map sampleOut (a .area .now))) e
 

@@ -29,30 +29,38 @@ wanted c = toCopy (c .args .error) (c .args .s) (c .args .sample-period)
 abbrev counted : tie.Start → ℕ
 counted c = copyCount (c .args .error) (c .args .s) (c .args .sample-period) (c .args .left .0)
 
-by : (c : tie.Start) (b : Bool) → lt (count (c .args .left .0)) (wanted c) ≡ b → cond b (c .args .left .0) (natOf (toSigned 31 (wanted c))) ≡ counted c
+by : (c : tie.Start) (b : Bool) → lt (count (c .args .left .0)) (wanted c) ≡ b
+    → cond b (c .args .left .0) (natOf (toSigned 31 (wanted c))) ≡ counted c
 by c b h = copy-by (c .args .error) (c .args .s) (c .args .sample-period) (c .args .left .0) b h
+
+abbrev start : tie.After-frames-to-f32 → tie.Start
+start c = c .before .before
+
+-- past the first `if`
+abbrev compared : tie.After-f32-to-i32 → tie.After-frames-to-f32
+compared c = c .before .before
 
 -- the test of the first `if`, in the contract's words
 tested : (c : tie.After-frames-to-f32) (b : Bool) → lt (c .frames-to-f32 .result) (c .before .to-copy .result) ≡ b
-    → lt (count (c .before .before .args .left .0)) (wanted (c .before .before)) ≡ b
+    → lt (count (start c .args .left .0)) (wanted (start c)) ≡ b
 tested c b h = sym (λ i. lt (c .frames-to-f32 .ensures i) (c .before .to-copy .ensures i)) ∙ h
 
 -- the cast fits, and reads back from its bits
 cast-in : (c : tie.After-f32-to-i32) → mag (c .f32-to-i32 .result) < 2 ^ 31
-cast-in c = rw (c .f32-to-i32 .ensures) (toSigned-in 31 (c .before .before .before .to-copy .result))
+cast-in c = rw (c .f32-to-i32 .ensures) (toSigned-in 31 (compared c .before .to-copy .result))
 
 back : (c : tie.After-f32-to-i32) → toZ w32 (ofZ w32 (c .f32-to-i32 .result)) ≡ c .f32-to-i32 .result
 back c = toZ-ofZ w32 (c .f32-to-i32 .result) (record { sfits = cast-in c })
 
 -- what is returned past the first `if`
-cut : (c : tie.After-f32-to-i32) → natOf (c .f32-to-i32 .result) ≡ counted (c .before .before .before .before)
+cut : (c : tie.After-f32-to-i32) → natOf (c .f32-to-i32 .result) ≡ counted (start (compared c))
 cut c =
-    ap natOf (c .f32-to-i32 .ensures ∙ ap (toSigned 31) (c .before .before .before .to-copy .ensures))
-    ∙ by (c .before .before .before .before) false (tested (c .before .before) false (c .before .if1 .left))
+    let d = compared c in
+    ap natOf (c .f32-to-i32 .ensures ∙ ap (toSigned 31) (d .before .to-copy .ensures)) ∙ by (start d) false (tested d false (c .before .if1 .left))
 
-few : (c : tie.After-f32-to-i32) → counted (c .before .before .before .before) ≤ c .before .before .before .before .args .left .0
+few : (c : tie.After-f32-to-i32) → counted (start (compared c)) ≤ start (compared c) .args .left .0
 few c =
-    let s = c .before .before .before .before in
+    let s = start (compared c) in
     copy-le (s .args .error) (s .args .s) (s .args .sample-period) (s .args .left .0) (s .pre)
 
 kept : (c : tie.Else2)
@@ -63,7 +71,9 @@ kept c = natOf-from-zero (c .before .f32-to-i32 .result) (cast-in (c .before)) (
 -- ---- needs
 
 returns : tie.Need-returns
-returns c = (by (c .before .before .before) true (tested (c .before) true (c .if1 .taken)), le-refl (c .before .before .before .args .left .0))
+returns c =
+    let s = start (c .before) in
+    (by s true (tested (c .before) true (c .if1 .taken)), le-refl (s .args .left .0))
 
 returns-2 : tie.Need-returns-2
 returns-2 c =

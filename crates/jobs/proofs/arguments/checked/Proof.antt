@@ -1,23 +1,60 @@
 -- `jobs::arguments::checked` meets its contract. Assumes nothing.
 use borrow.Author.Needs.{needs}
 use borrow.Author.Tests.{lt-ltb, le-ltb, not-true, not-false}
-use mathlib.Core.Bool.{false}
+use mathlib.Core.Bool.{true, false, cond}
 use mathlib.Core.Logic.{⊎-elim}
 use mathlib.Core.Path.{_≡_, sym, _∙_}
-use Rattle.stream.specs.Refusals.{rateBad, channelsBad}
+use Rattle.floats.specs.Settings.{minSpeed, maxSpeed, minPitch, maxPitch, minVolume, maxVolume}
+use Rattle.stream.specs.Refusals.{rateBad, channelsBad, within}
+use Rattle.jobs.specs.declared.Job.{Job}
+use Rattle.jobs.specs.declared.Asked.{Asked}
 use Rattle.jobs.specs.Arguments.{askedOf}
 use Rattle.jobs.proofs.arguments.checked.Statement.{statement}
 use Rattle.jobs.proofs.arguments.checked.Tie as tie
 
 -- ---- places, and what is known there
 
-rate-good : (c : tie.Else2) → rateBad (c .before .before .before .before .args .job .rate) ≡ false
+-- the rate is in its range
+abbrev start : tie.Else2 → tie.Start
+start c = c .before .before .before .before
+
+rate-good : (c : tie.Else2) → rateBad (start c .args .job .rate) ≡ false
 unfolding rateBad
 rate-good c = simp (le-ltb _ _ (c .before .before .if1 .left), c .if2 .left)
 
-channels-good : (c : tie.Else4) → channelsBad (c .before .before .before .before .before .before .before .before .args .job .channels) ≡ false
+-- so are the channels
+abbrev rate-passed : tie.Else4 → tie.Else2
+rate-passed c = c .before .before .before .before
+
+abbrev job : tie.Else4 → Job
+job c = start (rate-passed c) .args .job
+
+channels-good : (c : tie.Else4) → channelsBad (job c .channels) ≡ false
 unfolding channelsBad
 channels-good c = simp (le-ltb _ _ (c .before .before .if3 .left), c .if4 .left)
+
+-- so is the speed
+abbrev channels-passed : tie.Else5 → tie.Else4
+channels-passed c = c .before .before
+
+speed-good : (c : tie.Else5) → within minSpeed maxSpeed (job (channels-passed c) .speed) ≡ true
+speed-good c = sym (c .before .is-within .ensures) ∙ not-false _ (c .if5 .left)
+
+-- so is the pitch: the volume decides
+abbrev speed-passed : tie.Else6 → tie.Else5
+speed-passed c = c .before .before
+
+pitch-good : (c : tie.Else6) → within minPitch maxPitch (job (channels-passed (speed-passed c)) .pitch) ≡ true
+pitch-good c = sym (c .before .is-within2 .ensures) ∙ not-false _ (c .if6 .left)
+
+asked-by-volume : (c : tie.Else6)
+    → let j = job (channels-passed (speed-passed c)) in
+    askedOf j ≡ cond (within minVolume maxVolume (j .volume)) (Asked.Run j) (Asked.Wrong 5)
+unfolding askedOf
+asked-by-volume c =
+    let s = speed-passed c in
+    let h = channels-passed s in
+    simp (rate-good (rate-passed h), channels-good h, speed-good s, pitch-good c)
 
 -- ---- needs
 
@@ -34,40 +71,23 @@ returns-2 c =
 returns-3 : tie.Need-returns-3
 unfolding askedOf
 returns-3 c =
-    let opened = c .before .before in
-    let speed = sym (c .before .is-within .ensures) ∙ not-true _ (c .if5 .taken) in
-    simp (rate-good (opened .before .before .before .before), channels-good opened, speed)
+    let h = c .before .before in
+    let speed-bad = sym (c .before .is-within .ensures) ∙ not-true _ (c .if5 .taken) in
+    simp (rate-good (rate-passed h), channels-good h, speed-bad)
 
 returns-4 : tie.Need-returns-4
 unfolding askedOf
 returns-4 c =
-    let pitch = sym (c .before .is-within2 .ensures) ∙ not-true _ (c .if6 .taken) in
-    let fast = c .before .before in
-    let speed = sym (fast .before .is-within .ensures) ∙ not-false _ (fast .if5 .left) in
-    let opened = fast .before .before in
-    simp (rate-good (opened .before .before .before .before), channels-good opened, speed, pitch)
+    let s = c .before .before in
+    let h = channels-passed s in
+    let pitch-bad = sym (c .before .is-within2 .ensures) ∙ not-true _ (c .if6 .taken) in
+    simp (rate-good (rate-passed h), channels-good h, speed-good s, pitch-bad)
 
 returns-5 : tie.Need-returns-5
-unfolding askedOf
-returns-5 c =
-    let volume = sym (c .before .is-within3 .ensures) ∙ not-true _ (c .if7 .taken) in
-    let high = c .before .before in
-    let pitch = sym (high .before .is-within2 .ensures) ∙ not-false _ (high .if6 .left) in
-    let fast = high .before .before in
-    let speed = sym (fast .before .is-within .ensures) ∙ not-false _ (fast .if5 .left) in
-    let opened = fast .before .before in
-    simp (rate-good (opened .before .before .before .before), channels-good opened, speed, pitch, volume)
+returns-5 c = simp (asked-by-volume (c .before .before), sym (c .before .is-within3 .ensures) ∙ not-true _ (c .if7 .taken))
 
 returns-6 : tie.Need-returns-6
-unfolding askedOf
-returns-6 c =
-    let volume = sym (c .before .is-within3 .ensures) ∙ not-false _ (c .if7 .left) in
-    let high = c .before .before in
-    let pitch = sym (high .before .is-within2 .ensures) ∙ not-false _ (high .if6 .left) in
-    let fast = high .before .before in
-    let speed = sym (fast .before .is-within .ensures) ∙ not-false _ (fast .if5 .left) in
-    let opened = fast .before .before in
-    simp (rate-good (opened .before .before .before .before), channels-good opened, speed, pitch, volume)
+returns-6 c = simp (asked-by-volume (c .before .before), sym (c .before .is-within3 .ensures) ∙ not-false _ (c .if7 .left))
 
 -- ---- what search closes
 

@@ -11,7 +11,7 @@ use Rattle.jobs.specs.Arguments.{askedOf, AskedInRange}
 use Rattle.jobs.proofs.arguments.read.Statement.{statement}
 use Rattle.jobs.proofs.arguments.read.Tie as tie
 
--- ---- places, and what is known there
+-- ---- what a checked job is
 
 -- a job that is answered is the one that was checked
 same-job : (j k : Job) → Asked.Run k ≡ askedOf j → k ≡ j

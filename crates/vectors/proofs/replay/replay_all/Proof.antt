@@ -7,15 +7,6 @@ use lib.ListN.{length}
 use Rattle.vectors.proofs.replay.replay_all.Statement.{statement}
 use Rattle.vectors.proofs.replay.replay_all.Tie as tie
 
--- ---- the places: after a line was read, and after it was followed
-
-module _ {I : tie.InvT-loop} {μ : tie.MeasureT-loop} where
-  abbrev after-parse : tie.After-follow I μ → tie.After-parse I μ
-  after-parse f = f .before .before .before .before .before .before .before .before .before .before .before
-
-  abbrev after-follow : tie.After-scratch I μ → tie.After-follow I μ
-  after-follow c = c .before .before .before .before .before .before
-
 -- ---- the invariant
 
 abbrev Inv-loop : tie.InvT-loop
@@ -25,6 +16,37 @@ Inv-loop text samples₀ input₀ stage₀ output₀ scratch₀ session₀ at₀
 
 abbrev μ-loop : tie.MeasureT-loop
 μ-loop text samples₀ input₀ stage₀ output₀ scratch₀ session₀ at₀ samples input stage output scratch session at = length text - at
+
+-- ---- places, and what is known there
+
+-- a line is read
+abbrev turn : tie.After-parse Inv-loop μ-loop → tie.At-loop Inv-loop μ-loop
+turn c = c .before .before
+
+-- it is followed
+abbrev parsed : tie.After-follow Inv-loop μ-loop → tie.After-parse Inv-loop μ-loop
+parsed c = c .before .before .before .before .before .before .before .before .before .before .before
+
+-- the areas are taken back
+abbrev followed : tie.After-scratch Inv-loop μ-loop → tie.After-follow Inv-loop μ-loop
+followed c = c .before .before .before .before .before .before
+
+-- ---- needs
+
+loop-again : tie.Need-loop-again Inv-loop μ-loop
+loop-again c =
+    let f = followed c in
+    let p = parsed f in
+    let inv = turn p .loop .inv in (
+      omega (arith, p .parse .ensures .1),
+      omega (arith, f .follow .kept .1 .1 .1 .0, inv .1),
+      omega (arith, f .follow .kept .1 .1 .1 .1 .0, inv .2),
+      omega (arith, f .follow .kept .1 .1 .1 .1 .1 .0, inv .3),
+      omega (arith, f .follow .kept .1 .1 .1 .1 .1 .1 .0, inv .4),
+      omega (arith, f .follow .kept .1 .1 .1 .1 .1 .1 .1 .0, inv .5),
+    )
+
+-- ---- what search closes
 
 unopened-requires : tie.Need-unopened-requires Inv-loop μ-loop
 unopened-requires c κs = search needs
@@ -55,19 +77,6 @@ follow-requires c κs = search needs
 
 loop-less : tie.Need-loop-less Inv-loop μ-loop
 loop-less c = search needs
-
-loop-again : tie.Need-loop-again Inv-loop μ-loop
-loop-again c =
-    let f = after-follow c in
-    let p = after-parse f in
-    let inv = p .before .before .loop .inv in (
-      omega (arith, p .parse .ensures .1),
-      omega (arith, f .follow .kept .1 .1 .1 .0, inv .1),
-      omega (arith, f .follow .kept .1 .1 .1 .1 .0, inv .2),
-      omega (arith, f .follow .kept .1 .1 .1 .1 .1 .0, inv .3),
-      omega (arith, f .follow .kept .1 .1 .1 .1 .1 .1 .0, inv .4),
-      omega (arith, f .follow .kept .1 .1 .1 .1 .1 .1 .1 .0, inv .5),
-    )
 
 same-length : tie.Need-same-length Inv-loop μ-loop
 same-length c = search needs
