@@ -1,10 +1,9 @@
 // skim: changes speed, pitch and volume of 16-bit little-endian PCM, from standard input to standard output. A thin program: `jobs` reads
-// what is asked for, `plans` finds the room for it, and `skimming` does it. `report` tells what became of the frames; `usage` tells of the
+// what is asked for, `plans` finds the room for it, and `skimming` does it. `reports` tells what became of the frames; `usage` tells of the
 // arguments.
 //
 // A Rattle program has no exit status. The last line on standard error ends in the one it would have, and with `--status` it is written to
 // descriptor 3 too, from which tools/skim.sh takes it.
-mod report;
 mod usage;
 
 use jobs::Asked;
@@ -25,7 +24,7 @@ fn run(job: Job) -> u64 {
             given: _,
             stream: _,
         } => {
-            report::refused(number);
+            reports::refused(number);
             usage::bad_usage()
         }
         Opened::Done(fresh) => {
@@ -37,7 +36,7 @@ fn run(job: Job) -> u64 {
                 }
                 Service::Planned(plan) => {
                     let reel = skimming::skim(Reel::new(stream), plan);
-                    report::run(reel, plan)
+                    reports::run(reel, plan)
                 }
             }
         }

@@ -7,6 +7,8 @@ use printing::print_count;
 use printing::print_outcome;
 use printing::print_refused;
 use printing::print_word;
+use scripts::signal::Signal;
+use scripts::signal::fill;
 use scripts::sums::slice_sum;
 use sonic::Gave;
 use sonic::Wrote;
@@ -29,11 +31,12 @@ fn wrote(answer: Wrote) -> SonicStream {
     }
 }
 
-// Writes the first `count` of the samples, or all of them where there are fewer.
+// Writes a signal of `count` samples, or of as many as there is room for.
 pub fn write(
     stream: SonicStream,
+    signal: Signal,
     count: usize,
-    samples: &[f32],
+    samples: &mut [f32],
     lent: LentLengths,
     input: &mut [i16],
     stage: &mut [i16],
@@ -41,6 +44,7 @@ pub fn write(
     scratch: &mut [i16],
 ) -> SonicStream {
     let n = of_slice(count, samples);
+    fill(signal, &mut samples[..n]);
     let a = of_area(lent.input, input);
     let b = of_area(lent.stage, stage);
     let c = of_area(lent.output, output);
@@ -102,14 +106,17 @@ fn gave(answer: Gave) -> SonicStream {
     }
 }
 
-// Reads at most `most` frames into a slice, and prints the sum over the whole slice.
+// Reads at most `most` frames into a slice of `count` samples, or of as many as there is room for, and prints the sum over the whole slice.
 pub fn read(
     stream: SonicStream,
     most: usize,
+    count: usize,
     lent: LentLengths,
-    slice: &mut [f32],
+    samples: &mut [f32],
     output: &mut [i16],
 ) -> SonicStream {
+    let n = of_slice(count, samples);
+    let slice = &mut samples[..n];
     clear(slice);
     let c = of_area(lent.output, output);
     let answer = sonic::read_f32(stream, Frames(most), slice, &mut output[..c]);

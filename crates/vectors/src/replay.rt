@@ -1,7 +1,6 @@
 // The replay: line after line, each on the stream and the lengths that the lines before have left.
 use printing::print;
 use printing::print_stream;
-use scripts::signal::fill;
 use scripts::signal::signal_of;
 use scripts::text::Line;
 use scripts::text::parse;
@@ -13,7 +12,6 @@ use transcripts::calls::flush;
 use transcripts::calls::read;
 use transcripts::calls::write;
 use transcripts::lent::LentLengths;
-use transcripts::lent::of_slice;
 
 // What the lines before have left.
 struct Session {
@@ -70,17 +68,26 @@ fn call(
 ) -> SonicStream {
     let letter = line.letter;
     match letter {
-        b'w' => {
-            let count = line.e as usize;
-            let n = of_slice(count, samples);
-            fill(signal_of(line), &mut samples[..n]);
-            write(stream, count, samples, lent, input, stage, output, scratch)
-        }
+        b'w' => write(
+            stream,
+            signal_of(line),
+            line.e as usize,
+            samples,
+            lent,
+            input,
+            stage,
+            output,
+            scratch,
+        ),
         b'f' => flush(stream, lent, input, stage, output, scratch),
-        b'r' => {
-            let n = of_slice(line.b as usize, samples);
-            read(stream, line.a as usize, lent, &mut samples[..n], output)
-        }
+        b'r' => read(
+            stream,
+            line.a as usize,
+            line.b as usize,
+            lent,
+            samples,
+            output,
+        ),
         _ => small_call(stream, line),
     }
 }

@@ -1,9 +1,9 @@
--- `skim::report::say_place` is safe. Assumes nothing.
+-- `reports::say_place` is safe. Assumes nothing.
 use borrow.Author.Needs.{needs}
 use native.Mathlib.Nat.{mod-lt}
 use native.Mathlib.Omega.{arith}
-use Rattle.skim.proofs.report.say_place.Statement.{statement}
-use Rattle.skim.proofs.report.say_place.Tie as tie
+use Rattle.reports.proofs.say_place.Statement.{statement}
+use Rattle.reports.proofs.say_place.Tie as tie
 
 -- ---- needs
 

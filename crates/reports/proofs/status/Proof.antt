@@ -1,13 +1,13 @@
--- `skim::report::status` meets its contract, by its tests. Assumes nothing.
+-- `reports::status` meets its contract, by its tests. Assumes nothing.
 use borrow.Author.Tests.{eq-eqb, ne-eqb, not-true, not-false}
 use mathlib.Core.Bool.{true}
 use mathlib.Core.Logic.{⊎-elim}
 use mathlib.Core.Path.{_≡_}
 use native.Mathlib.Omega.{arith}
 use lib.Dec.{eqb}
-use Rattle.skim.specs.Report.{statusOf}
-use Rattle.skim.proofs.report.status.Statement.{statement}
-use Rattle.skim.proofs.report.status.Tie as tie
+use Rattle.reports.specs.Report.{statusOf}
+use Rattle.reports.proofs.status.Statement.{statement}
+use Rattle.reports.proofs.status.Tie as tie
 
 whole : (c : tie.Else1) → eqb (c .before .before .args .reel .partial) 0 ≡ true
 whole c = eq-eqb (c .before .before .args .reel .partial) 0 (omega arith)

@@ -1,4 +1,4 @@
-// What became of a run, on standard error.
+// What became of a run of the skim tool, on standard error. `specs/Report.antt` says what the status is.
 use plans::Plan;
 use reels::progress;
 use reels::reel::Reel;
@@ -6,10 +6,10 @@ use reels::say;
 use stream::refusals;
 ghost use mathlib.Core.Path.{_≡_};
 ghost use Rattle.period.specs.Rates.{InLimits};
-ghost use Rattle.skim.specs.Report.{statusOf};
+ghost use Rattle.reports.specs.Report.{statusOf};
 
 // A refusal's number, and what it means.
-pub(crate) fn refused(number: u32) {
+pub fn refused(number: u32) {
     say::number(b"skim: refused with number ", number as u64);
     match number {
         refusals::BAD_RATE => say::text(b": the rate is out of range\n"),
@@ -109,7 +109,7 @@ fn say_summary(reel: Reel, status: u64) {
 }
 
 // Tells what became of a run, and answers the status.
-pub(crate) fn run(reel: Reel, plan: Plan) -> u64
+pub fn run(reel: Reel, plan: Plan) -> u64
     requires { ⌜ InLimits (plan .rate) (plan .channels) ⌝ }
     ensures { λ r. ⌜ r ≡ statusOf reel ⌝ }
 {
