@@ -24,13 +24,15 @@ skim: program
 	echo "the reel crates/skim/stdin is skimmed to target/reel.pcm (8,000 Hz, mono, 16-bit little-endian PCM)"
 	echo "to skim your own: tools/skim.sh < in.pcm > out.pcm; tools/skim.sh --help tells more"
 
-# Layout; then every proof, must-fail edit and program from nothing; then the other wrong programs, and the comparisons. The last line
-# is that of `rt ci`.
+# Layout; then every proof, must-fail edit and program from nothing; then the other wrong programs beside the comparisons. The last line
+# is that of `rt ci`, which starts RT_JOBS crates at a time and waits for all of them: more than there are cores, so that none is idle.
 test:
 	rt fmt --check
 	log=$$(mktemp); trap 'rm -f "$$log"' EXIT; \
-	{ $(call told,rt ci,"$$log"); } && tools/refusals.py && \
-	$(MAKE) --no-print-directory compare && tail -n 1 "$$log"
+	{ $(call told,RT_JOBS=$$((3 * $$(nproc))) rt ci,"$$log"); } && { \
+	tools/refusals.py & refusals=$$!; \
+	$(MAKE) --no-print-directory compare; compared=$$?; \
+	wait $$refusals && test $$compared = 0; } && tail -n 1 "$$log"
 
 compare: target/tests/floats target/tests/narrowing target/tests/header differential rust tool
 	target/tests/narrowing 20

@@ -31,12 +31,17 @@ fn wrote(answer: Wrote) -> SonicStream {
     }
 }
 
-// Writes a signal of `count` samples, or of as many as there is room for.
+// Makes the first `count` of the samples, or all of them where there are fewer, those of a signal.
+pub fn make(signal: Signal, count: usize, samples: &mut [f32]) {
+    let n = of_slice(count, samples);
+    fill(signal, &mut samples[..n]);
+}
+
+// Writes the first `count` of the samples, or all of them where there are fewer.
 pub fn write(
     stream: SonicStream,
-    signal: Signal,
     count: usize,
-    samples: &mut [f32],
+    samples: &[f32],
     lent: LentLengths,
     input: &mut [i16],
     stage: &mut [i16],
@@ -44,7 +49,6 @@ pub fn write(
     scratch: &mut [i16],
 ) -> SonicStream {
     let n = of_slice(count, samples);
-    fill(signal, &mut samples[..n]);
     let a = of_area(lent.input, input);
     let b = of_area(lent.stage, stage);
     let c = of_area(lent.output, output);

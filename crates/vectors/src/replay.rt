@@ -9,6 +9,7 @@ use small_calls::unopened;
 use small_calls::with_field;
 use stream::SonicStream;
 use transcripts::calls::flush;
+use transcripts::calls::make;
 use transcripts::calls::read;
 use transcripts::calls::write;
 use transcripts::lent::LentLengths;
@@ -68,17 +69,11 @@ fn call(
 ) -> SonicStream {
     let letter = line.letter;
     match letter {
-        b'w' => write(
-            stream,
-            signal_of(line),
-            line.e as usize,
-            samples,
-            lent,
-            input,
-            stage,
-            output,
-            scratch,
-        ),
+        b'w' => {
+            let count = line.e as usize;
+            make(signal_of(line), count, samples);
+            write(stream, count, samples, lent, input, stage, output, scratch)
+        }
         b'f' => flush(stream, lent, input, stage, output, scratch),
         b'r' => read(
             stream,
