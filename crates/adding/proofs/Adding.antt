@@ -30,7 +30,7 @@ use Rattle.process.proofs.Joining.{joined-state}
 use Rattle.adding.specs.declared.Wrote.{Wrote}
 use Rattle.adding.specs.Calls.{CallResult, callBy}
 use Rattle.adding.specs.Adding.{Accepted, AddEnsures}
-use Rattle.adding.proofs.Answers.{stage-met, output-met, none-met, Answered, call-refused}
+use Rattle.adding.proofs.Answers.{stage-met, output-met, none-met, CallAnswered, call-refused}
 use Rattle.adding.proofs.Joining.{held-joined, tail-joined}
 
 -- the answer, where `after` says what is handed back of the stream after the work
@@ -70,9 +70,9 @@ module _ (s : SonicStream) (a b : Areas) (n : ℕ) (p : Accepted s a n) (input :
 
   module _ (c : CallResult) (after : SonicStream → SonicStream)
       (done : (o : Outcome) (t : SonicStream) → WorkedAs (joinedStream n s) (workOf s a fs) begun b o t
-      → Answered (s .channels) c (Wrote.Done o (after t)) b) where
+      → CallAnswered (s .channels) c (Wrote.Done o (after t)) b) where
     by-work : (r : Work) → WorkedBy (joinedStream n s) (workOf s a fs) begun b r
-        → Answered (s .channels) (callBy (refusal s a n (workOf s a fs .staged) (length (workOf s a fs .frames))) s a c) (answerBy s after r) b
+        → CallAnswered (s .channels) (callBy (refusal s a n (workOf s a fs .staged) (length (workOf s a fs .frames))) s a c) (answerBy s after r) b
     unfolding stateOf streamOf joined
     by-work Work.StageFull w =
         call-refused s a b c (stage-met s a n _ _ p (rw (tail-joined s n) at (w .1))) (held-same (w .0)) (tail-same (w .0)) (w .0 .waiting)
@@ -82,5 +82,5 @@ module _ (s : SonicStream) (a b : Areas) (n : ℕ) (p : Accepted s a n) (input :
     by-work (Work.Done o t) w = rw (none-met s a n _ _ p (rw (tail-joined s n) at (w .stage-fits)) (w .output-fits)) (done o t w)
 
     pub added-answered : (r : Work) → AddEnsures s n begun b r
-        → Answered (s .channels) (callBy (refusal s a n (workOf s a fs .staged) (length (workOf s a fs .frames))) s a c) (answerBy s after r) b
+        → CallAnswered (s .channels) (callBy (refusal s a n (workOf s a fs .staged) (length (workOf s a fs .frames))) s a c) (answerBy s after r) b
     added-answered r w = by-work r (rw (joined-state s n (a .input) input (a .stage) fs h) at w)

@@ -1,6 +1,6 @@
 -- The answer of a write or a flush, by the number of its refusal:
 --   stream-met to output-met, none-met               the number, from what is met
---   Answered, call-refused, call-done                the contract, of a refused and of an accepted call
+--   CallAnswered, call-refused, call-done                the contract, of a refused and of an accepted call
 --   stream-refused, areas-refused, input-refused     the contract of a call refused before its work
 -- Assumes nothing.
 use mathlib.Core.Path.{_≡_, refl}
@@ -55,15 +55,15 @@ module _ (s : SonicStream) (a : Areas) (added staged made : ℕ) where
 -- ---- the answer
 
 -- what a write and a flush ensure: the answer r and the areas b are those of the call c, and an accepted call hands back a stream in order
-abbrev pub Answered : ℕ → CallResult → Wrote → Areas → Type 0
-Answered channels c r b = CallEnsures channels c r b × OrderAfter r
+abbrev pub CallAnswered : ℕ → CallResult → Wrote → Areas → Type 0
+CallAnswered channels c r b = CallEnsures channels c r b × OrderAfter r
 
 -- refused: the kept parts are as they came
 pub call-refused : {number k : ℕ} (s : SonicStream) (a b : Areas) (c : CallResult) → number ≡ suc k
     → framesOf (s .channels) (s .held .0) (b .input) ≡ framesOf (s .channels) (s .held .0) (a .input)
     → framesOf (s .channels) (s .tail .0) (b .stage) ≡ framesOf (s .channels) (s .tail .0) (a .stage)
     → framesOf (s .channels) (s .waiting .0) (b .output) ≡ framesOf (s .channels) (s .waiting .0) (a .output)
-    → Answered (s .channels) (callBy number s a c) (Wrote.Refused (suc k) s) b
+    → CallAnswered (s .channels) (callBy number s a c) (Wrote.Refused (suc k) s) b
 unfolding refusedCall
 call-refused s a b c e held tail waiting = (rw e (record { answer = refl; input = held; tail = tail; output = waiting }), tt)
 
@@ -73,7 +73,7 @@ pub call-done : (s t : SonicStream) (a b : Areas) (o o' : Outcome) (state : Stat
     → framesOf (s .channels) (length (state .input)) (b .input) ≡ state .input
     → framesOf (s .channels) (length (state .tail)) (b .stage) ≡ state .tail
     → framesOf (s .channels) (s .waiting .0 + length frames) (b .output) ≡ framesOf (s .channels) (s .waiting .0) (a .output) ++ frames
-    → Answered (s .channels) (acceptedCall s a o' state frames) (Wrote.Done o t) b
+    → CallAnswered (s .channels) (acceptedCall s a o' state frames) (Wrote.Done o t) b
 unfolding acceptedCall streamOf
 call-done s t a b o o' state frames e is order held tail waiting =
     (rw (e, is) (record { answer = refl; input = held; tail = tail; output = waiting }), order)
@@ -81,13 +81,13 @@ call-done s t a b o o' state frames e is order held tail waiting =
 -- ---- refused before its work: the areas are as they came
 
 module _ (s : SonicStream) (a : Areas) (added staged made : ℕ) (c : CallResult) where
-  pub stream-refused : inOrder s ≡ false → Answered (s .channels) (callBy (refusal s a added staged made) s a c) (Wrote.Refused badStream s) a
+  pub stream-refused : inOrder s ≡ false → CallAnswered (s .channels) (callBy (refusal s a added staged made) s a c) (Wrote.Refused badStream s) a
   stream-refused e = call-refused s a a c (stream-met s a added staged made e) refl refl refl
 
   module _ (o : inOrder s ≡ true) where
-    pub areas-refused : areasBad s a ≡ true → Answered (s .channels) (callBy (refusal s a added staged made) s a c) (Wrote.Refused badAreas s) a
+    pub areas-refused : areasBad s a ≡ true → CallAnswered (s .channels) (callBy (refusal s a added staged made) s a c) (Wrote.Refused badAreas s) a
     areas-refused f = call-refused s a a c (areas-met s a added staged made o f) refl refl refl
 
     pub input-refused : areasBad s a ≡ false → tooShort (s .channels) (s .held .0 + added) (a .input) ≡ true
-        → Answered (s .channels) (callBy (refusal s a added staged made) s a c) (Wrote.Refused inputFull s) a
+        → CallAnswered (s .channels) (callBy (refusal s a added staged made) s a c) (Wrote.Refused inputFull s) a
     input-refused f g = call-refused s a a c (input-met s a added staged made o f g) refl refl refl

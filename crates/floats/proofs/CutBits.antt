@@ -125,10 +125,10 @@ exponent-lt : (i j : ℕ) → 2 ^ i < 2 ^ j → i < j
 exponent-lt i j h = lt-of-not-le (λ (g : j ≤ i). not-le-of-lt h (pow-mono g))
 
 -- a size from 1 to 32767 shows in the exponent's field
-abbrev InRange : Float → ℕ → Type 0
-InRange x e = AtLeastOne x → AtMost 32767 x → (127 ≤ e) × (e ≤ 141)
+abbrev ExponentInRange : Float → ℕ → Type 0
+ExponentInRange x e = AtLeastOne x → AtMost 32767 x → (127 ≤ e) × (e ≤ 141)
 
-normal-range : (s : Bool) (j t : ℕ) → t < 2 ^ 23 → InRange (odd 24 s (2 ^ 23 + t) j 149) (suc j)
+normal-range : (s : Bool) (j t : ℕ) → t < 2 ^ 23 → ExponentInRange (odd 24 s (2 ^ 23 + t) j 149) (suc j)
 normal-range s j t h l m =
     let d = 2 ^ 23 + t in
     let x = odd 24 s d j 149 in
@@ -140,14 +140,14 @@ normal-range s j t h l m =
     let most : 23 + j < 164 = exponent-lt (23 + j) 164 (lt-of-le-of-lt leads below) in
     (omega arith, omega arith)
 
-fields-range : (s : Bool) (e t : ℕ) → t < 2 ^ 23 → InRange (ofFields binary32 s e t) e
+fields-range : (s : Bool) (e t : ℕ) → t < 2 ^ 23 → ExponentInRange (ofFields binary32 s e t) e
 unfolding ofFields
 fields-range s zero t h l m =
     let above = at-least-val (odd 24 s t 0 149) s (t * 2 ^ 0) (2 ^ 149) (odd-sign 24 s t 0 149) l in
     absurd (not-le-of-lt (lt-of-lt-of-le (subst (λ (z : ℕ). z < 2 ^ 23) (sym (mul-one t)) h) (lit≤ tt)) above)
 fields-range s (suc j) t h l m = go (eqb (suc j) 255) (eqb t 0) l m
   where
-    go : (b z : Bool) → InRange (cond b (cond z (inf s) nan) (odd 24 s (2 ^ 23 + t) j 149)) (suc j)
+    go : (b z : Bool) → ExponentInRange (cond b (cond z (inf s) nan) (odd 24 s (2 ^ 23 + t) j 149)) (suc j)
     go true true l m = absurd m
     go true false l m = absurd l
     go false z l m = normal-range s j t h l m

@@ -43,7 +43,7 @@ use Rattle.process.specs.Working.{WorkedAs}
 use Rattle.adding.specs.declared.Wrote.{Wrote}
 use Rattle.adding.specs.Calls.{acceptedCall, flushCall}
 use Rattle.adding.specs.Adding.{Accepted, AddEnsures}
-use Rattle.adding.proofs.Answers.{Answered, call-done, stream-refused, areas-refused, input-refused}
+use Rattle.adding.proofs.Answers.{CallAnswered, call-done, stream-refused, areas-refused, input-refused}
 use Rattle.adding.proofs.Adding.{answerBy, workOf, worked-in-order, added-answered}
 
 take-shorter : {A : Type 0} (e : ℕ) (l : List A) → take (length (take e l)) l ≡ take e l
@@ -94,17 +94,17 @@ cleared-ready s t n a b o w = (omega (arith, ap (λ (x : SonicStream). x .waitin
 -- ---- refused before its work
 
 module _ (s : SonicStream) (a : Areas) where
-  pub flush-out-of-order : inOrder s ≡ false → Answered (s .channels) (flushCall s a) (Wrote.Refused badStream s) a
+  pub flush-out-of-order : inOrder s ≡ false → CallAnswered (s .channels) (flushCall s a) (Wrote.Refused badStream s) a
   unfolding flushCall
   flush-out-of-order e = stream-refused s a _ _ _ _ e
 
   module _ (o : inOrder s ≡ true) where
-    pub flush-areas-bad : areasBad s a ≡ true → Answered (s .channels) (flushCall s a) (Wrote.Refused badAreas s) a
+    pub flush-areas-bad : areasBad s a ≡ true → CallAnswered (s .channels) (flushCall s a) (Wrote.Refused badAreas s) a
     unfolding flushCall
     flush-areas-bad e = areas-refused s a _ _ _ _ o e
 
     pub flush-input-full : (n : ℕ) → n ≡ 2 * maxRequired (s .rate) → areasBad s a ≡ false
-        → tooShort (s .channels) (s .held .0 + n) (a .input) ≡ true → Answered (s .channels) (flushCall s a) (Wrote.Refused inputFull s) a
+        → tooShort (s .channels) (s .held .0 + n) (a .input) ≡ true → CallAnswered (s .channels) (flushCall s a) (Wrote.Refused inputFull s) a
     unfolding flushCall
     flush-input-full n count g e = rw (← count) (input-refused s a n _ _ _ o g e)
 
@@ -124,7 +124,7 @@ module _ (s : SonicStream) (a b : Areas) (n : ℕ) (p : Accepted s a n) (count :
   made = workOf s a (silent s n)
 
   done : (o : Outcome) (t : SonicStream) → WorkedAs (joinedStream n s) made (areas input (a .stage) (a .output) (a .scratch)) b o t
-      → Answered (s .channels) (acceptedCall s a (made .outcome) (cleared (made .state)) (take e (made .frames))) (Wrote.Done o (clearedAfter s e t)) b
+      → CallAnswered (s .channels) (acceptedCall s a (made .outcome) (cleared (made .state)) (take e (made .frames))) (Wrote.Done o (clearedAfter s e t)) b
   unfolding cleared framesOf joined stateOf streamOf
   done o t w =
       let order = worked-in-order s t a (silent s n) _ (p .in-order) (w .stream) (w .ready) in
@@ -133,7 +133,7 @@ module _ (s : SonicStream) (a b : Areas) (n : ℕ) (p : Accepted s a n) (count :
       (cleared-is s t (made .state) e (made .frames) (w .stream)) (cleared-in-order t (made .state) _ _ (w .stream) order) refl refl output
 
   pub flush-answered : (r : Work) → AddEnsures s n (areas input (a .stage) (a .output) (a .scratch)) b r
-      → Answered (s .channels) (flushCall s a) (flushAnswer s e r) b
+      → CallAnswered (s .channels) (flushCall s a) (flushAnswer s e r) b
   unfolding flushCall flushWork stateOf
   flush-answered r w =
       rw (expected-is s a, ← few, ← count)

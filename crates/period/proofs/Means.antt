@@ -21,31 +21,31 @@ use Rattle.laws.proofs.Widening.{widened-reads, widened-fits}
 use Rattle.period.specs.Averages.{sumFrom, meanFrom, downSampleInput, mostAveraged}
 
 -- ---- from −32,768·n to 32,767·n
-abbrev pub Within : ℕ → ℤ → Type 0
-Within n (pos a) = a ≤ 32767 * n
-Within n (negsuc a) = suc a ≤ 32768 * n
+abbrev pub SumWithin : ℕ → ℤ → Type 0
+SumWithin n (pos a) = a ≤ 32767 * n
+SumWithin n (negsuc a) = suc a ≤ 32768 * n
 
-within-subℕ-cases : (t : Bool) (a b n : ℕ) → ltb a b ≡ t → a ≤ 32767 * n → b ≤ 32768 * n → Within n (cond t (negsuc (b - suc a)) (pos (a - b)))
+within-subℕ-cases : (t : Bool) (a b n : ℕ) → ltb a b ≡ t → a ≤ 32767 * n → b ≤ 32768 * n → SumWithin n (cond t (negsuc (b - suc a)) (pos (a - b)))
 within-subℕ-cases true a b n e p q = omega (arith, ltb-true a b e)
 within-subℕ-cases false a b n e p q = omega (arith, ltb-false a b e)
 
-within-subℕ : (a b n : ℕ) → a ≤ 32767 * n → b ≤ 32768 * n → Within n (subℕ a b)
+within-subℕ : (a b n : ℕ) → a ≤ 32767 * n → b ≤ 32768 * n → SumWithin n (subℕ a b)
 within-subℕ a b n = within-subℕ-cases (ltb a b) a b n refl
 
-within-more : (z y : ℤ) (n : ℕ) → Within n z → mag y < 32768 → Within (n + 1) (z +ℤ y)
+within-more : (z y : ℤ) (n : ℕ) → SumWithin n z → mag y < 32768 → SumWithin (n + 1) (z +ℤ y)
 within-more (pos a) (pos b) n p q = omega arith
 within-more (pos a) (negsuc b) n p q = within-subℕ a (suc b) (n + 1) (omega arith) (omega arith)
 within-more (negsuc a) (pos b) n p q = within-subℕ b (suc a) (n + 1) (omega arith) (omega arith)
 within-more (negsuc a) (negsuc b) n p q = omega arith
 
-natAbs-within : (z : ℤ) (n : ℕ) → Within n z → natAbs z ≤ 32768 * n
+natAbs-within : (z : ℤ) (n : ℕ) → SumWithin n z → natAbs z ≤ 32768 * n
 natAbs-within (pos a) n p = omega arith
 natAbs-within (negsuc a) n p = omega arith
 
 -- ---- z is the sum of n samples from the place `from` on
 pub record Total (x : List ℤ) (from n : ℕ) (z : ℤ) : Type 0 where
   pub is : z ≡ sumFrom x from n
-  pub within : Within n z
+  pub within : SumWithin n z
 
 pub total-none : (x : List ℤ) (from : ℕ) → Total x from 0 (pos 0)
 unfolding sumFrom
@@ -80,7 +80,7 @@ module _ {x : List ℤ} {from n : ℕ} {z : ℤ} (total : Total x from n z) (sam
   added-total = rw (toZ-ofZ added-fits, widened-reads w32 tt sample-fits) (total-more total sample)
 
 -- ---- the mean of n samples, as the code divides and narrows it
-mean-within : (z : ℤ) (n : ℕ) → 1 ≤ n → Within n z → SFits w16 (quotZ z (pos n))
+mean-within : (z : ℤ) (n : ℕ) → 1 ≤ n → SumWithin n z → SFits w16 (quotZ z (pos n))
 mean-within (pos a) n h p = record { sfits = div-lt-iff-lt-mul {k = n} {x = a} {y = 32768} (omega arith) .1 (omega arith) }
 mean-within (negsuc a) n h p = record { sfits = mag-neg (suc a / n) 32768 (div-le-of-le-mul n (omega (arith, mul-comm n 32768))) (omega arith) }
 

@@ -17,7 +17,7 @@ use Rattle.floats.specs.Settings.{minPitch, maxPitch}
 use Rattle.period.specs.Rates.{minPeriod, maxPeriod, maxRequired, InLimits}
 use Rattle.period.specs.Search.{longestPeriod}
 use Rattle.rate.specs.Halving.{maxHalvedRate, ratesOf}
-use Rattle.rate.proofs.Halving.{Within, rates-within}
+use Rattle.rate.proofs.Halving.{RatesWithin, rates-within}
 use Rattle.stream.specs.declared.SonicStream.{SonicStream}
 use Rattle.stream.specs.Refusals.{inOrder}
 use Rattle.stream.proofs.InOrder.{limits-of, tests-of, ranges-of, within-range}
@@ -66,7 +66,7 @@ pub samples-most : (n channels most : ℕ) → n ≤ most → channels ≤ 32 �
 samples-most n channels most h c = mul-le-mul {n₁ = n} {m₁ = channels} {n₂ = most} {m₂ = 32} h c
 
 module _ (s : SonicStream) (o : inOrder s ≡ true) where
-  pub rates-in : Within (ratesOf (s .rate) (s .pitch))
+  pub rates-in : RatesWithin (ratesOf (s .rate) (s .pitch))
   rates-in =
       let l = limits-of s o in
       let p = within-range minPitch maxPitch (s .pitch) (ranges-of s (tests-of s o .settings) .pitch) in

@@ -107,13 +107,13 @@ halved-near zero r n = n
 halved-near (suc k) r n = halved-suc Near k r (λ o. halved-near k (half r) (half-near r n o)) (λ a b. n)
 
 -- N and O of a rate in 1,000..=500,000 and a pitch in 0.05..=20 lie in 1..=16,384
-pub record Within (r : Rates) : Type 0 where
+pub record RatesWithin (r : Rates) : Type 0 where
   pub new-least : 1 ≤ r .new
   pub new-most : r .new ≤ maxHalvedRate
   pub old-least : 1 ≤ r .old
   pub old-most : r .old ≤ maxHalvedRate
 
-pub rates-within : (rate : ℕ) (pitch : Float) → 1000 ≤ rate → rate ≤ 500000 → T (le minPitch pitch) → T (le pitch maxPitch) → Within (ratesOf rate pitch)
+pub rates-within : (rate : ℕ) (pitch : Float) → 1000 ≤ rate → rate ≤ 500000 → T (le minPitch pitch) → T (le pitch maxPitch) → RatesWithin (ratesOf rate pitch)
 unfolding ratesOf
 rates-within rate pitch R R' h g =
     let b = newRate-between rate pitch R R' h g in

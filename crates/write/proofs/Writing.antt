@@ -25,7 +25,7 @@ use Rattle.process.specs.Working.{WorkedAs}
 use Rattle.adding.specs.declared.Wrote.{Wrote}
 use Rattle.adding.specs.Calls.{acceptedCall, writeCall}
 use Rattle.adding.specs.Adding.{Accepted, AddEnsures}
-use Rattle.adding.proofs.Answers.{Answered, call-done, stream-refused, areas-refused, input-refused}
+use Rattle.adding.proofs.Answers.{CallAnswered, call-done, stream-refused, areas-refused, input-refused}
 use Rattle.adding.proofs.Adding.{answerBy, workOf, worked-in-order, added-answered}
 
 -- the n frames that it adds, as the input holds them
@@ -39,17 +39,17 @@ writeAnswer s r = answerBy s (λ t. t) r
 -- ---- refused before its work
 
 module _ (s : SonicStream) (samples : List Float) (a : Areas) where
-  pub write-out-of-order : inOrder s ≡ false → Answered (s .channels) (writeCall s samples a) (Wrote.Refused badStream s) a
+  pub write-out-of-order : inOrder s ≡ false → CallAnswered (s .channels) (writeCall s samples a) (Wrote.Refused badStream s) a
   unfolding writeCall
   write-out-of-order e = stream-refused s a _ _ _ _ e
 
   module _ (o : inOrder s ≡ true) where
-    pub write-areas-bad : areasBad s a ≡ true → Answered (s .channels) (writeCall s samples a) (Wrote.Refused badAreas s) a
+    pub write-areas-bad : areasBad s a ≡ true → CallAnswered (s .channels) (writeCall s samples a) (Wrote.Refused badAreas s) a
     unfolding writeCall
     write-areas-bad e = areas-refused s a _ _ _ _ o e
 
     pub write-input-full : (n : ℕ) → n ≡ length samples / s .channels → areasBad s a ≡ false
-        → tooShort (s .channels) (s .held .0 + n) (a .input) ≡ true → Answered (s .channels) (writeCall s samples a) (Wrote.Refused inputFull s) a
+        → tooShort (s .channels) (s .held .0 + n) (a .input) ≡ true → CallAnswered (s .channels) (writeCall s samples a) (Wrote.Refused inputFull s) a
     unfolding writeCall wholeFrames
     write-input-full n whole g e =
         rw (← whole, length-framesOf (s .channels) n samples) (input-refused s a n _ _ _ o g e)
@@ -62,14 +62,14 @@ module _ (s : SonicStream) (samples : List Float) (a b : Areas) (n : ℕ) (p : A
   made = workOf s a (written s samples n)
 
   done : (o : Outcome) (t : SonicStream) → WorkedAs (joinedStream n s) made (areas input (a .stage) (a .output) (a .scratch)) b o t
-      → Answered (s .channels) (acceptedCall s a (made .outcome) (made .state) (made .frames)) (Wrote.Done o t) b
+      → CallAnswered (s .channels) (acceptedCall s a (made .outcome) (made .state) (made .frames)) (Wrote.Done o t) b
   unfolding joined stateOf streamOf
   done o t w =
       let order = worked-in-order s t a (written s samples n) _ (p .in-order) (w .stream) (w .ready) in
       call-done s t a b o (made .outcome) (made .state) (made .frames) (w .outcome) (w .stream) order (w .held) (w .tail) (w .waiting)
 
   pub write-answered : (r : Work) → AddEnsures s n (areas input (a .stage) (a .output) (a .scratch)) b r
-      → Answered (s .channels) (writeCall s samples a) (writeAnswer s r) b
+      → CallAnswered (s .channels) (writeCall s samples a) (writeAnswer s r) b
   unfolding writeCall writeWork wholeFrames stateOf
   write-answered r w =
       rw (← whole, length-framesOf (s .channels) n samples)

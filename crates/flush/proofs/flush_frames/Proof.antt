@@ -8,7 +8,7 @@ use Rattle.frames.specs.Framing.{Behind}
 use Rattle.process.specs.declared.Work.{Work}
 use Rattle.adding.specs.Calls.{flushCall}
 use Rattle.adding.specs.Adding.{AddEnsures}
-use Rattle.adding.proofs.Answers.{Answered}
+use Rattle.adding.proofs.Answers.{CallAnswered}
 use Rattle.adding.proofs.Joining.{silence-behind, ready-with, accepted-held, accepted-tail}
 use Rattle.flush.proofs.Clearing.{silent, cleared-ready, flushAnswer, flush-answered}
 use Rattle.flush.proofs.flush_frames.Statement.{statement}
@@ -77,7 +77,7 @@ work c r e = rw e at (c .process-added .ensures)
 
 -- the answer, by the work's
 answered : (c : tie.After-process-added) (r : Work) → c .process-added .result ≡ r
-    → Answered (entered (stored c) .args .stream .channels) (flushCall (entered (stored c) .args .stream) (lent (entered (stored c))))
+    → CallAnswered (entered (stored c) .args .stream .channels) (flushCall (entered (stored c) .args .stream) (lent (entered (stored c))))
     (flushAnswer (entered (stored c) .args .stream) (expected (stored c) .expected-frames .result .0) r) (left c)
 answered c r e =
     let s = entered (stored c) in

@@ -5,7 +5,7 @@ use Prim.Native.Nat.{_+_, _*_, _/_, _≤_}
 use native.Mathlib.Nat.{div-le-self}
 use native.Mathlib.Omega.{arith}
 use Rattle.rate.specs.Halving.{maxHalvedRate, ratesOf}
-use Rattle.rate.proofs.Halving.{Within}
+use Rattle.rate.proofs.Halving.{RatesWithin}
 use Rattle.stream.proofs.InOrder.{limits-of}
 use Rattle.plans.specs.Plans.{blockSamples, stagedMost}
 use Rattle.plans.proofs.Planning.{mostStaged, rates-in, scaled-most, quotient-most}
@@ -53,7 +53,7 @@ mul-t6 c = record { fits = omega (arith, scaled (rated (counted c))) }
 div-t7 : tie.Need-div-t7
 div-t7 c =
     let r = rated (counted (c .before)) in
-    subst Within (sym (r .rates-of .ensures)) (rates-in (start r .args .stream) (start r .pre)) .old-least
+    subst RatesWithin (sym (r .rates-of .ensures)) (rates-in (start r .args .stream) (start r .pre)) .old-least
 
 add-t8 : tie.Need-add-t8
 add-t8 c = record { fits = omega (arith, quotient (rated (counted (c .before)))) }

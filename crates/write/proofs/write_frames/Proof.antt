@@ -5,7 +5,7 @@ use Rattle.frames.specs.Areas.{Areas, areas}
 use Rattle.frames.specs.Framing.{Behind}
 use Rattle.process.specs.declared.Work.{Work}
 use Rattle.adding.specs.Calls.{writeCall}
-use Rattle.adding.proofs.Answers.{Answered}
+use Rattle.adding.proofs.Answers.{CallAnswered}
 use Rattle.adding.proofs.Joining.{written-behind, ready-with, accepted-place, accepted-samples}
 use Rattle.write.proofs.Writing.{written, writeAnswer, write-answered}
 use Rattle.write.proofs.write_frames.Statement.{statement}
@@ -62,7 +62,7 @@ added c =
 
 -- the answer, by the work's
 answered : (c : tie.After-process-added) (r : Work) → c .process-added .result ≡ r
-    → Answered (entered (stored c) .args .stream .channels)
+    → CallAnswered (entered (stored c) .args .stream .channels)
     (writeCall (entered (stored c) .args .stream) (entered (stored c) .args .samples .now) (lent (entered (stored c))))
     (writeAnswer (entered (stored c) .args .stream) r) (left c)
 answered c r e =
