@@ -1,5 +1,5 @@
-// What a write and a flush share: their answer, and the work of a call that has added frames to the input. `specs/Calls.antt` says what
-// each answers.
+// What a write and a flush share: their answer, and the work of a call that has added frames to the input.
+// `specs/Calls.antt` says what each answers.
 use frames::Frames;
 use process::Outcome;
 use process::Work;
@@ -24,7 +24,8 @@ pub fn process_added(
     scratch: &mut [i16],
 ) -> Work
     requires { ⌜ AddReady stream period (areas (now input) (now stage) (now output) (now scratch)) (n .0) ⌝ }
-    ensures { λ r. ⌜ AddEnsures stream (n .0) (areas (now (input .entry)) (now (stage .entry)) (now (output .entry)) (now (scratch .entry)))
+    ensures { λ r. ⌜ AddEnsures stream (n .0)
+        (areas (now (input .entry)) (now (stage .entry)) (now (output .entry)) (now (scratch .entry)))
         (areas (now (input .exit)) (now (stage .exit)) (now (output .exit)) (now (scratch .exit))) r ⌝ }
 {
     let joined = process::joined(stream, period, n);

@@ -1,4 +1,5 @@
--- What is promised of a block that is read and written: none of its frames is left out unseen. Definitions only. Assumes nothing.
+-- What is promised of a block that is read and written: none of its frames is left out unseen. Definitions only.
+-- Assumes nothing.
 use mathlib.Core.Path.{_≡_}
 use mathlib.Core.Bool.{true, false}
 use Prim.Native.Nat.{ℕ, _+_, _%_, _^_}
@@ -18,8 +19,8 @@ pub record BlockWritten (n : ℕ) (r r' : Reel) : Type 0 where
   pub part : PartWritten n r r'
   pub none-waits : r' .failed ≡ false → r' .refusal ≡ 0 → r' .stream .waiting .0 ≡ 0
 
--- after a block was read and written: a run still going that had written each frame it read has done so again, and only the last block
--- may leave bytes over
+-- after a block was read and written: a run still going that had written each frame it read has done so again, and only
+-- the last block may leave bytes over
 pub record Turned (r r' : Reel) : Type 0 where
   pub still : going r' ≡ true → going r ≡ true
   pub level : going r' ≡ true → r .written ≡ r .«frames_in» → r' .written ≡ r' .«frames_in»

@@ -1,5 +1,5 @@
-// A block of a reel is read, and written to the stream in writes that fill its input as far as the plan says. `specs/Blocks.antt` says what
-// is promised.
+// A block of a reel is read, and written to the stream in writes that fill its input as far as the plan says.
+// `specs/Blocks.antt` says what is promised.
 use frames::Frames;
 use frames::Samples;
 use plans::BLOCK_SAMPLES;
@@ -51,7 +51,8 @@ fn write(
     after
 }
 
-// Writes a block to the stream, and writes out what that makes. Between its writes fewer frames wait than a block holds.
+// Writes a block to the stream, and writes out what that makes. Between its writes fewer frames wait than a block
+// holds.
 fn write_block(
     mut reel: Reel,
     block: &[f32],
@@ -98,8 +99,10 @@ pub fn turn(
     values: &mut [f32],
     bytes: &mut [u8],
 ) -> Reel
-    requires { ⌜ Usable plan × (reel .stream .channels ≡ plan .channels) × (plan .block % plan .channels ≡ 0) × (reel .partial ≡ 0) ⌝ }
-    requires { ⌜ (blockSamples ≡ length (now block)) × (blockSamples ≡ length (now values)) × (blockBytes ≡ length (now bytes)) ⌝ }
+    requires { ⌜ Usable plan × (reel .stream .channels ≡ plan .channels) × (plan .block % plan .channels ≡ 0)
+        × (reel .partial ≡ 0) ⌝ }
+    requires { ⌜ (blockSamples ≡ length (now block)) × (blockSamples ≡ length (now values))
+        × (blockBytes ≡ length (now bytes)) ⌝ }
     ensures { λ r. ⌜ Turned reel r ⌝ }
 {
     let read = read_block(reel, plan, block, bytes);

@@ -1,4 +1,5 @@
--- Document 01, "Stretch steps": what each kind of step writes. x is the held input, `at` a frame of it. Definitions only.
+-- Document 01, "Stretch steps": what each kind of step writes. x is the held input, `at` a frame of it. Definitions
+-- only.
 use Prim.Native.Nat.{ℕ, zero, suc, _+_, _-_, _*_}
 use mathlib.Core.List.{List, [], _∷_, _++_}
 use lib.IntN.{ℤ, pos, _+ℤ_, _*ℤ_}
@@ -12,7 +13,8 @@ crossfadeSample down up k t = quotZ (down *ℤ pos (k - t) +ℤ up *ℤ pos t) (
 -- the first n samples of frame t, which stands at the front of both
 unfoldable pub crossfadeFrame : ℕ → ℕ → List ℤ → List ℤ → ℕ → List ℤ
 crossfadeFrame k t down up zero = []
-crossfadeFrame k t down up (suc n) = crossfadeFrame k t down up n ++ (crossfadeSample (getD down n (pos 0)) (getD up n (pos 0)) k t ∷ [])
+crossfadeFrame k t down up (suc n) =
+    crossfadeFrame k t down up n ++ (crossfadeSample (getD down n (pos 0)) (getD up n (pos 0)) k t ∷ [])
 
 -- the first t frames of k
 unfoldable pub crossfadeTo : ℕ → ℕ → List ℤ → List ℤ → ℕ → List ℤ
@@ -30,9 +32,11 @@ copyUnmodifiedSamples channels x at n = take (n * channels) (drop (at * channels
 
 -- `skip_pitch_period`: k frames that fade from the position into one period later
 unfoldable pub skipPitchPeriod : ℕ → List ℤ → ℕ → ℕ → ℕ → List ℤ
-skipPitchPeriod channels x at period k = overlapAdd k channels (drop (at * channels) x) (drop ((at + period) * channels) x)
+skipPitchPeriod channels x at period k =
+    overlapAdd k channels (drop (at * channels) x) (drop ((at + period) * channels) x)
 
 -- `insert_pitch_period`: the period copied, then k frames that fade the reverse
 unfoldable pub insertPitchPeriod : ℕ → List ℤ → ℕ → ℕ → ℕ → List ℤ
 insertPitchPeriod channels x at period k =
-    copyUnmodifiedSamples channels x at period ++ overlapAdd k channels (drop ((at + period) * channels) x) (drop (at * channels) x)
+    copyUnmodifiedSamples channels x at period
+    ++ overlapAdd k channels (drop ((at + period) * channels) x) (drop (at * channels) x)

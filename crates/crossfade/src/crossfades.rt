@@ -1,4 +1,5 @@
-// Crossfades: a sample, a frame, and `overlap_add`. A division by k, which all samples of a crossfade share, is a multiplication by its reciprocal.
+// Crossfades: a sample, a frame, and `overlap_add`. A division by k, which all samples of a crossfade share, is a
+// multiplication by its reciprocal.
 use frames::Frames;
 use frames::Samples;
 ghost use mathlib.Core.Path.{_≡_};
@@ -54,7 +55,8 @@ fn crossfade_sample(down: i16, up: i16, k: usize, t: usize, reciprocal: u64) -> 
     divide(sum, k, reciprocal) as i16
 }
 
-// Writes the frame at step t of a crossfade of k steps, which stands at the places `down` and `up` of the input, at the place `to` of the stage.
+// Writes the frame at step t of a crossfade of k steps, which stands at the places `down` and `up` of the input, at the
+// place `to` of the stage.
 fn crossfade_frame(
     k: usize,
     t: usize,
@@ -67,9 +69,11 @@ fn crossfade_frame(
     to: Samples,
 )
     requires { ⌜ (t < k) × (k ≤ longestPeriod) × (reciprocal ≡ reciprocalOf k) ⌝ }
-    requires { ⌜ (down .0 + channels ≤ length (now input)) × (up .0 + channels ≤ length (now input)) × (to .0 + channels ≤ length (now stage)) ⌝ }
+    requires { ⌜ (down .0 + channels ≤ length (now input)) × (up .0 + channels ≤ length (now input))
+        × (to .0 + channels ≤ length (now stage)) ⌝ }
     ensures { λ _. ⌜ now (stage .exit) ≡ paste (now (stage .entry)) (to .0)
-        (crossfadeFrame k t (drop (down .0) (now (input .entry))) (drop (up .0) (now (input .entry))) channels) channels ⌝ }
+        (crossfadeFrame k t (drop (down .0) (now (input .entry))) (drop (up .0) (now (input .entry))) channels)
+        channels ⌝ }
 {
     let from = down.0;
     let into = up.0;
@@ -99,7 +103,8 @@ fn crossfade_frames(
     requires { ⌜ (down .0 + k .0 * channels ≤ length (now input)) × (up .0 + k .0 * channels ≤ length (now input))
         × (to .0 + k .0 * channels ≤ length (now stage)) ⌝ }
     ensures { λ _. ⌜ now (stage .exit) ≡ paste (now (stage .entry)) (to .0)
-        (overlapAdd (k .0) channels (drop (down .0) (now (input .entry))) (drop (up .0) (now (input .entry)))) (k .0 * channels) ⌝ }
+        (overlapAdd (k .0) channels (drop (down .0) (now (input .entry))) (drop (up .0) (now (input .entry))))
+        (k .0 * channels) ⌝ }
 {
     let n = k.0;
     let from = down.0;
@@ -135,9 +140,11 @@ fn crossfade_mono(
     to: Samples,
 )
     requires { ⌜ (count .0 ≤ longestPeriod) × (reciprocal ≡ reciprocalOf (count .0)) ⌝ }
-    requires { ⌜ (down .0 + count .0 ≤ length (now input)) × (up .0 + count .0 ≤ length (now input)) × (to .0 + count .0 ≤ length (now stage)) ⌝ }
+    requires { ⌜ (down .0 + count .0 ≤ length (now input)) × (up .0 + count .0 ≤ length (now input))
+        × (to .0 + count .0 ≤ length (now stage)) ⌝ }
     ensures { λ _. ⌜ now (stage .exit) ≡ paste (now (stage .entry)) (to .0)
-        (overlapAdd (count .0) 1 (drop (down .0) (now (input .entry))) (drop (up .0) (now (input .entry)))) (count .0) ⌝ }
+        (overlapAdd (count .0) 1 (drop (down .0) (now (input .entry))) (drop (up .0) (now (input .entry))))
+        (count .0) ⌝ }
 {
     let n = count.0;
     let from = down.0;
@@ -153,7 +160,8 @@ fn crossfade_mono(
     }
 }
 
-// A crossfade of k frames from the place `down` of the input into the place `up`, written at the place `to` of the stage.
+// A crossfade of k frames from the place `down` of the input into the place `up`, written at the place `to` of the
+// stage.
 pub fn overlap_add(
     k: Frames,
     channels: usize,
@@ -167,7 +175,8 @@ pub fn overlap_add(
     requires { ⌜ (down .0 + k .0 * channels ≤ length (now input)) × (up .0 + k .0 * channels ≤ length (now input))
         × (to .0 + k .0 * channels ≤ length (now stage)) ⌝ }
     ensures { λ _. ⌜ now (stage .exit) ≡ paste (now (stage .entry)) (to .0)
-        (overlapAdd (k .0) channels (drop (down .0) (now (input .entry))) (drop (up .0) (now (input .entry)))) (k .0 * channels) ⌝ }
+        (overlapAdd (k .0) channels (drop (down .0) (now (input .entry))) (drop (up .0) (now (input .entry))))
+        (k .0 * channels) ⌝ }
 {
     let reciprocal = reciprocal_of(k.0);
     if channels == 1 {

@@ -1,4 +1,5 @@
-// Crossfades: `overlap_add`, and the frames that copy, skip or insert a pitch period. `specs/Crossfade.antt` says what each function gives.
+// Crossfades: `overlap_add`, and the frames that copy, skip or insert a pitch period. `specs/Crossfade.antt` says what
+// each function gives.
 mod crossfades;
 mod periods;
 

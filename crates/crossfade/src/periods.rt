@@ -18,7 +18,8 @@ pub fn copy_unmodified_samples(
     stage: &mut [i16],
     to: Samples,
 )
-    requires { ⌜ ((position .0 + n .0) * channels ≤ length (now input)) × (to .0 + n .0 * channels ≤ length (now stage)) ⌝ }
+    requires { ⌜ ((position .0 + n .0) * channels ≤ length (now input))
+        × (to .0 + n .0 * channels ≤ length (now stage)) ⌝ }
     ensures { λ _. ⌜ now (stage .exit) ≡ paste (now (stage .entry)) (to .0)
         (copyUnmodifiedSamples channels (now (input .entry)) (position .0) (n .0)) (n .0 * channels) ⌝ }
 {
@@ -41,7 +42,8 @@ pub fn skip_pitch_period(
     stage: &mut [i16],
     to: Samples,
 )
-    requires { ⌜ (1 ≤ channels) × (k .0 ≤ longestPeriod) × ((position .0 + (period .0 + k .0)) * channels ≤ length (now input))
+    requires { ⌜ (1 ≤ channels) × (k .0 ≤ longestPeriod)
+        × ((position .0 + (period .0 + k .0)) * channels ≤ length (now input))
         × (to .0 + k .0 * channels ≤ length (now stage)) ⌝ }
     ensures { λ _. ⌜ now (stage .exit) ≡ paste (now (stage .entry)) (to .0)
         (skipPitchPeriod channels (now (input .entry)) (position .0) (period .0) (k .0)) (k .0 * channels) ⌝ }
@@ -52,7 +54,8 @@ pub fn skip_pitch_period(
     overlap_add(k, channels, input, here, there, stage, to);
 }
 
-// Inserts a period at the position: the period, then k frames from one period later into the position, at the place `to` of the stage.
+// Inserts a period at the position: the period, then k frames from one period later into the position, at the place
+// `to` of the stage.
 pub fn insert_pitch_period(
     input: &[i16],
     channels: usize,
@@ -62,10 +65,12 @@ pub fn insert_pitch_period(
     stage: &mut [i16],
     to: Samples,
 )
-    requires { ⌜ (1 ≤ channels) × (k .0 ≤ longestPeriod) × ((position .0 + (period .0 + k .0)) * channels ≤ length (now input))
+    requires { ⌜ (1 ≤ channels) × (k .0 ≤ longestPeriod)
+        × ((position .0 + (period .0 + k .0)) * channels ≤ length (now input))
         × (to .0 + (period .0 + k .0) * channels ≤ length (now stage)) ⌝ }
     ensures { λ _. ⌜ now (stage .exit) ≡ paste (now (stage .entry)) (to .0)
-        (insertPitchPeriod channels (now (input .entry)) (position .0) (period .0) (k .0)) ((period .0 + k .0) * channels) ⌝ }
+        (insertPitchPeriod channels (now (input .entry)) (position .0) (period .0) (k .0))
+        ((period .0 + k .0) * channels) ⌝ }
 {
     copy_unmodified_samples(input, channels, position, period, stage, to);
     let later = position.0 + period.0;

@@ -1,4 +1,5 @@
--- Decimal numbers as ASCII text: digits, or digits, a point and digits, and the f32 that one gives. Definitions only. Assumes nothing.
+-- Decimal numbers as ASCII text: digits, or digits, a point and digits, and the f32 that one gives. Definitions only.
+-- Assumes nothing.
 use mathlib.Core.Bool.{Bool, cond, _&&_}
 use mathlib.Core.List.{List, [], _∷_}
 use Prim.Native.Nat.{ℕ, suc, _+_, _-_, _*_, _^_}
@@ -36,7 +37,9 @@ placed k (Digits.Number n) = Decimal.Number n k
 
 -- 1 to 15 digits behind the point, after those of n before it
 unfoldable pub placesFrom : ℕ → List ℕ → Decimal
-placesFrom n text = cond (leb 1 (length text)) (cond (leb (length text) 15) (placed (length text) (digitsFrom n text)) Decimal.Refused) Decimal.Refused
+placesFrom n text =
+    cond (leb 1 (length text)) (cond (leb (length text) 15) (placed (length text) (digitsFrom n text)) Decimal.Refused)
+    Decimal.Refused
 
 -- by the digits before the point
 abbrev pub behind : Digits → List ℕ → Decimal
@@ -47,7 +50,8 @@ behind (Digits.Number n) rest = placesFrom n rest
 unfoldable pub decimalOf : List ℕ → Decimal
 decimalOf text =
     let point : ℕ = indexOf 46 text in
-    cond (eqb point (length text)) (placed 0 (wholeOf text)) (behind (wholeOf (take point text)) (drop (suc point) text))
+    cond (eqb point (length text)) (placed 0 (wholeOf text))
+    (behind (wholeOf (take point text)) (drop (suc point) text))
 
 -- n over ten to the power of k, rounded to f64 and then to f32
 unfoldable pub quotient : ℕ → ℕ → Float

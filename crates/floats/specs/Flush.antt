@@ -6,4 +6,6 @@ use Rattle.floats.specs.Numbers.{half, count}
 -- e = (held/(speed/pitch) + tail)/pitch + 0.5, cut
 unfoldable pub expectedFrames : ℕ → ℕ → Float → Float → ℕ
 expectedFrames held tail speed pitch =
-    toUnsigned 64 (add binary32 (div binary32 (add binary32 (div binary32 (count held) (div binary32 speed pitch)) (count tail)) pitch) half)
+    toUnsigned 64
+    (add binary32 (div binary32 (add binary32 (div binary32 (count held) (div binary32 speed pitch)) (count tail)) pitch)
+    half)

@@ -1,5 +1,5 @@
--- Document 01, "Stretch steps": which step is due at a local speed, its count of frames, and the time error after it, in the original's
--- order of operations. Definitions only.
+-- Document 01, "Stretch steps": which step is due at a local speed, its count of frames, and the time error after it,
+-- in the original's order of operations. Definitions only.
 use Prim.Native.Nat.{ℕ, _+_, max}
 use mathlib.Core.Bool.{Bool, cond, _&&_, _||_}
 use lib.IntN.{ℤ, pos, negsuc}
@@ -12,7 +12,8 @@ copyingDue s error = (lt one s && (lt s two && lt error zero)) || (lt s one && (
 
 -- 1 − (time error·s)/(T·(s − 1)): the product in f32, the rest in f64, rounded to f32
 unfoldable pub toCopy : Float → Float → Float → Float
-toCopy error s period = narrow (sub binary64 one (div binary64 (mul binary32 error s) (mul binary64 period (sub binary64 s one))))
+toCopy error s period =
+    narrow (sub binary64 one (div binary64 (mul binary32 error s) (mul binary64 period (sub binary64 s one))))
 
 -- a whole number, and 0 for one below zero
 abbrev pub natOf : ℤ → ℕ
@@ -21,7 +22,8 @@ natOf (negsuc k) = 0
 
 -- the frames that a copying step copies: `toCopy` cut, at most those left
 unfoldable pub copyCount : Float → Float → Float → ℕ → ℕ
-copyCount error s period left = cond (lt (count left) (toCopy error s period)) left (natOf (toSigned 31 (toCopy error s period)))
+copyCount error s period left =
+    cond (lt (count left) (toCopy error s period)) left (natOf (toSigned 31 (toCopy error s period)))
 
 -- k of a skip: the period, or period/(s − 1) cut toward zero for s ≥ 2
 unfoldable pub skipCount : Float → ℕ → ℕ
@@ -29,16 +31,19 @@ skipCount s p = cond (le two s) (toUnsigned 64 (div binary32 (count p) (sub bina
 
 -- k of an insert: the period, or period·s/(1 − s) cut for s ≤ 0.5, at least 1
 unfoldable pub insertCount : Float → ℕ → ℕ
-insertCount s p = max 1 (cond (le s half) (toUnsigned 64 (div binary32 (mul binary32 (count p) s) (sub binary32 one s))) p)
+insertCount s p =
+    max 1 (cond (le s half) (toUnsigned 64 (div binary32 (mul binary32 (count p) s) (sub binary32 one s))) p)
 
 -- the time error after n frames copied: error + (n·T)·(s − 1)/s, in f64 but for n·T, rounded to f32
 unfoldable pub errorCopied : Float → Float → Float → ℕ → Float
-errorCopied error s period n = narrow (add binary64 error (div binary64 (mul binary64 (mul binary32 (count n) period) (sub binary64 s one)) s))
+errorCopied error s period n =
+    narrow (add binary64 error (div binary64 (mul binary64 (mul binary32 (count n) period) (sub binary64 s one)) s))
 
 -- `made` frames out for `used` frames of the input, of which `held` play for `play`: error + (made·T − used·play/held)
 unfoldable pub errorMoved : Float → Float → Float → ℕ → ℕ → ℕ → Float
 errorMoved error period play held made used =
-    add binary32 error (sub binary32 (mul binary32 (count made) period) (div binary32 (mul binary32 (count used) play) (count held)))
+    add binary32 error (sub binary32 (mul binary32 (count made) period)
+    (div binary32 (mul binary32 (count used) play) (count held)))
 
 -- after a skip of p that makes k frames, for s < 2
 unfoldable pub errorSkipped : Float → Float → Float → Float → ℕ → ℕ → ℕ → Float

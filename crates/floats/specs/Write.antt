@@ -1,4 +1,5 @@
--- Document 01, "A write" and "Read": a sample in and out, play time, and the local speed with its test. Definitions only.
+-- Document 01, "A write" and "Read": a sample in and out, play time, and the local speed with its test. Definitions
+-- only.
 use Prim.Native.Nat.{ℕ}
 use mathlib.Core.Bool.{Bool, true, false, cond, _||_}
 use lib.IntN.{ℤ, pos}
@@ -26,7 +27,8 @@ sampleOut v = div binary32 (ofInt binary32 v) full
 
 -- play time after a write of n frames: it grows by frames·T/(speed/pitch)
 unfoldable pub playTimeGrown : Float → ℕ → Float → Float → Float → Float
-playTimeGrown play n period speed pitch = add binary32 play (div binary32 (mul binary32 (count n) period) (div binary32 speed pitch))
+playTimeGrown play n period speed pitch =
+    add binary32 play (div binary32 (mul binary32 (count n) period) (div binary32 speed pitch))
 
 -- the local speed: held·T/play time
 unfoldable pub localSpeed : ℕ → Float → Float → Float

@@ -18,8 +18,8 @@ fn clamp_unit(x: f32) -> f32
     if y > 1.0 { 1.0 } else { y }
 }
 
-// The whole part of the size of the f32 with the bits b: its sixteen leading digits, moved by the exponent. Both factors
-// are u16, so that a loop multiplies several samples at once.
+// The whole part of the size of the f32 with the bits b: its sixteen leading digits, moved by the exponent. Both
+// factors are u16, so that a loop multiplies several samples at once.
 fn cut_magnitude(b: u32) -> u32
     requires { ⌜ SampleSize b ⌝ }
     ensures { λ r. ⌜ r ≡ cutMagnitude b ⌝ }
@@ -40,8 +40,8 @@ fn cut_pattern(b: u32) -> i16
     v as i16
 }
 
-// The sample that is stored for one that is written, cut on the bits of the product. A product below 1 in size, or a NaN,
-// gives 0.
+// The sample that is stored for one that is written, cut on the bits of the product. A product below 1 in size, or a
+// NaN, gives 0.
 pub fn sample_in(x: f32) -> i16
     ensures { λ r. ⌜ (r ≡ sampleIn x) × (natAbs r ≤ 32767) ⌝ }
 {
@@ -56,7 +56,8 @@ pub fn sample_in(x: f32) -> i16
 // Stores `count` samples of a write at the place `to` of the area.
 pub fn samples_in(source: &[f32], count: Samples, area: &mut [i16], to: Samples)
     requires { ⌜ (count .0 ≤ length (now source)) × (to .0 + count .0 ≤ length (now area)) ⌝ }
-    ensures { λ _. ⌜ now (area .exit) ≡ paste (now (area .entry)) (to .0) (map sampleIn (now (source .entry))) (count .0) ⌝ }
+    ensures { λ _. ⌜ now (area .exit) ≡ paste (now (area .entry)) (to .0) (map sampleIn (now (source .entry)))
+        (count .0) ⌝ }
 {
     let n = count.0;
     let t = to.0;

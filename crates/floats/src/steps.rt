@@ -3,7 +3,8 @@ use frames::Frames;
 ghost use mathlib.Core.Path.{_≡_};
 ghost use mathlib.Core.Bool.{_&&_, _||_};
 ghost use Prim.Native.Nat.{_+_, _<_, _≤_, _^_};
-ghost use Rattle.floats.specs.Steps.{copyingDue, toCopy, copyCount, skipCount, insertCount, errorCopied, errorMoved, errorSkipped, errorInserted};
+ghost use Rattle.floats.specs.Steps.{copyingDue, toCopy, copyCount, skipCount, insertCount, errorCopied};
+ghost use Rattle.floats.specs.Steps.{errorMoved, errorSkipped, errorInserted};
 
 // Whether all three hold.
 fn all(a: bool, b: bool, c: bool) -> bool

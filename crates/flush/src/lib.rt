@@ -48,9 +48,11 @@ fn flush_frames(
     output: &mut [i16],
     scratch: &mut [i16],
 ) -> Wrote
-    requires { ⌜ AddReady stream period (areas (now input) (now stage) (now output) (now scratch)) (n .0) × (n .0 ≡ 2 * maxRequired (stream .rate)) ⌝ }
+    requires { ⌜ AddReady stream period (areas (now input) (now stage) (now output) (now scratch)) (n .0)
+        × (n .0 ≡ 2 * maxRequired (stream .rate)) ⌝ }
     ensures { λ r. ⌜ CallEnsures (stream .channels)
-        (flushCall stream (areas (now (input .entry)) (now (stage .entry)) (now (output .entry)) (now (scratch .entry)))) r
+        (flushCall stream (areas (now (input .entry)) (now (stage .entry)) (now (output .entry))
+        (now (scratch .entry)))) r
         (areas (now (input .exit)) (now (stage .exit)) (now (output .exit)) (now (scratch .exit))) ⌝ }
     ensures { λ r. ⌜ OrderAfter r ⌝ }
 {
@@ -76,7 +78,8 @@ pub fn flush(
     scratch: &mut [i16],
 ) -> Wrote
     ensures { λ r. ⌜ CallEnsures (stream .channels)
-        (flushCall stream (areas (now (input .entry)) (now (stage .entry)) (now (output .entry)) (now (scratch .entry)))) r
+        (flushCall stream (areas (now (input .entry)) (now (stage .entry)) (now (output .entry))
+        (now (scratch .entry)))) r
         (areas (now (input .exit)) (now (stage .exit)) (now (output .exit)) (now (scratch .exit))) ⌝ }
     ensures { λ r. ⌜ OrderAfter r ⌝ }
 {

@@ -37,7 +37,8 @@ impl Samples {
 // Copies `count` samples of the source, from `from` on, to the place `to` of the area.
 pub fn copy(source: &[i16], from: Samples, count: Samples, area: &mut [i16], to: Samples)
     requires { ⌜ (from .0 + count .0 ≤ length (now source)) × (to .0 + count .0 ≤ length (now area)) ⌝ }
-    ensures { λ _. ⌜ now (area .exit) ≡ paste (now (area .entry)) (to .0) (drop (from .0) (now (source .entry))) (count .0) ⌝ }
+    ensures { λ _. ⌜ now (area .exit) ≡ paste (now (area .entry)) (to .0) (drop (from .0) (now (source .entry)))
+        (count .0) ⌝ }
 {
     let f = from.0;
     let t = to.0;

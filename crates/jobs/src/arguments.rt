@@ -1,4 +1,5 @@
-// The arguments: none, `--help`, or rate, channels, speed, pitch and, if wanted, volume; `--status` may stand before them.
+// The arguments: none, `--help`, or rate, channels, speed, pitch and, if wanted, volume; `--status` may stand before
+// them.
 use crate::Asked;
 use crate::Job;
 use decimal::Digits;

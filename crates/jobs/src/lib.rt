@@ -1,4 +1,5 @@
-// The job that the arguments of the skim tool ask for, and its stream. `specs/Arguments.antt` and `specs/Settings.antt` say what is answered.
+// The job that the arguments of the skim tool ask for, and its stream. `specs/Arguments.antt` and `specs/Settings.antt`
+// say what is answered.
 mod arguments;
 mod settling;
 

@@ -28,7 +28,8 @@ pub struct Search {
 #[no_mangle]
 pub extern "C" fn kernel_samples_in(source: &[f32], area: &mut [i16])
     requires { ⌜ length (now source) ≤ length (now area) ⌝ }
-    ensures { λ _. ⌜ now (area .exit) ≡ paste (now (area .entry)) 0 (map sampleIn (now (source .entry))) (length (now (source .entry))) ⌝ }
+    ensures { λ _. ⌜ now (area .exit) ≡ paste (now (area .entry)) 0 (map sampleIn (now (source .entry)))
+        (length (now (source .entry))) ⌝ }
 {
     floats::samples::samples_in(source, Samples(source.len()), area, Samples(0));
 }
@@ -60,7 +61,8 @@ pub extern "C" fn kernel_down_sample_input(
     per: usize,
 )
     requires { ⌜ Averageable (length (now samples)) (length (now out)) count per ⌝ }
-    ensures { λ _. ⌜ now (out .exit) ≡ downSampleInput (now (samples .entry)) count per ++ drop count (now (out .entry)) ⌝ }
+    ensures { λ _. ⌜ now (out .exit) ≡ downSampleInput (now (samples .entry)) count per
+        ++ drop count (now (out .entry)) ⌝ }
 {
     period::down_sample_input(samples, out, count, Samples(per));
 }
@@ -76,7 +78,8 @@ pub extern "C" fn kernel_interpolate_frame(
 )
     requires { ⌜ (now table ≡ sincTable) × (ratio < width) × (width ≤ 16384) ⌝ }
     requires { ⌜ (12 * channels ≤ length (now stage)) × (channels ≤ length (now output)) ⌝ }
-    ensures { λ _. ⌜ now (output .exit) ≡ paste (now (output .entry)) 0 (interpolateFrame (now (stage .entry)) channels ratio width) channels ⌝ }
+    ensures { λ _. ⌜ now (output .exit) ≡ paste (now (output .entry)) 0
+        (interpolateFrame (now (stage .entry)) channels ratio width) channels ⌝ }
 {
     sinc::interpolate_frame(
         table,
@@ -100,7 +103,8 @@ pub extern "C" fn kernel_overlap_add(
     stage: &mut [i16],
 )
     requires { ⌜ k ≤ longestPeriod ⌝ }
-    requires { ⌜ (down + k * channels ≤ length (now input)) × (up + k * channels ≤ length (now input)) × (k * channels ≤ length (now stage)) ⌝ }
+    requires { ⌜ (down + k * channels ≤ length (now input)) × (up + k * channels ≤ length (now input))
+        × (k * channels ≤ length (now stage)) ⌝ }
     ensures { λ _. ⌜ now (stage .exit) ≡ paste (now (stage .entry)) 0
         (overlapAdd k channels (drop down (now (input .entry))) (drop up (now (input .entry)))) (k * channels) ⌝ }
 {
@@ -118,7 +122,8 @@ pub extern "C" fn kernel_overlap_add(
 #[no_mangle]
 pub extern "C" fn kernel_scale_samples(area: &mut [i16], volume: f32)
     requires { ⌜ T (le minVolume volume) × T (le volume maxVolume) ⌝ }
-    ensures { λ _. ⌜ now (area .exit) ≡ paste (now (area .entry)) 0 (map (scaled volume) (now (area .entry))) (length (now (area .entry))) ⌝ }
+    ensures { λ _. ⌜ now (area .exit) ≡ paste (now (area .entry)) 0 (map (scaled volume) (now (area .entry)))
+        (length (now (area .entry))) ⌝ }
 {
     let n = area.len();
     volume::scale_samples(area, Samples(0), Samples(n), volume);

@@ -6,7 +6,8 @@ ghost use lib.Ieee.{toSigned, toUnsigned};
 ghost use Rattle.floats.specs.Numbers.{narrow};
 ghost use Rattle.floats.specs.Settings.{clamped, samplePeriod};
 ghost use Rattle.floats.specs.Write.{sampleIn, sampleOut, playTimeGrown, playTimeLeft, localSpeed, speedChanges};
-ghost use Rattle.floats.specs.Steps.{copyingDue, copyCount, skipCount, insertCount, errorCopied, errorSkipped, errorInserted};
+ghost use Rattle.floats.specs.Steps.{copyingDue, copyCount, skipCount, insertCount, errorCopied, errorSkipped};
+ghost use Rattle.floats.specs.Steps.{errorInserted};
 ghost use Rattle.floats.specs.Scales.{newRate, gain};
 ghost use Rattle.floats.specs.Flush.{expectedFrames};
 

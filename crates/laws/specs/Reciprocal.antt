@@ -1,4 +1,5 @@
--- How a crate divides by one number often: by a multiplication with its reciprocal, counted in parts of 2^44. Definitions only.
+-- How a crate divides by one number often: by a multiplication with its reciprocal, counted in parts of 2^44.
+-- Definitions only.
 use Prim.Native.Nat.{ℕ, _+_, _/_, _^_}
 
 -- the parts of 1

@@ -1,4 +1,5 @@
--- 16-bit little-endian PCM: a sample's two bytes, and the values that the stream takes and gives. Definitions only. Assumes nothing.
+-- 16-bit little-endian PCM: a sample's two bytes, and the values that the stream takes and gives. Definitions only.
+-- Assumes nothing.
 use mathlib.Core.Path.{_≡_}
 use mathlib.Core.Bool.{cond}
 use mathlib.Core.List.{List}
@@ -24,7 +25,8 @@ sampleRead x = cond (lt x minusOne) (negsuc 32767) (sampleIn x)
 
 -- the values of the first n samples
 pub record Decoded (n : ℕ) (bytes : List ℕ) (values : List Float) : Type 0 where
-  pub value : (i : ℕ) → i < n → getD values i nan ≡ sampleOut (sampleOf (getD bytes (2 * i) 0 + getD bytes (2 * i + 1) 0 * 256))
+  pub value : (i : ℕ) → i < n → getD values i nan
+      ≡ sampleOut (sampleOf (getD bytes (2 * i) 0 + getD bytes (2 * i + 1) 0 * 256))
 
 -- the bytes of the first n values
 pub record Encoded (n : ℕ) (values : List Float) (bytes : List ℕ) : Type 0 where

@@ -1,4 +1,5 @@
-// 16-bit little-endian PCM: its bytes as the values that a stream takes and gives, and back. `specs/Pcm.antt` says which.
+// 16-bit little-endian PCM: its bytes as the values that a stream takes and gives, and back. `specs/Pcm.antt` says
+// which.
 ghost use mathlib.Core.Path.{_≡_};
 ghost use Prim.Native.Nat.{_+_, _*_, _≤_};
 ghost use lib.ListN.{length};
@@ -40,7 +41,8 @@ fn pair(v: i16) -> u16
     }
 }
 
-// The sample that a read made this value of: that of a write, but −32768 for a value below −1, which a write holds to −32767.
+// The sample that a read made this value of: that of a write, but −32768 for a value below −1, which a write holds to
+// −32767.
 fn sample_read(x: f32) -> i16
     ensures { λ r. ⌜ r ≡ sampleRead x ⌝ }
 {

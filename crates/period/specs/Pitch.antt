@@ -1,5 +1,5 @@
--- `find_pitch_period`, on the samples from the position on: which are searched, when the previous period is used, and the record.
--- Definitions only. Assumes nothing.
+-- `find_pitch_period`, on the samples from the position on: which are searched, when the previous period is used, and
+-- the record. Definitions only. Assumes nothing.
 use Prim.Native.Nat.{ℕ, _+_, _-_, _*_, _/_, _≤_, min, max}
 use mathlib.Core.Bool.{Bool, not, cond, _&&_}
 use mathlib.Core.Path.{_≡_}
@@ -21,24 +21,30 @@ valuesOf x n per = cond (eqb per 1) x (downSampleInput x n per)
 -- the first search, over min/skip..=max/skip, of averages of skip frames each
 unfoldable pub coarse : List ℤ → ℕ → ℕ → Found
 coarse x channels R =
-    findPitchPeriodInRange (valuesOf x (maxRequired R / skip R) (skip R * channels)) (minPeriod R / skip R) (maxPeriod R / skip R)
+    findPitchPeriodInRange (valuesOf x (maxRequired R / skip R) (skip R * channels)) (minPeriod R / skip R)
+    (maxPeriod R / skip R)
 
 -- the second search, at full rate within 4·skip of q, inside the range (several channels averaged)
 unfoldable pub fine : List ℤ → ℕ → ℕ → ℕ → Found
 fine x channels R q =
-    findPitchPeriodInRange (valuesOf x (maxRequired R) channels) (max (q - 4 * skip R) (minPeriod R)) (min (q + 4 * skip R) (maxPeriod R))
+    findPitchPeriodInRange (valuesOf x (maxRequired R) channels) (max (q - 4 * skip R) (minPeriod R))
+    (min (q + 4 * skip R) (maxPeriod R))
 
 -- with skip above 1 the answer is that of the second search
 unfoldable pub found : List ℤ → ℕ → ℕ → Found
-found x channels R = cond (eqb (skip R) 1) (coarse x channels R) (fine x channels R (coarse x channels R .period * skip R))
+found x channels R =
+    cond (eqb (skip R) 1) (coarse x channels R) (fine x channels R (coarse x channels R .period * skip R))
 
--- `prev_period_better`: the previous period and the new least mean are nonzero, greatest ≤ 3·least and 2·least > 3·previous least
+-- `prev_period_better`: the previous period and the new least mean are nonzero, greatest ≤ 3·least and 2·least >
+-- 3·previous least
 unfoldable pub prevPeriodBetter : PeriodRecord → Found → Bool
 prevPeriodBetter prev f =
     not (eqb (f .«min_diff») 0)
-    && (not (eqb (prev .period) 0) && (leb (f .«max_diff») (f .«min_diff» * 3) && ltb (prev .«min_diff» * 3) (f .«min_diff» * 2)))
+    && (not (eqb (prev .period) 0) && (leb (f .«max_diff») (f .«min_diff» * 3)
+    && ltb (prev .«min_diff» * 3) (f .«min_diff» * 2)))
 
--- the period used, and the record: it takes the period found, even when the previous one was used, and the new least mean
+-- the period used, and the record: it takes the period found, even when the previous one was used, and the new least
+-- mean
 unfoldable pub chosen : PeriodRecord → Found → Chosen
 chosen prev f =
     record {

@@ -30,7 +30,8 @@ fn mean_from(samples: &[i16], from: Samples, count: Samples) -> i16
     (sum / divisor) as i16
 }
 
-// The mean of `count` samples from the place `from` on, and that of the `count` samples behind them: one pass for both sums.
+// The mean of `count` samples from the place `from` on, and that of the `count` samples behind them: one pass for both
+// sums.
 fn means_from(samples: &[i16], from: Samples, count: Samples) -> Means
     requires { ⌜ (1 ≤ count .0) × (count .0 ≤ mostAveraged) × (from .0 + count .0 + count .0 ≤ length (now samples)) ⌝ }
     ensures { λ r. ⌜ (r .first ≡ meanFrom (now (samples .entry)) (from .0) (count .0))
@@ -67,7 +68,8 @@ fn mean_of_two(a: i16, b: i16) -> i16
 // The first `num_values` means of 2 samples each, at the front of `out`.
 fn down_sample_by_two(samples: &[i16], out: &mut [i16], num_values: usize)
     requires { ⌜ Averageable (length (now samples)) (length (now out)) «num_values» 2 ⌝ }
-    ensures { λ _. ⌜ now (out .exit) ≡ downSampleInput (now (samples .entry)) «num_values» 2 ++ drop «num_values» (now (out .entry)) ⌝ }
+    ensures { λ _. ⌜ now (out .exit) ≡ downSampleInput (now (samples .entry)) «num_values» 2
+        ++ drop «num_values» (now (out .entry)) ⌝ }
 {
     let mut i: usize = 0;
     while i < num_values {
@@ -82,7 +84,8 @@ fn down_sample_by_two(samples: &[i16], out: &mut [i16], num_values: usize)
 // The first `num_values` means of `per_value` samples each, at the front of `out`. Two values are made at a time.
 pub fn down_sample_input(samples: &[i16], out: &mut [i16], num_values: usize, per_value: Samples)
     requires { ⌜ Averageable (length (now samples)) (length (now out)) «num_values» («per_value» .0) ⌝ }
-    ensures { λ _. ⌜ now (out .exit) ≡ downSampleInput (now (samples .entry)) «num_values» («per_value» .0) ++ drop «num_values» (now (out .entry)) ⌝ }
+    ensures { λ _. ⌜ now (out .exit) ≡ downSampleInput (now (samples .entry)) «num_values» («per_value» .0)
+        ++ drop «num_values» (now (out .entry)) ⌝ }
 {
     let n = per_value.0;
     if n == 2 {

@@ -1,5 +1,6 @@
-// The pitch period search of the stretch. `rates`: what follows from the rate; `search`: the search over a range of periods; `averages`:
-// what it searches instead of samples; `pitch`: the period that a step uses. `specs/` says what each function gives.
+// The pitch period search of the stretch. `rates`: what follows from the rate; `search`: the search over a range of
+// periods; `averages`: what it searches instead of samples; `pitch`: the period that a step uses. `specs/` says what
+// each function gives.
 mod averages;
 mod pitch;
 mod rates;

@@ -1,5 +1,5 @@
-// The period that a step uses: which samples are searched, and the choice between the period found and the previous one.
-// `specs/Pitch.antt` says what each function gives.
+// The period that a step uses: which samples are searched, and the choice between the period found and the previous
+// one. `specs/Pitch.antt` says what each function gives.
 use crate::Chosen;
 use crate::Found;
 use crate::PeriodRecord;
@@ -11,7 +11,8 @@ ghost use lib.ListN.{length};
 ghost use Rattle.period.specs.Rates.{minPeriod, maxPeriod, maxRequired, skip, InLimits};
 ghost use Rattle.period.specs.Search.{findPitchPeriodInRange, widestGap, Searchable};
 ghost use Rattle.period.specs.Averages.{Averageable};
-ghost use Rattle.period.specs.Pitch.{valuesOf, coarse, fine, found, prevPeriodBetter, findPitchPeriod, InRange, PrevInOrder};
+ghost use Rattle.period.specs.Pitch.{valuesOf, coarse, fine, found, prevPeriodBetter, findPitchPeriod, InRange};
+ghost use Rattle.period.specs.Pitch.{PrevInOrder};
 
 // value − by, but at least `least`.
 fn lowered(value: usize, by: usize, least: usize) -> usize
@@ -35,7 +36,8 @@ fn raised(value: usize, by: usize, most: usize) -> usize
     if most < value + by { most } else { value + by }
 }
 
-// The search over values that `per_value` samples make: the samples themselves, or `num_values` averages of them in the scratch.
+// The search over values that `per_value` samples make: the samples themselves, or `num_values` averages of them in the
+// scratch.
 fn search_values(
     samples: &[i16],
     num_values: usize,
@@ -46,7 +48,9 @@ fn search_values(
 ) -> Found
     requires { ⌜ Averageable (length (now samples)) (length (now scratch)) «num_values» («per_value» .0) ⌝ }
     requires { ⌜ Searchable «num_values» low high ⌝ }
-    ensures { λ r. ⌜ (r ≡ findPitchPeriodInRange (valuesOf (now (samples .entry)) «num_values» («per_value» .0)) low high) × (r .«min_diff» ≤ widestGap) ⌝ }
+    ensures { λ r. ⌜
+        (r ≡ findPitchPeriodInRange (valuesOf (now (samples .entry)) «num_values» («per_value» .0)) low high)
+        × (r .«min_diff» ≤ widestGap) ⌝ }
 {
     let n = per_value.0;
     if n == 1 {
@@ -142,7 +146,8 @@ pub fn find_pitch_period(
     requires { ⌜ InLimits rate channels ⌝ }
     requires { ⌜ PrevInOrder rate prev ⌝ }
     requires { ⌜ (maxRequired rate * channels ≤ length (now samples)) × (maxRequired rate ≤ length (now scratch)) ⌝ }
-    ensures { λ r. ⌜ (r ≡ findPitchPeriod (now (samples .entry)) channels rate prev) × InRange rate (r .period .0) × PrevInOrder rate (r .prev) ⌝ }
+    ensures { λ r. ⌜ (r ≡ findPitchPeriod (now (samples .entry)) channels rate prev) × InRange rate (r .period .0)
+        × PrevInOrder rate (r .prev) ⌝ }
 {
     let found = found_at(samples, channels, rate, scratch);
     let mut used = found.period;

@@ -1,4 +1,5 @@
-// What follows from the rate: the range of periods, the frames that a search looks at, the frames that one average takes.
+// What follows from the rate: the range of periods, the frames that a search looks at, the frames that one average
+// takes.
 use frames::Frames;
 ghost use mathlib.Core.Path.{_≡_};
 ghost use Rattle.period.specs.Rates.{minPeriod, maxPeriod, maxRequired, skip};

@@ -1,11 +1,12 @@
-// The search over a range of periods: D(q) of a period, and the period with the least D(q)/q. `specs/Search.antt` says what each
-// function gives.
+// The search over a range of periods: D(q) of a period, and the period with the least D(q)/q. `specs/Search.antt` says
+// what each function gives.
 use crate::Found;
 ghost use mathlib.Core.Path.{_≡_};
 ghost use Prim.Native.Nat.{_+_, _≤_};
 ghost use lib.IntN.{natAbs, _-ℤ_};
 ghost use lib.ListN.{length};
-ghost use Rattle.period.specs.Search.{candidate, lesser, greater, foundOf, findPitchPeriodInRange, widestGap, Searchable, Bounded};
+ghost use Rattle.period.specs.Search.{candidate, lesser, greater, foundOf, findPitchPeriodInRange, widestGap};
+ghost use Rattle.period.specs.Search.{Searchable, Bounded};
 
 // A period q and its D(q).
 pub struct Candidate {
@@ -103,7 +104,8 @@ fn greater(old: Candidate, new: Candidate) -> Candidate
     }
 }
 
-// The answer for the candidates with the least and with the greatest D(q)/q: the period of the one, the whole parts of both.
+// The answer for the candidates with the least and with the greatest D(q)/q: the period of the one, the whole parts of
+// both.
 fn found_of(best: Candidate, worst: Candidate) -> Found
     requires { ⌜ Bounded best × Bounded worst ⌝ }
     ensures { λ r. ⌜ (r ≡ foundOf best worst) × (r .«min_diff» ≤ widestGap) ⌝ }
@@ -115,11 +117,12 @@ fn found_of(best: Candidate, worst: Candidate) -> Found
     }
 }
 
-// Of the periods min_period..=max_period the one with the least D(q)/q, the smallest of several, and the whole parts of the least and
-// the greatest D(q)/q. Two periods are taken at a time.
+// Of the periods min_period..=max_period the one with the least D(q)/q, the smallest of several, and the whole parts of
+// the least and the greatest D(q)/q. Two periods are taken at a time.
 pub fn find_pitch_period_in_range(samples: &[i16], min_period: usize, max_period: usize) -> Found
     requires { ⌜ Searchable (length (now samples)) «min_period» «max_period» ⌝ }
-    ensures { λ r. ⌜ (r ≡ findPitchPeriodInRange (now (samples .entry)) «min_period» «max_period») × (r .«min_diff» ≤ widestGap) ⌝ }
+    ensures { λ r. ⌜ (r ≡ findPitchPeriodInRange (now (samples .entry)) «min_period» «max_period»)
+        × (r .«min_diff» ≤ widestGap) ⌝ }
 {
     let first = candidate_at(samples, min_period);
     let mut best = first;

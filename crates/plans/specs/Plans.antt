@@ -58,12 +58,15 @@ stagedMost s = heldMost s * growthOf (s .speed) (s .pitch) (maxPeriod (s .rate))
 
 -- the most frames in the output: those of a call, behind fewer than a block
 abbrev pub madeMost : SonicStream → ℕ
-madeMost s = stagedMost s * ratesOf (s .rate) (s .pitch) .new / ratesOf (s .rate) (s .pitch) .old + 2 + blockSamples / s .channels
+madeMost s =
+    stagedMost s * ratesOf (s .rate) (s .pitch) .new / ratesOf (s .rate) (s .pitch) .old
+    + 2 + blockSamples / s .channels
 
 -- whether each area has the room
 abbrev pub served : SonicStream → Bool
 served s =
-    leb (heldMost s * s .channels) inputArea && (leb (stagedMost s * s .channels) stageArea && leb (madeMost s * s .channels) outputArea)
+    leb (heldMost s * s .channels) inputArea
+    && (leb (stagedMost s * s .channels) stageArea && leb (madeMost s * s .channels) outputArea)
 
 -- blocks of whole frames
 abbrev pub planOf : SonicStream → Plan

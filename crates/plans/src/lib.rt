@@ -1,5 +1,5 @@
-// The areas' sizes, and the jobs that they serve: those of which no call wants more room. Why none does is argued here and not proved, so
-// a refusal is told all the same. `specs/Plans.antt` says what is answered.
+// The areas' sizes, and the jobs that they serve: those of which no call wants more room. Why none does is argued here
+// and not proved, so a refusal is told all the same. `specs/Plans.antt` says what is answered.
 use frames::Frames;
 use frames::Samples;
 use stream::SonicStream;
@@ -9,9 +9,11 @@ ghost use Prim.Native.Nat.{_*_, _^_, _≤_, _<_, min};
 ghost use lib.Dec.{leb};
 ghost use Rattle.period.specs.Search.{longestPeriod};
 ghost use Rattle.stream.specs.Refusals.{inOrder};
-ghost use Rattle.plans.specs.Plans.{scratchArea, growthOf, fillTo, heldMost, stagedMost, madeMost, planOf, serviceOf};
+ghost use Rattle.plans.specs.Plans.{scratchArea, growthOf, fillTo, heldMost, stagedMost, madeMost, planOf};
+ghost use Rattle.plans.specs.Plans.{serviceOf};
 
-// The samples of each area. They serve 16,000 Hz in one channel at every speed and pitch, and 44,100 Hz in two at every speed.
+// The samples of each area. They serve 16,000 Hz in one channel at every speed and pitch, and 44,100 Hz in two at every
+// speed.
 pub const INPUT_AREA: usize = 196_608;
 
 pub const STAGE_AREA: usize = 524_288;
@@ -29,7 +31,8 @@ pub const BLOCK_BYTES: usize = 8_192;
 // The frames that rate conversion keeps in the tail.
 const TAIL_FRAMES: usize = 12;
 
-// How a job is done: its rate and channels, the samples of a block in whole frames, and the frames that a write fills the input up to.
+// How a job is done: its rate and channels, the samples of a block in whole frames, and the frames that a write fills
+// the input up to.
 pub struct Plan {
     pub rate: u64,
     pub channels: usize,
@@ -49,9 +52,9 @@ fn least(a: usize, b: usize) -> usize
     if a < b { a } else { b }
 }
 
-// The most frames that the stretch makes of each that it uses. A skip step makes fewer than it uses. An insert step of k frames makes
-// period + k, where k is at least 1, and more than half of period·s/(1 − s) where that is 1 or more; s is speed/pitch. So it makes fewer
-// than 2/s for each, and at most the period and one.
+// The most frames that the stretch makes of each that it uses. A skip step makes fewer than it uses. An insert step of
+// k frames makes period + k, where k is at least 1, and more than half of period·s/(1 − s) where that is 1 or more; s
+// is speed/pitch. So it makes fewer than 2/s for each, and at most the period and one.
 fn growth(speed: f32, pitch: f32, longest: usize) -> usize
     requires { ⌜ longest ≤ longestPeriod ⌝ }
     ensures { λ r. ⌜ r ≡ growthOf speed pitch longest ⌝ }
@@ -60,10 +63,10 @@ fn growth(speed: f32, pitch: f32, longest: usize) -> usize
     least(most, longest) + 1
 }
 
-// The frames that a write fills the input up to, at most three times `required`, of which fewer than `required` are left. A period that is
-// shorter than speed/pitch − 1 gives no frame and stalls. Where the shortest might, a rounded speed counted in, each write is to be used
-// up by one step: a period that gives a frame is at least s − 1 long and takes at least s frames. Then a write that stalls makes no frame,
-// and the frames held begin where it stalled.
+// The frames that a write fills the input up to, at most three times `required`, of which fewer than `required` are
+// left. A period that is shorter than speed/pitch − 1 gives no frame and stalls. Where the shortest might, a rounded
+// speed counted in, each write is to be used up by one step: a period that gives a frame is at least s − 1 long and
+// takes at least s frames. Then a write that stalls makes no frame, and the frames held begin where it stalled.
 fn fill_to(speed: f32, pitch: f32, shortest: usize, required: usize) -> usize
     requires { ⌜ (1 ≤ shortest) × (required ≤ scratchArea) ⌝ }
     ensures { λ r. ⌜ r ≡ fillTo speed pitch shortest required ⌝ }
@@ -76,7 +79,8 @@ fn fill_to(speed: f32, pitch: f32, shortest: usize, required: usize) -> usize
     }
 }
 
-// The most frames held in a call. A flush adds two times `required` to the frames held, so that they are fewer than three times that.
+// The most frames held in a call. A flush adds two times `required` to the frames held, so that they are fewer than
+// three times that.
 fn held_most(stream: SonicStream) -> Frames
     requires { ⌜ inOrder stream ≡ true ⌝ }
     ensures { λ r. ⌜ r .0 ≡ heldMost stream ⌝ }

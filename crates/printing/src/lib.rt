@@ -1,4 +1,5 @@
-// An answer's line of stored runs (docs/VECTORS.md): what a call answers, then every field of the stream that it hands back, and the sums over the samples kept.
+// An answer's line of stored runs (docs/VECTORS.md): what a call answers, then every field of the stream that it hands
+// back, and the sums over the samples kept.
 use frames::Frames;
 use libc::STDOUT_FILENO;
 use process::Outcome;

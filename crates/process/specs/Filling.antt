@@ -43,7 +43,8 @@ pub record SteppedAs (s : SonicStream) (a : Stretch) (d : Filled) : Type 0 where
 
 -- no frames
 abbrev pub nothingFilled : SonicStream → Outcome → Fill
-nothingFilled s outcome = Fill.Done (record { frames = record { 0 = 0 }; used = record { 0 = 0 }; stream = s; outcome = outcome })
+nothingFilled s outcome =
+    Fill.Done (record { frames = record { 0 = 0 }; used = record { 0 = 0 }; stream = s; outcome = outcome })
 
 -- the stage was filled as t says
 pub record FilledAs (s : SonicStream) (t : Taken) (input entry exit : List ℤ) (d : Filled) : Type 0 where

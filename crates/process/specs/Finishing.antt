@@ -44,18 +44,22 @@ pub record CommitReady (s : SonicStream) (d : Filled) (c : Adjusted) (a : Areas)
 
 -- done as the conversion c says: the frames used have left the input, and the tail frames consumed the stage; the
 -- frames made are scaled
-pub record FinishedAs (s : SonicStream) (d : Filled) (c : Conversion) (a b : Areas) (o : Outcome) (t : SonicStream) : Type 0 where
+pub record FinishedAs (s : SonicStream) (d : Filled) (c : Conversion) (a b : Areas) (o : Outcome) (t : SonicStream)
+    : Type 0 where
   pub outcome : o ≡ d .outcome
   pub stream : ChangedBy (λ (x : State). withTail x (c .rest) (c .at)) (d .stream) (s .waiting .0 + length (c .made)) t
-  pub rest : framesOf (s .channels) (s .held .0 - d .used .0) (b .input) ≡ drop (d .used .0) (framesOf (s .channels) (s .held .0) (a .input))
+  pub rest : framesOf (s .channels) (s .held .0 - d .used .0) (b .input)
+      ≡ drop (d .used .0) (framesOf (s .channels) (s .held .0) (a .input))
   pub tail : framesOf (s .channels) (length (c .rest)) (b .stage) ≡ c .rest
-  pub behind : Behind (s .channels) (s .waiting .0) (length (c .made)) (a .output) (b .output) (map (map (scaled (s .volume))) (c .made))
+  pub behind : Behind (s .channels) (s .waiting .0) (length (c .made)) (a .output) (b .output)
+      (map (map (scaled (s .volume))) (c .made))
 
 -- or its frames do not fit the output
 abbrev pub FinishedBy : SonicStream → Filled → Conversion → Areas → Areas → Work → Type 0
 FinishedBy s d c a b Work.StageFull = ⊥
 FinishedBy s d c a b Work.OutputFull =
-    (b .input ≡ a .input) × (b .stage ≡ a .stage) × NoRoom (s .channels) (s .waiting .0) (a .output) (b .output) (c .made)
+    (b .input ≡ a .input) × (b .stage ≡ a .stage)
+    × NoRoom (s .channels) (s .waiting .0) (a .output) (b .output) (c .made)
 FinishedBy s d c a b (Work.Done o t) = FinishedAs s d c a b o t
 
 -- the conversion of the stage's frames, `new` behind the tail

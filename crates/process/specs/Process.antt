@@ -40,7 +40,8 @@ joined fs s =
 -- the first k frames leave the input, and play time becomes (play time·left)/held
 unfoldable pub removed : ℕ → State → State
 removed k s =
-    withInput s (drop k (s .input)) (s .prev) (playTimeLeft (s .«input_play_time») (length (s .input) - k) (length (s .input)))
+    withInput s (drop k (s .input)) (s .prev)
+    (playTimeLeft (s .«input_play_time») (length (s .input) - k) (length (s .input)))
     (s .«time_error»)
 
 -- ---- copied or stretched frames, before rate and volume
@@ -81,7 +82,8 @@ stepsAt x s = Speed.steps (callAt x s) (flat (s .input)) (placeOf s)
 -- after steps that gave the answer a: a stall removes no input
 unfoldable pub stepped : Stretch → State → State
 stepped a s =
-    let t : State = withInput s (s .input) (a .prev) (s .«input_play_time») (a .«time_error») in cond (a .stalled) t (removed (a .used .0) t)
+    let t : State = withInput s (s .input) (a .prev) (s .«input_play_time») (a .«time_error») in cond (a .stalled) t
+    (removed (a .used .0) t)
 
 -- the frames of these steps
 unfoldable pub stretched : Float → State → Taken
@@ -97,7 +99,8 @@ stretched x s =
 -- copied
 unfoldable pub takenAt : Float → State → Taken
 takenAt x s =
-    cond (speedChanges x) (cond (ltb (length (s .input)) (maxRequired (s .rate))) (nothing Waiting s) (stretched x s)) (copied s)
+    cond (speedChanges x) (cond (ltb (length (s .input)) (maxRequired (s .rate))) (nothing Waiting s)
+    (stretched x s)) (copied s)
 
 abbrev pub speedAt : State → Float
 speedAt s = localSpeed (length (s .input)) (samplePeriod (s .rate)) (s .«input_play_time»)
@@ -127,7 +130,8 @@ finished t c =
 
 unfoldable pub process : State → Made
 process s =
-    let t : Taken = taken s in finished t (adjustRate (t .state .rate) (t .state .pitch) (t .state .at) (t .state .tail) (t .frames))
+    let t : Taken = taken s in finished t
+    (adjustRate (t .state .rate) (t .state .pitch) (t .state .at) (t .state .tail) (t .frames))
 
 -- a write of samples
 unfoldable pub writeWork : List Float → State → Made

@@ -35,7 +35,8 @@ pub enum Fill {
 
 // The stream without the first `used` frames of its input.
 fn removed(mut stream: SonicStream, used: Frames) -> SonicStream
-    requires { ⌜ (used .0 ≤ stream .held .0) × (stream .held .0 ≤ 2 ^ 24) × (stream .«sample_period» ≡ samplePeriod (stream .rate)) ⌝ }
+    requires { ⌜ (used .0 ≤ stream .held .0) × (stream .held .0 ≤ 2 ^ 24)
+        × (stream .«sample_period» ≡ samplePeriod (stream .rate)) ⌝ }
     ensures { λ r. ⌜ ChangedBy (removed (used .0)) stream (stream .waiting .0) r ⌝ }
 {
     let held = stream.held;
@@ -51,7 +52,8 @@ fn removed(mut stream: SonicStream, used: Frames) -> SonicStream
 
 // What the steps of a stretch gave; a stall removes no input.
 fn stepped(mut stream: SonicStream, stretch: Stretch) -> Filled
-    requires { ⌜ (stretch .used .0 ≤ stream .held .0) × (stream .held .0 ≤ 2 ^ 24) × (stream .«sample_period» ≡ samplePeriod (stream .rate)) ⌝ }
+    requires { ⌜ (stretch .used .0 ≤ stream .held .0) × (stream .held .0 ≤ 2 ^ 24)
+        × (stream .«sample_period» ≡ samplePeriod (stream .rate)) ⌝ }
     ensures { λ r. ⌜ SteppedAs stream stretch r ⌝ }
 {
     let frames = stretch.made;
@@ -85,7 +87,8 @@ fn stretch_input(
     scratch: &mut [i16],
 ) -> Fill
     requires { ⌜ StreamReady stream × FillReady stream (now input) (now stage) (now scratch) ⌝ }
-    requires { ⌜ (maxRequired (stream .rate) ≤ stream .held .0) × (speed ≡ speedOf stream) × (speedChanges speed ≡ true) ⌝ }
+    requires { ⌜ (maxRequired (stream .rate) ≤ stream .held .0) × (speed ≡ speedOf stream)
+        × (speedChanges speed ≡ true) ⌝ }
     ensures { λ r. ⌜ FillEnsures stream (now (input .entry)) (now (stage .entry)) (now (stage .exit)) r ⌝ }
 {
     let channels = stream.channels as usize;

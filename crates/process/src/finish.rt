@@ -19,9 +19,11 @@ ghost use Rattle.process.specs.Finishing.{FinishReady, CommitReady, Comm
 
 // The frames made by this call, at the volume.
 fn scale_made(stream: SonicStream, made: Frames, output: &mut [i16])
-    requires { ⌜ StreamReady stream × ((stream .waiting .0 + made .0) * stream .channels ≤ length (now output)) × (length (now output) ≤ 2 ^ 24) ⌝ }
+    requires { ⌜ StreamReady stream × ((stream .waiting .0 + made .0) * stream .channels ≤ length (now output))
+        × (length (now output) ≤ 2 ^ 24) ⌝ }
     ensures { λ _. ⌜ Behind (stream .channels) (stream .waiting .0) (made .0) (now (output .entry)) (now (output .exit))
-        (map (map (scaled (stream .volume))) (newFrames (stream .channels) (stream .waiting .0) (made .0) (now (output .entry)))) ⌝ }
+        (map (map (scaled (stream .volume)))
+        (newFrames (stream .channels) (stream .waiting .0) (made .0) (now (output .entry)))) ⌝ }
 {
     let channels = stream.channels as usize;
     let waiting = stream.waiting;
@@ -43,7 +45,8 @@ fn commit(
     output: &mut [i16],
 ) -> Work
     requires { ⌜ CommitReady stream filled adjusted (areas (now input) (now stage) (now output) []) ⌝ }
-    ensures { λ r. ⌜ CommitEnsures stream filled adjusted (areas (now (input .entry)) (now (stage .entry)) (now (output .entry)) [])
+    ensures { λ r. ⌜ CommitEnsures stream filled adjusted
+        (areas (now (input .entry)) (now (stage .entry)) (now (output .entry)) [])
         (areas (now (input .exit)) (now (stage .exit)) (now (output .exit)) []) r ⌝ }
 {
     let channels = stream.channels as usize;
@@ -75,7 +78,8 @@ pub(crate) fn finish(
     output: &mut [i16],
 ) -> Work
     requires { ⌜ FinishReady stream filled (areas (now input) (now stage) (now output) []) ⌝ }
-    ensures { λ r. ⌜ FinishEnsures stream filled (areas (now (input .entry)) (now (stage .entry)) (now (output .entry)) [])
+    ensures { λ r. ⌜ FinishEnsures stream filled
+        (areas (now (input .entry)) (now (stage .entry)) (now (output .entry)) [])
         (areas (now (input .exit)) (now (stage .exit)) (now (output .exit)) []) r ⌝ }
 {
     let tail = stream.tail;

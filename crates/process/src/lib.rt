@@ -59,7 +59,8 @@ pub fn process_stream_input(
 ) -> Work
     requires { ⌜ StreamReady stream ⌝ }
     requires { ⌜ AreasReady stream (areas (now input) (now stage) (now output) (now scratch)) ⌝ }
-    ensures { λ r. ⌜ WorkEnsures stream (areas (now (input .entry)) (now (stage .entry)) (now (output .entry)) (now (scratch .entry)))
+    ensures { λ r. ⌜ WorkEnsures stream
+        (areas (now (input .entry)) (now (stage .entry)) (now (output .entry)) (now (scratch .entry)))
         (areas (now (input .exit)) (now (stage .exit)) (now (output .exit)) (now (scratch .exit))) r ⌝ }
 {
     match fill::fill_stage(stream, input, stage, scratch) {

@@ -28,15 +28,18 @@ pub record Placed (r : Rates) (s : Position) : Type 0 where
   pub old-most : r .old ≤ maxHalvedRate
   pub order : PositionInOrder r s
 
--- a call of `adjust_rate`: an f32 holds the rate exactly, the positions are in order, and `new` frames stand behind the tail
-pub record AdjustReady (ch rate : ℕ) (pitch : Float) (at : Position) (tail new w : ℕ) (stage output : List ℤ) : Type 0 where
+-- a call of `adjust_rate`: an f32 holds the rate exactly, the positions are in order, and `new` frames stand behind the
+-- tail
+pub record AdjustReady (ch rate : ℕ) (pitch : Float) (at : Position) (tail new w : ℕ) (stage output : List ℤ)
+    : Type 0 where
   pub exact : rate ≤ 2 ^ 24
   pub order : PositionInOrder (ratesOf rate pitch) at
   pub lent : AreasHold ch (tail + new) w stage output
 
 -- ---- ensured
 
--- a conversion was done: its frames stand behind those that wait, and what is left of the tail lies within the stage's first frames
+-- a conversion was done: its frames stand behind those that wait, and what is left of the tail lies within the stage's
+-- first frames
 pub record AdjustedAs (ch w staged : ℕ) (c : Conversion) (stage entry exit : List ℤ) (a : Adjusted) : Type 0 where
   pub behind : Behind ch w (a .made .0) entry exit (c .made)
   pub rest : framesOf ch (a .left .0) (drop (a .from .0 * ch) stage) ≡ c .rest
@@ -55,11 +58,14 @@ newFrames ch tail new stage = framesOf ch new (drop (tail * ch) stage)
 -- what each function ensures: the frames went straight out, the tail was scanned, or one of the two by the pitch
 abbrev pub StraightOutEnsures : ℕ → ℕ → ℕ → ℕ → Position → List ℤ → List ℤ → List ℤ → Adjustment → Type 0
 StraightOutEnsures ch tail new w at stage entry exit a =
-    AdjustedBy ch w (tail + new) (record { made = newFrames ch tail new stage; rest = framesOf ch tail stage; at = at }) stage entry exit a
+    AdjustedBy ch w (tail + new) (record { made = newFrames ch tail new stage; rest = framesOf ch tail stage; at = at })
+    stage entry exit a
 
 abbrev pub ScanEnsures : ℕ → Rates → ℕ → ℕ → Position → List ℤ → List ℤ → List ℤ → Adjustment → Type 0
-ScanEnsures ch r tail w at stage entry exit a = AdjustedBy ch w tail (convert r at (framesOf ch tail stage)) stage entry exit a
+ScanEnsures ch r tail w at stage entry exit a =
+    AdjustedBy ch w tail (convert r at (framesOf ch tail stage)) stage entry exit a
 
 abbrev pub AdjustEnsures : ℕ → ℕ → Float → Position → ℕ → ℕ → ℕ → List ℤ → List ℤ → List ℤ → Adjustment → Type 0
 AdjustEnsures ch rate pitch at tail new w stage entry exit a =
-    AdjustedBy ch w (tail + new) (adjustRate rate pitch at (framesOf ch tail stage) (newFrames ch tail new stage)) stage entry exit a
+    AdjustedBy ch w (tail + new) (adjustRate rate pitch at (framesOf ch tail stage) (newFrames ch tail new stage))
+    stage entry exit a

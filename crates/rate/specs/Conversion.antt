@@ -28,4 +28,5 @@ joinTail r s tail (f ∷ fs) = convert r s (tail ++ (f ∷ fs))
 
 -- at pitch 1.0 the new frames go straight out and any tail stays; at another they join the tail
 unfoldable pub adjustRate : ℕ → Float → Position → List Frame → List Frame → Conversion
-adjustRate rate pitch s tail fs = cond (eq pitch one) (record { made = fs; rest = tail; at = s }) (joinTail (ratesOf rate pitch) s tail fs)
+adjustRate rate pitch s tail fs =
+    cond (eq pitch one) (record { made = fs; rest = tail; at = s }) (joinTail (ratesOf rate pitch) s tail fs)

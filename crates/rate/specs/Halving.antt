@@ -14,7 +14,9 @@ maxHalvedRate = maxWidth
 -- both halved until neither exceeds 16,384; 64 halvings are enough for any usize
 unfoldable pub halved : ℕ → Rates → Rates
 halved zero r = r
-halved (suc k) r = cond (ltb maxHalvedRate (r .new) || ltb maxHalvedRate (r .old)) (halved k (record { new = r .new / 2; old = r .old / 2 })) r
+halved (suc k) r =
+    cond (ltb maxHalvedRate (r .new) || ltb maxHalvedRate (r .old))
+    (halved k (record { new = r .new / 2; old = r .old / 2 })) r
 
 -- N the whole part of R/pitch, O = R; both halved
 unfoldable pub ratesOf : ℕ → Float → Rates

@@ -1,5 +1,5 @@
--- Document 01, "Rate.": the frames that tail frames make, and the positions. In r, `.new` is N and `.old` is O; in s, `.old` is p and
--- `.new` is n. Definitions only.
+-- Document 01, "Rate.": the frames that tail frames make, and the positions. In r, `.new` is N and `.old` is O; in s,
+-- `.old` is p and `.new` is n. Definitions only.
 use mathlib.Core.Path.{_≡_}
 use mathlib.Core.Bool.{cond}
 use mathlib.Core.List.{List, [], _∷_, _++_}
@@ -44,7 +44,8 @@ steps r (suc k) s = steps r k (next r s)
 
 -- the frame of a window of 12 tail frames: one sample per channel, its taps the window's samples of that channel
 unfoldable pub interpolateWindow : List Frame → ℕ → ℕ → Frame
-interpolateWindow window ratio N = tabulate (length (getD window 0 [])) (λ c. interpolate (λ i. getD (getD window i []) c (pos 0)) ratio N)
+interpolateWindow window ratio N =
+    tabulate (length (getD window 0 [])) (λ c. interpolate (λ i. getD (getD window i []) c (pos 0)) ratio N)
 
 -- the frame at a position: its ratio is (p + 1)·N − n·O − 1
 unfoldable pub interpolated : Rates → Position → List Frame → Frame

@@ -62,7 +62,8 @@ fn straight_out(
     waiting: Frames,
 ) -> Adjustment
     requires { ⌜ AreasHold channels (tail .0 + new .0) (waiting .0) (now stage) (now output) ⌝ }
-    ensures { λ r. ⌜ StraightOutEnsures channels (tail .0) (new .0) (waiting .0) at (now (stage .entry)) (now (output .entry)) (now (output .exit)) r ⌝ }
+    ensures { λ r. ⌜ StraightOutEnsures channels (tail .0) (new .0) (waiting .0) at (now (stage .entry))
+        (now (output .entry)) (now (output .exit)) r ⌝ }
 {
     let n = new.0;
     let w = waiting.0;
@@ -97,7 +98,8 @@ pub fn adjust_rate(
     waiting: Frames,
 ) -> Adjustment
     requires { ⌜ AdjustReady channels rate pitch at (tail .0) (new .0) (waiting .0) (now stage) (now output) ⌝ }
-    ensures { λ r. ⌜ AdjustEnsures channels rate pitch at (tail .0) (new .0) (waiting .0) (now (stage .entry)) (now (output .entry)) (now (output .exit)) r ⌝ }
+    ensures { λ r. ⌜ AdjustEnsures channels rate pitch at (tail .0) (new .0) (waiting .0) (now (stage .entry))
+        (now (output .entry)) (now (output .exit)) r ⌝ }
 {
     if pitch == 1.0 {
         return straight_out(stage, tail, new, channels, at, output, waiting);

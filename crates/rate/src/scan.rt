@@ -29,9 +29,11 @@ fn make_frame(
     to: Frames,
 )
     requires { ⌜ (now table ≡ sincTable) × (ratio < width) × (width ≤ maxHalvedRate) ⌝ }
-    requires { ⌜ ((first .0 + sincFilterPoints) * channels ≤ length (now stage)) × ((to .0 + 1) * channels ≤ length (now output)) ⌝ }
+    requires { ⌜ ((first .0 + sincFilterPoints) * channels ≤ length (now stage))
+        × ((to .0 + 1) * channels ≤ length (now output)) ⌝ }
     ensures { λ _. ⌜ now (output .exit) ≡ paste (now (output .entry)) (to .0 * channels)
-        (interpolateWindow (framesOf channels sincFilterPoints (drop (first .0 * channels) (now (stage .entry)))) ratio width) channels ⌝ }
+        (interpolateWindow (framesOf channels sincFilterPoints (drop (first .0 * channels) (now (stage .entry))))
+        ratio width) channels ⌝ }
 {
     sinc::interpolate_frame(
         table,
@@ -56,8 +58,10 @@ pub(crate) fn scan_tail(
     output: &mut [i16],
     waiting: Frames,
 ) -> Adjustment
-    requires { ⌜ (now table ≡ sincTable) × AreasHold channels (tail .0) (waiting .0) (now stage) (now output) × Placed rates at ⌝ }
-    ensures { λ r. ⌜ ScanEnsures channels rates (tail .0) (waiting .0) at (now (stage .entry)) (now (output .entry)) (now (output .exit)) r ⌝ }
+    requires { ⌜ (now table ≡ sincTable) × AreasHold channels (tail .0) (waiting .0) (now stage) (now output)
+        × Placed rates at ⌝ }
+    ensures { λ r. ⌜ ScanEnsures channels rates (tail .0) (waiting .0) at (now (stage .entry)) (now (output .entry))
+        (now (output .exit)) r ⌝ }
 {
     let t = tail.0;
     let w = waiting.0;

@@ -33,7 +33,8 @@ readBy zero s n waiting =
 readBy (suc k) s n waiting = record { answer = Gave.Refused (suc k) s; given = []; output = waiting }
 
 unfoldable pub readCall : SonicStream → ℕ → List Float → List ℤ → ReadResult
-readCall s most slice output = readBy (readRefusal s output) s (readCount s most slice) (framesOf (s .channels) (s .waiting .0) output)
+readCall s most slice output =
+    readBy (readRefusal s output) s (readCount s most slice) (framesOf (s .channels) (s .waiting .0) output)
 
 -- ---- what its contract ensures
 
@@ -47,7 +48,8 @@ countRead (Gave.Done n s) = n .0
 
 -- the answer r, the slice from `entry` to `exit` and the output area at exit are those of the read c; the rest of the
 -- slice is unchanged
-pub record ReadEnsures (channels : ℕ) (c : ReadResult) (r : Gave) (entry exit : List Float) (area : List ℤ) : Type 0 where
+pub record ReadEnsures (channels : ℕ) (c : ReadResult) (r : Gave) (entry exit : List Float) (area : List ℤ)
+    : Type 0 where
   pub answer : r ≡ c .answer
   pub given : framesOf channels (countRead r) exit ≡ c .given
   pub rest : drop (countRead r * channels) exit ≡ drop (countRead r * channels) entry

@@ -36,7 +36,8 @@ fn give(
 ) -> Gave
     requires { ⌜ (inOrder stream ≡ true) × (period ≡ samplePeriod (stream .rate)) ⌝ }
     requires { ⌜ (outputBad stream (now output) ≡ false) × (n .0 ≡ readCount stream (most .0) (now slice)) ⌝ }
-    ensures { λ r. ⌜ ReadEnsures (stream .channels) (readCall stream (most .0) (now (slice .entry)) (now (output .entry))) r
+    ensures { λ r. ⌜ ReadEnsures (stream .channels)
+        (readCall stream (most .0) (now (slice .entry)) (now (output .entry))) r
         (now (slice .entry)) (now (slice .exit)) (now (output .exit)) ⌝ }
 {
     let channels = stream.channels as usize;
@@ -50,7 +51,8 @@ fn give(
 
 // Gives frames waiting, at most `most`, at the front of the slice.
 pub fn read_f32(stream: SonicStream, most: Frames, slice: &mut [f32], output: &mut [i16]) -> Gave
-    ensures { λ r. ⌜ ReadEnsures (stream .channels) (readCall stream (most .0) (now (slice .entry)) (now (output .entry))) r
+    ensures { λ r. ⌜ ReadEnsures (stream .channels)
+        (readCall stream (most .0) (now (slice .entry)) (now (output .entry))) r
         (now (slice .entry)) (now (slice .exit)) (now (output .exit)) ⌝ }
 {
     let order = stream.ordered();

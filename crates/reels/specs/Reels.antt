@@ -79,7 +79,8 @@ pub record Answered (written : ℕ) (flushed : Bool) (r : Reel) (answer : Wrote)
   pub out-kept : r' .«frames_out» ≡ r .«frames_out»
   pub input-kept : SameInput r r'
 
--- after a block that was filled with so many bytes: its whole frames, and the bytes of a partial one; one that is not full is the last
+-- after a block that was filled with so many bytes: its whole frames, and the bytes of a partial one; one that is not
+-- full is the last
 pub record BlockCounted (p : Plan) (r : Reel) (f : BlockBytes) (r' : Reel) : Type 0 where
   pub frames-is : r' .«frames_in» ≡ (r .«frames_in» + f .bytes / (2 * p .channels)) % 2 ^ 64
   pub partial-is : r' .partial ≡ f .bytes % (2 * p .channels)
@@ -105,13 +106,15 @@ pub record WrittenOut (r r' : Reel) : Type 0 where
   pub channels-kept : r' .stream .channels ≡ r .stream .channels
   pub failed-stays : r' .failed ≡ false → r .failed ≡ false
   pub refused-stays : r' .refusal ≡ 0 → r .refusal ≡ 0
-  pub accounted : r' .failed ≡ false → (r' .«frames_out» + r' .stream .waiting .0) % 2 ^ 64 ≡ (r .«frames_out» + r .stream .waiting .0) % 2 ^ 64
+  pub accounted : r' .failed ≡ false → (r' .«frames_out» + r' .stream .waiting .0) % 2 ^ 64
+      ≡ (r .«frames_out» + r .stream .waiting .0) % 2 ^ 64
 
 -- after one turn, a read with this answer, which takes a frame or more if any waits
 pub record FewerWait (answer : Gave) (r r' : Reel) : Type 0 where
   pub out : WrittenOut r r'
   pub stream-is : r' .stream ≡ streamAfterRead answer
-  pub fewer : r' .failed ≡ false → r' .refusal ≡ 0 → 0 < r .stream .waiting .0 → r' .stream .waiting .0 < r .stream .waiting .0
+  pub fewer : r' .failed ≡ false → r' .refusal ≡ 0 → 0 < r .stream .waiting .0
+      → r' .stream .waiting .0 < r .stream .waiting .0
 
 -- after the turns, which leave fewer than `few`
 pub record Drained (few : ℕ) (r r' : Reel) : Type 0 where
@@ -120,7 +123,8 @@ pub record Drained (few : ℕ) (r r' : Reel) : Type 0 where
 
 -- ---- a block read
 
--- after a block was read: the bytes that it was filled with are counted, and its samples are those of their whole frames
+-- after a block was read: the bytes that it was filled with are counted, and its samples are those of their whole
+-- frames
 pub record BlockReadAs (p : Plan) (r : Reel) (b : BlockRead) : Type 0 where
   pub filled : BlockBytes
   pub fits : filled .bytes ≤ 2 * p .block

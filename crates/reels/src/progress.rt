@@ -6,7 +6,8 @@ ghost use mathlib.Core.Path.{_≡_};
 ghost use Prim.Native.Nat.{_*_, _/_, _≤_};
 ghost use Rattle.period.specs.Rates.{InLimits};
 
-// The processor time that the program has taken, in milliseconds and one more, so that it is never 0; 1 if it is not known.
+// The processor time that the program has taken, in milliseconds and one more, so that it is never 0; 1 if it is not
+// known.
 fn taken() -> u64
     ensures { λ r. ⌜ 1 ≤ r ⌝ }
 {
@@ -30,7 +31,8 @@ fn on_terminal() -> bool {
     libc::isatty(STDERR_FILENO) == 1
 }
 
-// At each minute of the reel: the minutes done, and how many times shorter than them the processor time is. The line is written over.
+// At each minute of the reel: the minutes done, and how many times shorter than them the processor time is. The line is
+// written over.
 pub(crate) fn show(plan: Plan, before: u64, after: u64)
     requires { ⌜ InLimits (plan .rate) (plan .channels) ⌝ }
 {

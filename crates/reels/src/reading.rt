@@ -64,8 +64,10 @@ fn count(mut reel: Reel, filled: BlockBytes, plan: Plan) -> Reel
 
 // Reads a block.
 pub fn read_block(reel: Reel, plan: Plan, block: &mut [f32], bytes: &mut [u8]) -> BlockRead
-    requires { ⌜ Usable plan × (reel .partial ≡ 0) × (blockSamples ≡ length (now block)) × (blockBytes ≡ length (now bytes)) ⌝ }
-    ensures { λ r. ⌜ (r .samples ≤ length (now (block .exit))) × BlockReadAs plan reel r × Decoded (r .samples) (now (bytes .exit)) (now (block .exit)) ⌝ }
+    requires { ⌜ Usable plan × (reel .partial ≡ 0) × (blockSamples ≡ length (now block))
+        × (blockBytes ≡ length (now bytes)) ⌝ }
+    ensures { λ r. ⌜ (r .samples ≤ length (now (block .exit))) × BlockReadAs plan reel r
+        × Decoded (r .samples) (now (bytes .exit)) (now (block .exit)) ⌝ }
 {
     let channels = plan.channels;
     let size = 2 * plan.block;

@@ -121,7 +121,8 @@ impl Reel {
     // Reads a block of the frames waiting, and writes it out.
     fn write_out(mut self, output: &mut [i16], values: &mut [f32], bytes: &mut [u8]) -> Reel
         requires { ⌜ (32 ≤ length (now values)) × (2 * length (now values) ≤ length (now bytes)) ⌝ }
-        ensures { λ r. ⌜ FewerWait (readCall (self .stream) blockSamples (now (values .entry)) (now (output .entry)) .answer) self r ⌝ }
+        ensures { λ r. ⌜ FewerWait (readCall (self .stream) blockSamples (now (values .entry))
+            (now (output .entry)) .answer) self r ⌝ }
     {
         let channels = self.stream.channels as usize;
         match read::read_f32(self.stream, Frames(BLOCK_SAMPLES), values, output) {

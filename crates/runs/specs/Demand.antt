@@ -1,5 +1,6 @@
--- Demand 3: its four claims, each in the demand's own words, as types; before them what they speak of: a run of a rate and channels, its
--- accepted calls, what is said of each of them, and joined frames. `proofs/Claims.antt` proves the claims. Definitions only. Assumes nothing.
+-- Demand 3: its four claims, each in the demand's own words, as types; before them what they speak of: a run of a rate
+-- and channels, its accepted calls, what is said of each of them, and joined frames. `proofs/Claims.antt` proves the
+-- claims. Definitions only. Assumes nothing.
 use mathlib.Core.Path.{_≡_}
 use mathlib.Core.Bool.{false, cond}
 use mathlib.Core.List.{List, [], _∷_, _++_, map}
@@ -145,14 +146,15 @@ abbrev pub LedgerClaim : Type 0
 LedgerClaim = (rate channels : ℕ) (a : RunOf rate channels)
     → (total (last a) ≡ values (ledgerOf a .made)) × (last a .outcomes ≡ ledgerOf a .outcomes)
 
--- For every run A and run B with one rate and channel count and the same accepted settings, writes and flushes in order, they are the same
--- in both, whatever reads and refused calls either has and wherever these stand.
+-- For every run A and run B with one rate and channel count and the same accepted settings, writes and flushes in
+-- order, they are the same in both, whatever reads and refused calls either has and wherever these stand.
 abbrev pub SameCallsClaim : Type 0
 SameCallsClaim = (rate channels : ℕ) (a b : RunOf rate channels) → acceptedOf a ≡ acceptedOf b
     → (total (last a) ≡ total (last b)) × (last a .outcomes ≡ last b .outcomes)
 
--- Where every accepted write and flush of A and B answers 'copied' or 'empty', the accepted writes may differ as long as their whole frames,
--- joined between accepted settings and flushes, are the same: frames read followed by frames waiting are still the same in both.
+-- Where every accepted write and flush of A and B answers 'copied' or 'empty', the accepted writes may differ as long
+-- as their whole frames, joined between accepted settings and flushes, are the same: frames read followed by frames
+-- waiting are still the same in both.
 abbrev pub SameFramesClaim : Type 0
 SameFramesClaim = (rate channels : ℕ) (a b : RunOf rate channels)
     → All CopiedOrEmpty (last a .outcomes) → All CopiedOrEmpty (last b .outcomes)
@@ -163,11 +165,13 @@ SameFramesClaim = (rate channels : ℕ) (a b : RunOf rate channels)
 abbrev pub heldPitch : Float → Float
 heldPitch x = clamped x minPitch maxPitch
 
--- In such a run, if no write is accepted before the last accepted pitch, that pitch is other than 1 and no flush is accepted, F frames
--- accepted give exactly max(0, F − 12) times N over O, rounded up (N and O as in 01).
--- The last accepted pitch is x, `before` and `behind` are the accepted calls on its two sides; `-` ends at 0, `.new` is N, `.old` is O.
+-- In such a run, if no write is accepted before the last accepted pitch, that pitch is other than 1 and no flush is
+-- accepted, F frames accepted give exactly max(0, F − 12) times N over O, rounded up (N and O as in 01). The last
+-- accepted pitch is x, `before` and `behind` are the accepted calls on its two sides; `-` ends at 0, `.new` is N,
+-- `.old` is O.
 abbrev pub CountClaim : Type 0
 CountClaim = (rate channels : ℕ) (a : RunOf rate channels) → All CopiedOrEmpty (last a .outcomes)
     → (before behind : List Call) (x : Float) → acceptedOf a ≡ before ++ setting (Pitch x) ∷ behind
     → All NoWrite before → All NoPitch behind → eq (heldPitch x) one ≡ false → All NoFlush (acceptedOf a)
-    → length (total (last a)) ≡ ceilDiv ((framesIn channels (acceptedOf a) - 12) * ratesOf rate (heldPitch x) .new) (ratesOf rate (heldPitch x) .old)
+    → length (total (last a)) ≡ ceilDiv ((framesIn channels (acceptedOf a) - 12) * ratesOf rate (heldPitch x) .new)
+    (ratesOf rate (heldPitch x) .old)

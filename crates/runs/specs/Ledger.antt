@@ -1,4 +1,5 @@
--- Document 01, "Ledger of demand 3": what it is fed, what it holds, and what each call does to it. Definitions only. Assumes nothing.
+-- Document 01, "Ledger of demand 3": what it is fed, what it holds, and what each call does to it. Definitions only.
+-- Assumes nothing.
 use mathlib.Core.Bool.{Bool, cond}
 use mathlib.Core.List.{List, [], _∷_, _++_}
 use Prim.Native.Nat.{ℕ}
@@ -23,7 +24,8 @@ pub record Fed : Type 0 where
   pub call : Call
   pub accepted : Bool
 
--- the state (rate, channels, settings, input, tail, p, n, period record, play time, time error), the frames made and the outcomes
+-- the state (rate, channels, settings, input, tail, p, n, period record, play time, time error), the frames made and
+-- the outcomes
 pub record Ledger : Type 0 where
   pub state : State
   pub made : List Frame
@@ -33,8 +35,8 @@ pub record Ledger : Type 0 where
 unfoldable pub begun : ℕ → ℕ → Ledger
 begun rate channels = record { state = fresh rate channels; made = []; outcomes = [] }
 
--- an accepted call: a write's frames go behind the frames made, its outcome behind the outcomes; of a flush only the first e, found first,
--- or all if fewer, and then it clears; a read changes nothing
+-- an accepted call: a write's frames go behind the frames made, its outcome behind the outcomes; of a flush only the
+-- first e, found first, or all if fewer, and then it clears; a read changes nothing
 unfoldable pub entry : Ledger → Call → Ledger
 entry l (setting v) = record { state = withSetting v (l .state); made = l .made; outcomes = l .outcomes }
 entry l (write samples) =

@@ -1,6 +1,7 @@
--- Runs of demand 3 (document 01, "Areas and refusals" and "Read and flush"): calls from a fresh stream on, each with the areas that it was
--- lent and left. A call's answer and what it leaves are those that its contract ensures. In order: calls as they went, what each meets, what
--- each leaves, runs, what the ledger is fed. Definitions only. Assumes nothing.
+-- Runs of demand 3 (document 01, "Areas and refusals" and "Read and flush"): calls from a fresh stream on, each with
+-- the areas that it was lent and left. A call's answer and what it leaves are those that its contract ensures. In
+-- order: calls as they went, what each meets, what each leaves, runs, what the ledger is fed. Definitions only. Assumes
+-- nothing.
 use mathlib.Core.Path.{_≡_}
 use mathlib.Core.Bool.{Bool, true, false}
 use mathlib.Core.List.{List, [], _∷_, _++_, map}
@@ -29,15 +30,16 @@ pub record ReadAreas : Type 0 where
   pub slice : List Float
   pub output : List ℤ
 
--- a setting and its answer; a write or a flush, or a read: its arguments, its areas at entry, its answer, its areas at exit
+-- a setting and its answer; a write or a flush, or a read: its arguments, its areas at entry, its answer, its areas at
+-- exit
 pub data Event : Type 0 where
   setting-went : Setting → Changed → Event
   write-went : List Float → Areas → Wrote → Areas → Event
   flush-went : Areas → Wrote → Areas → Event
   read-went : ℕ → ReadAreas → Gave → ReadAreas → Event
 
--- between two calls: the stream value that the call before returned, the kept parts as last left (held input, tail, waiting output), and,
--- so far, the frames of the accepted reads and the outcomes of accepted writes and flushes
+-- between two calls: the stream value that the call before returned, the kept parts as last left (held input, tail,
+-- waiting output), and, so far, the frames of the accepted reads and the outcomes of accepted writes and flushes
 pub record Moment : Type 0 where
   pub stream : SonicStream
   pub input : List ℤ
@@ -56,7 +58,8 @@ opening s = record { stream = s; input = []; tail = []; output = []; given = [];
 unfoldable pub Agree : List ℤ → List ℤ → Type 0
 Agree kept area = take (length kept) area ≡ take (length area) kept
 
--- as far as its areas reach, a call gets the kept parts as last left; all else in the areas, and their lengths, are free
+-- as far as its areas reach, a call gets the kept parts as last left; all else in the areas, and their lengths, are
+-- free
 pub record Lent (m : Moment) (a : Areas) : Type 0 where
   pub input : Agree (m .input) (a .input)
   pub stage : Agree (m .tail) (a .stage)
@@ -71,15 +74,19 @@ pub record SameLengths (a b : Areas) : Type 0 where
 -- the caller lends such areas, and the call does what its contract ensures; samples that neither names are free
 abbrev pub Allowed : Moment → Event → Type 0
 Allowed m (setting-went v r) = r ≡ setCall (m .stream) v
-Allowed m (write-went samples a r b) = Lent m a × SameLengths a b × CallEnsures (m .stream .channels) (writeCall (m .stream) samples a) r b
-Allowed m (flush-went a r b) = Lent m a × SameLengths a b × CallEnsures (m .stream .channels) (flushCall (m .stream) a) r b
+Allowed m (write-went samples a r b) =
+    Lent m a × SameLengths a b × CallEnsures (m .stream .channels) (writeCall (m .stream) samples a) r b
+Allowed m (flush-went a r b) =
+    Lent m a × SameLengths a b × CallEnsures (m .stream .channels) (flushCall (m .stream) a) r b
 Allowed m (read-went most a r b) =
     Agree (m .output) (a .output) × (length (b .output) ≡ length (a .output))
-    × ReadEnsures (m .stream .channels) (readCall (m .stream) most (a .slice) (a .output)) r (a .slice) (b .slice) (b .output)
+    × ReadEnsures (m .stream .channels) (readCall (m .stream) most (a .slice) (a .output)) r (a .slice)
+    (b .slice) (b .output)
 
 -- ---- what each call leaves
 
--- n samples after a call that left this area: the area's, and past its end those of the kept part, which nobody wrote to
+-- n samples after a call that left this area: the area's, and past its end those of the kept part, which nobody wrote
+-- to
 unfoldable pub leave : ℕ → List ℤ → List ℤ → List ℤ
 leave n area kept = take n (area ++ drop (length area) kept)
 
@@ -95,7 +102,14 @@ outcomesOf (Wrote.Done outcome s) = outcome ∷ []
 -- after a setting, which touches no area
 unfoldable pub afterSetting : Moment → Changed → Moment
 afterSetting m r =
-    record { stream = streamAfterSetting r; input = m .input; tail = m .tail; output = m .output; given = m .given; outcomes = m .outcomes }
+    record {
+      stream = streamAfterSetting r;
+      input = m .input;
+      tail = m .tail;
+      output = m .output;
+      given = m .given;
+      outcomes = m .outcomes;
+    }
 
 -- after a write or a flush
 unfoldable pub afterCall : Moment → Wrote → Areas → Moment

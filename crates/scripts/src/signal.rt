@@ -31,7 +31,8 @@ const HIGH: u16 = 52768;
 
 const LOW: u16 = 12768;
 
-// A signal: its kind, the noise's first state and the voice's first place, the voice's period in samples, and the divisor of its levels.
+// A signal: its kind, the noise's first state and the voice's first place, the voice's period in samples, and the
+// divisor of its levels.
 pub struct Signal {
     pub kind: u64,
     pub seed: u32,

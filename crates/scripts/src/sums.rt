@@ -1,4 +1,5 @@
-// Floats as their bits, and sums over samples: one number for a part of an area, in which every sample and its place count.
+// Floats as their bits, and sums over samples: one number for a part of an area, in which every sample and its place
+// count.
 use frames::Frames;
 ghost use mathlib.Core.Path.{_≡_};
 ghost use Prim.Native.Nat.{_+_, _*_, _%_, _^_, _≤_};

@@ -1,5 +1,6 @@
--- `find_sinc_coefficient` and `interpolate` of the Rust original: the coefficient of a tap, an interpolated sample, an interpolated frame.
--- N is the new rate, the width of one step of the old rate; r is the ratio, below N; i is the tap. Definitions only. Assumes nothing.
+-- `find_sinc_coefficient` and `interpolate` of the Rust original: the coefficient of a tap, an interpolated sample, an
+-- interpolated frame. N is the new rate, the width of one step of the old rate; r is the ratio, below N; i is the tap.
+-- Definitions only. Assumes nothing.
 use mathlib.Core.List.{List, [], _∷_}
 use Prim.Native.Nat.{ℕ, zero, suc, _+_, _-_, _*_, _/_}
 use lib.IntN.{ℤ, pos, negsuc, _+ℤ_, _*ℤ_}
@@ -34,7 +35,8 @@ remainder i r N = lobePoints * i * N + lobePoints * r - tablePlace i r N * N
 
 -- 2·(S[L]·(N − e) + S[L+1]·e)/N, toward zero
 unfoldable pub tableValue : ℕ → ℕ → ℕ → ℤ
-tableValue L e N = quotZ (pos 2 *ℤ (getD sincTable L (pos 0) *ℤ pos (N - e) +ℤ getD sincTable (L + 1) (pos 0) *ℤ pos e)) (pos N)
+tableValue L e N =
+    quotZ (pos 2 *ℤ (getD sincTable L (pos 0) *ℤ pos (N - e) +ℤ getD sincTable (L + 1) (pos 0) *ℤ pos e)) (pos N)
 
 -- the coefficient of tap i
 unfoldable pub sincCoefficient : ℕ → ℕ → ℕ → ℤ

@@ -10,7 +10,8 @@ ghost use lib.Seq.{paste};
 ghost use lib.Signed.{shrZ};
 ghost use Rattle.laws.specs.Reciprocal.{reciprocalOf};
 ghost use Rattle.sinc.specs.SincTable.{sincTable, sincTableSize};
-ghost use Rattle.sinc.specs.Sinc.{sincFilterPoints, maxWidth, tableValue, sincCoefficients, weightedSum, heldSample, interpolateFrame};
+ghost use Rattle.sinc.specs.Sinc.{sincFilterPoints, maxWidth, tableValue, sincCoefficients, weightedSum};
+ghost use Rattle.sinc.specs.Sinc.{heldSample, interpolateFrame};
 
 // The taps of a sample, and so the tail frames that a frame is made of.
 pub const SINC_FILTER_POINTS: usize = 12;
@@ -28,7 +29,8 @@ pub fn sinc_table() -> [i16; table::SINC_TABLE_SIZE]
     table::SINC_TABLE
 }
 
-// The value of the filter at `remainder` of `width` parts behind the table place `left`, times 2: divided by the reciprocal of `width`.
+// The value of the filter at `remainder` of `width` parts behind the table place `left`, times 2: divided by the
+// reciprocal of `width`.
 fn find_sinc_coefficient(
     table: &[i16],
     left: usize,
@@ -36,7 +38,8 @@ fn find_sinc_coefficient(
     width: usize,
     reciprocal: u64,
 ) -> i32
-    requires { ⌜ (now table ≡ sincTable) × (left + 1 < sincTableSize) × (remainder < width) × (width ≤ maxWidth) × (reciprocal ≡ reciprocalOf width) ⌝ }
+    requires { ⌜ (now table ≡ sincTable) × (left + 1 < sincTableSize) × (remainder < width) × (width ≤ maxWidth)
+        × (reciprocal ≡ reciprocalOf width) ⌝ }
     ensures { λ r. ⌜ r ≡ tableValue left remainder width ⌝ }
 {
     let right = left + 1;
@@ -50,7 +53,8 @@ fn find_sinc_coefficient(
     (double * parts / (RECIPROCAL_PARTS as i64)) as i32
 }
 
-// The coefficients of the 12 taps. All of them, their place and their remainder come from one division, which gives the reciprocal of `width`.
+// The coefficients of the 12 taps. All of them, their place and their remainder come from one division, which gives the
+// reciprocal of `width`.
 fn coefficients(table: &[i16], ratio: usize, width: usize) -> [i32; SINC_FILTER_POINTS]
     requires { ⌜ (now table ≡ sincTable) × (ratio < width) × (width ≤ maxWidth) ⌝ }
     ensures { λ r. ⌜ r ≡ sincCoefficients ratio width ⌝ }
@@ -126,7 +130,8 @@ pub fn interpolate_frame(
     to: Samples,
 )
     requires { ⌜ (now table ≡ sincTable) × (ratio < width) × (width ≤ maxWidth) ⌝ }
-    requires { ⌜ (from .0 + sincFilterPoints * channels ≤ length (now stage)) × (to .0 + channels ≤ length (now output)) ⌝ }
+    requires { ⌜ (from .0 + sincFilterPoints * channels ≤ length (now stage))
+        × (to .0 + channels ≤ length (now output)) ⌝ }
     ensures { λ _. ⌜ now (output .exit) ≡ paste (now (output .entry)) (to .0)
         (interpolateFrame (drop (from .0) (now (stage .entry))) channels ratio width) channels ⌝ }
 {

@@ -1,9 +1,9 @@
-// skim: changes speed, pitch and volume of 16-bit little-endian PCM, from standard input to standard output. A thin program: `jobs` reads
-// what is asked for, `plans` finds the room for it, and `skimming` does it. `reports` tells what became of the frames; `usage` tells of the
-// arguments.
+// skim: changes speed, pitch and volume of 16-bit little-endian PCM, from standard input to standard output. A thin
+// program: `jobs` reads what is asked for, `plans` finds the room for it, and `skimming` does it. `reports` tells what
+// became of the frames; `usage` tells of the arguments.
 //
-// A Rattle program has no exit status. The last line on standard error ends in the one it would have, and with `--status` it is written to
-// descriptor 3 too, from which tools/skim.sh takes it.
+// A Rattle program has no exit status. The last line on standard error ends in the one it would have, and with
+// `--status` it is written to descriptor 3 too, from which tools/skim.sh takes it.
 mod usage;
 
 use jobs::Asked;

@@ -30,9 +30,9 @@ pub record ReelReady (p : Plan) (r : Reel) : Type 0 where
   pub none-left : r .partial ≡ 0
   pub unflushed : r .flushed ≡ false
 
--- what a whole run promises: a flushed run had written every whole frame that it read; one that nothing stopped came to the end of the
--- input, wrote every frame and was flushed if there was one; only the last block may leave bytes over; and without a failure or a refusal
--- all that was made was written out
+-- what a whole run promises: a flushed run had written every whole frame that it read; one that nothing stopped came to
+-- the end of the input, wrote every frame and was flushed if there was one; only the last block may leave bytes over;
+-- and without a failure or a refusal all that was made was written out
 pub record Complete (r : Reel) : Type 0 where
   pub flushed-all : r .flushed ≡ true → r .written ≡ r .«frames_in»
   pub ended-all : going r ≡ true → r .ended ≡ true

@@ -1,5 +1,5 @@
-// A whole reel through the stream: blocks are read and written to it, and it is flushed at the end. After a stall or a refusal the input is
-// only counted. `specs/Skimming.antt` says what is promised.
+// A whole reel through the stream: blocks are read and written to it, and it is flushed at the end. After a stall or a
+// refusal the input is only counted. `specs/Skimming.antt` says what is promised.
 use blocks::turn;
 use plans::BLOCK_BYTES;
 use plans::BLOCK_SAMPLES;
@@ -21,7 +21,8 @@ fn flush(
     scratch: &mut [i16],
 ) -> Reel
     ensures { λ r. ⌜ Flushed
-        (flushCall (reel .stream) (areas (now (input .entry)) (now (stage .entry)) (now (output .entry)) (now (scratch .entry))) .answer) reel r ⌝ }
+        (flushCall (reel .stream) (areas (now (input .entry)) (now (stage .entry)) (now (output .entry))
+        (now (scratch .entry))) .answer) reel r ⌝ }
 {
     if reel.written == 0 {
         return reel;
@@ -35,8 +36,8 @@ fn flush(
     reel
 }
 
-// Does a job in areas that are lent. A proved loop has to end, and nothing says that the input does: a run that uses up its turns, which
-// none does, has failed.
+// Does a job in areas that are lent. A proved loop has to end, and nothing says that the input does: a run that uses up
+// its turns, which none does, has failed.
 fn run(
     mut reel: Reel,
     plan: Plan,
@@ -49,7 +50,8 @@ fn run(
     bytes: &mut [u8],
 ) -> Reel
     requires { ⌜ Usable plan × ReelReady plan reel ⌝ }
-    requires { ⌜ (blockSamples ≡ length (now block)) × (blockSamples ≡ length (now values)) × (blockBytes ≡ length (now bytes)) ⌝ }
+    requires { ⌜ (blockSamples ≡ length (now block)) × (blockSamples ≡ length (now values))
+        × (blockBytes ≡ length (now bytes)) ⌝ }
     ensures { λ r. ⌜ Complete r ⌝ }
 {
     let mut turns = u64::MAX;

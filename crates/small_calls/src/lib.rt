@@ -1,4 +1,5 @@
-// The calls of stored runs that are lent no area, each with its answer printed (docs/VECTORS.md); and streams that no call hands back.
+// The calls of stored runs that are lent no area, each with its answer printed (docs/VECTORS.md); and streams that no
+// call hands back.
 mod edits;
 
 pub use edits::with_field;

@@ -43,8 +43,10 @@ changedOf (set-answer.Changed.Done s) = record { refusal = accepted; stream = s 
 
 -- to the entering stream
 unfoldable pub availableOf : SonicStream → available-answer.Available → Available
-availableOf entering (available-answer.Available.Refused number s) = record { refusal = number; frames = record { 0 = 0 }; stream = s }
-availableOf entering (available-answer.Available.Waiting n) = record { refusal = accepted; frames = n; stream = entering }
+availableOf entering (available-answer.Available.Refused number s) =
+    record { refusal = number; frames = record { 0 = 0 }; stream = s }
+availableOf entering (available-answer.Available.Waiting n) =
+    record { refusal = accepted; frames = n; stream = entering }
 
 unfoldable pub wroteOf : write-answer.Wrote → Wrote
 wroteOf (write-answer.Wrote.Refused number s) = record { refusal = number; outcome = 0; stream = s }
@@ -62,7 +64,8 @@ pub record WroteEnsures (channels : ℕ) (c : CallResult) (r : Wrote) (a : Areas
   pub tail : framesOf channels (r .stream .tail .0) (a .stage) ≡ c .tail
   pub output : framesOf channels (r .stream .waiting .0) (a .output) ≡ c .output
 
-pub record GaveEnsures (channels : ℕ) (c : ReadResult) (r : Gave) (entry exit : List Float) (area : List ℤ) : Type 0 where
+pub record GaveEnsures (channels : ℕ) (c : ReadResult) (r : Gave) (entry exit : List Float) (area : List ℤ)
+    : Type 0 where
   pub answer : r ≡ gaveOf (c .answer)
   pub given : framesOf channels (r .frames .0) exit ≡ c .given
   pub rest : drop (r .frames .0 * channels) exit ≡ drop (r .frames .0 * channels) entry

@@ -65,7 +65,8 @@ pub extern "C" fn kelpladder_write_f32(
     scratch: &mut [i16],
 ) -> Wrote
     ensures { λ r. ⌜ WroteEnsures (stream .channels)
-        (writeCall stream (now (samples .entry)) (areas (now (input .entry)) (now (stage .entry)) (now (output .entry)) (now (scratch .entry)))) r
+        (writeCall stream (now (samples .entry))
+        (areas (now (input .entry)) (now (stage .entry)) (now (output .entry)) (now (scratch .entry)))) r
         (areas (now (input .exit)) (now (stage .exit)) (now (output .exit)) (now (scratch .exit))) ⌝ }
 {
     wrote_of(sonic::write_f32(stream, samples, input, stage, output, scratch))
@@ -93,7 +94,8 @@ pub extern "C" fn kelpladder_flush(
     scratch: &mut [i16],
 ) -> Wrote
     ensures { λ r. ⌜ WroteEnsures (stream .channels)
-        (flushCall stream (areas (now (input .entry)) (now (stage .entry)) (now (output .entry)) (now (scratch .entry)))) r
+        (flushCall stream (areas (now (input .entry)) (now (stage .entry)) (now (output .entry))
+        (now (scratch .entry)))) r
         (areas (now (input .exit)) (now (stage .exit)) (now (output .exit)) (now (scratch .exit))) ⌝ }
 {
     wrote_of(sonic::flush(stream, input, stage, output, scratch))

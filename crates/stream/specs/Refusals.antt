@@ -66,18 +66,21 @@ periodInOrder s = eq (s .«sample_period») (samplePeriod (s .rate))
 
 unfoldable pub settingsInOrder : SonicStream → Bool
 settingsInOrder s =
-    within minSpeed maxSpeed (s .speed) && (within minPitch maxPitch (s .pitch) && within minVolume maxVolume (s .volume))
+    within minSpeed maxSpeed (s .speed)
+    && (within minPitch maxPitch (s .pitch) && within minVolume maxVolume (s .volume))
 
 -- previous period 0 or in range, previous least mean in 0..=65,535
 unfoldable pub prevInOrder : SonicStream → Bool
 prevInOrder s =
-    (eqb (s .«prev_period») 0 || (leb (minPeriod (s .rate)) (s .«prev_period») && leb (s .«prev_period») (maxPeriod (s .rate))))
+    (eqb (s .«prev_period») 0 || (leb (minPeriod (s .rate)) (s .«prev_period»)
+    && leb (s .«prev_period») (maxPeriod (s .rate))))
     && leb (s .«prev_min_diff») widestGap
 
 -- 0 ≤ p < O and n the least whole number with n·O ≥ p·N
 unfoldable pub positionsInOrder : Rates → SonicStream → Bool
 positionsInOrder r s =
-    ltb (s .«old_rate_position») (r .old) && eqb (s .«new_rate_position») (ceilDiv (s .«old_rate_position» * r .new) (r .old))
+    ltb (s .«old_rate_position») (r .old) && eqb (s .«new_rate_position»)
+    (ceilDiv (s .«old_rate_position» * r .new) (r .old))
 
 -- play time, time error and counts are free
 unfoldable pub inOrder : SonicStream → Bool

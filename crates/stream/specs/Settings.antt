@@ -37,7 +37,8 @@ fresh rate channels =
 unfoldable pub openCall : ℕ → ℕ → Opened
 openCall rate channels =
     cond (rateBad rate) (Opened.Refused badRate rate zeroStream)
-    (cond (channelsBad channels) (Opened.Refused badChannels channels zeroStream) (Opened.Done (streamOf (fresh rate channels) 0)))
+    (cond (channelsBad channels) (Opened.Refused badChannels channels zeroStream)
+    (Opened.Done (streamOf (fresh rate channels) 0)))
 
 -- each setting is held to its range, NaN to the lower end; setting a pitch, even the same, puts p and n to 0
 unfoldable pub withSetting : Setting → State → State
@@ -46,7 +47,8 @@ withSetting (Pitch x) s = withSettings s (s .speed) (clamped x minPitch maxPitch
 withSetting (Volume x) s = withSettings s (s .speed) (s .pitch) (clamped x minVolume maxVolume) (s .at)
 
 unfoldable pub setCall : SonicStream → Setting → Changed
-setCall s v = cond (inOrder s) (Changed.Done (streamOf (withSetting v (unlent s)) (s .waiting .0))) (Changed.Refused badStream s)
+setCall s v =
+    cond (inOrder s) (Changed.Done (streamOf (withSetting v (unlent s)) (s .waiting .0))) (Changed.Refused badStream s)
 
 unfoldable pub availableCall : SonicStream → Available
 availableCall s = cond (inOrder s) (Available.Waiting (s .waiting)) (Available.Refused badStream s)

@@ -25,7 +25,8 @@ fn sizes_bad(
     output: &[i16],
     scratch: &[i16],
 ) -> bool
-    ensures { λ r. ⌜ r ≡ sizesBad stream (areas (now (input .entry)) (now (stage .entry)) (now (output .entry)) (now (scratch .entry))) ⌝ }
+    ensures { λ r. ⌜ r ≡ sizesBad stream
+        (areas (now (input .entry)) (now (stage .entry)) (now (output .entry)) (now (scratch .entry))) ⌝ }
 {
     if input.len() > SonicStream::MAX_AREA {
         return true;
@@ -68,7 +69,8 @@ pub fn areas_bad(
     scratch: &[i16],
 ) -> bool
     requires { ⌜ 1 ≤ stream .channels ⌝ }
-    ensures { λ r. ⌜ r ≡ areasBad stream (areas (now (input .entry)) (now (stage .entry)) (now (output .entry)) (now (scratch .entry))) ⌝ }
+    ensures { λ r. ⌜ r ≡ areasBad stream
+        (areas (now (input .entry)) (now (stage .entry)) (now (output .entry)) (now (scratch .entry))) ⌝ }
 {
     if sizes_bad(stream, input, stage, output, scratch) {
         return true;

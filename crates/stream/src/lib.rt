@@ -1,6 +1,6 @@
-// The stream's value with its constants, and the calls that are lent no area: opening, settings, the frames available. `areas` has the
-// refusals that go by the lengths of the areas lent.
-// `specs/Settings.antt` says what each answers. Write, read and flush are in `sonic`.
+// The stream's value with its constants, and the calls that are lent no area: opening, settings, the frames available.
+// `areas` has the refusals that go by the lengths of the areas lent. `specs/Settings.antt` says what each answers.
+// Write, read and flush are in `sonic`.
 pub mod areas;
 mod order;
 pub mod refusals;

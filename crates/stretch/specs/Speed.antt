@@ -1,5 +1,5 @@
--- Document 01, "Stretch steps": `change_speed`. The list of a call's steps, and what is computed from it. u is the call, x the held input,
--- h a place. Definitions only.
+-- Document 01, "Stretch steps": `change_speed`. The list of a call's steps, and what is computed from it. u is the
+-- call, x the held input, h a place. Definitions only.
 use Prim.Native.Nat.{ℕ, zero, suc, _+_, _*_, _≤_}
 use mathlib.Core.Bool.{Bool, false, cond, _||_}
 use mathlib.Core.List.{List, [], _∷_, _++_}
@@ -29,7 +29,8 @@ stepsIn (suc n) u x h =
     (nextStep u x h ∷ cond (stalls (nextStep u x h)) [] (stepsIn n u x (after u x h (nextStep u x h))))
     []
 
--- all of them: each uses a frame at least, so that there are no more than frames held (`proofs/Claims.antt`, steps-complete)
+-- all of them: each uses a frame at least, so that there are no more than frames held (`proofs/Claims.antt`,
+-- steps-complete)
 unfoldable pub steps : StretchCall → List ℤ → Place → List Step
 steps u x h = stepsIn (u .held .0) u x h
 
@@ -60,11 +61,18 @@ begun error prev = record { position = record { 0 = 0 }; «time_error» = error;
 -- an answer with the time error and the period record of a place
 abbrev pub answer : ℕ → ℕ → Place → Bool → Stretch
 answer made used h stall =
-    record { made = record { 0 = made }; used = record { 0 = used }; «time_error» = h .«time_error»; prev = h .prev; stalled = stall }
+    record {
+      made = record { 0 = made };
+      used = record { 0 = used };
+      «time_error» = h .«time_error»;
+      prev = h .prev;
+      stalled = stall;
+    }
 
 -- the answer for steps ss: a stall removes no input
 unfoldable pub answerFor : StretchCall → List ℤ → Place → List Step → Stretch
-answerFor u x h ss = answer (framesMade ss) (cond (stalled ss) 0 (lastPlace u x h ss .position .0)) (lastPlace u x h ss) (stalled ss)
+answerFor u x h ss =
+    answer (framesMade ss) (cond (stalled ss) 0 (lastPlace u x h ss .position .0)) (lastPlace u x h ss) (stalled ss)
 
 -- `change_speed` with room for `room` frames
 unfoldable pub changeSpeed : StretchCall → List ℤ → Place → ℕ → Stretched
@@ -72,11 +80,14 @@ changeSpeed u x h room = cond (ltb room (framesMade (steps u x h))) Full (Made (
 
 -- the frames that a call makes
 abbrev pub stretchedFrames : StretchCall → List ℤ → Place → List Frame
-stretchedFrames u x h = framesOf (u .channels) (framesMade (steps u x h)) (samplesOf (u .channels) x (h .position .0) (steps u x h))
+stretchedFrames u x h =
+    framesOf (u .channels) (framesMade (steps u x h)) (samplesOf (u .channels) x (h .position .0) (steps u x h))
 
--- the stage after it: what lies before the place `to` stays; if the frames fit, they stand there, and the period record is in order
+-- the stage after it: what lies before the place `to` stays; if the frames fit, they stand there, and the period record
+-- is in order
 pub record Staged (u : StretchCall) (x : List ℤ) (h : Place) (room : ℕ) (stage stage' : List ℤ) (to : ℕ) : Type 0 where
   pub kept : take to stage' ≡ take to stage
   pub written : framesMade (steps u x h) ≤ room
-      → stage' ≡ paste stage to (samplesOf (u .channels) x (h .position .0) (steps u x h)) (framesMade (steps u x h) * u .channels)
+      → stage' ≡ paste stage to (samplesOf (u .channels) x (h .position .0) (steps u x h))
+      (framesMade (steps u x h) * u .channels)
   pub in-order : framesMade (steps u x h) ≤ room → PrevInOrder (u .rate) (lastPlace u x h (steps u x h) .prev)

@@ -1,5 +1,5 @@
--- Document 01, "Stretch steps": which step is due at a place, what it gives and uses, and the place after it. u is the call, x the held
--- input, h a place. Definitions only.
+-- Document 01, "Stretch steps": which step is due at a place, what it gives and uses, and the place after it. u is the
+-- call, x the held input, h a place. Definitions only.
 use Prim.Native.Nat.{ℕ, _+_, _-_, _*_, _^_, _≤_}
 use mathlib.Core.Path.{_≡_}
 use mathlib.Core.Bool.{Bool, false, cond}
@@ -32,7 +32,9 @@ searchAt u x h = findPitchPeriod (drop (h .position .0 * u .channels) x) (u .cha
 
 -- a skip step (s > 1) or an insert step (any other s)
 abbrev pub periodStep : Float → Frames → Step
-periodStep s period = cond (lt one s) (Skipped period (record { 0 = skipCount s (period .0) })) (Inserted period (record { 0 = insertCount s (period .0) }))
+periodStep s period =
+    cond (lt one s) (Skipped period (record { 0 = skipCount s (period .0) }))
+    (Inserted period (record { 0 = insertCount s (period .0) }))
 
 -- the step that is due: a copying step, or one of those
 unfoldable pub nextStep : StretchCall → List ℤ → Place → Step
@@ -68,8 +70,10 @@ samplesOut channels x at (Inserted period k) = insertPitchPeriod channels x at (
 -- the time error after a step
 unfoldable pub errorAfter : StretchCall → Float → Step → Float
 errorAfter u error (Copied n) = errorCopied error (u .speed) (u .«sample_period») (n .0)
-errorAfter u error (Skipped period k) = errorSkipped error (u .speed) (u .«sample_period») (u .«input_play_time») (u .held .0) (period .0) (k .0)
-errorAfter u error (Inserted period k) = errorInserted error (u .speed) (u .«sample_period») (u .«input_play_time») (u .held .0) (period .0) (k .0)
+errorAfter u error (Skipped period k) =
+    errorSkipped error (u .speed) (u .«sample_period») (u .«input_play_time») (u .held .0) (period .0) (k .0)
+errorAfter u error (Inserted period k) =
+    errorInserted error (u .speed) (u .«sample_period») (u .«input_play_time») (u .held .0) (period .0) (k .0)
 
 -- the period record after a step: a copying step makes no search
 unfoldable pub prevAfter : StretchCall → List ℤ → Place → Step → PeriodRecord
@@ -80,7 +84,11 @@ prevAfter u x h (Inserted period k) = searchAt u x h .prev
 -- the place after a step whose search found a period record
 unfoldable pub placeAfter : StretchCall → Place → Step → PeriodRecord → Place
 placeAfter u h s found =
-    record { position = record { 0 = h .position .0 + framesUsed s }; «time_error» = errorAfter u (h .«time_error») s; prev = found }
+    record {
+      position = record { 0 = h .position .0 + framesUsed s };
+      «time_error» = errorAfter u (h .«time_error») s;
+      prev = found;
+    }
 
 -- the place after a step at a place
 unfoldable pub after : StretchCall → List ℤ → Place → Step → Place
@@ -90,12 +98,14 @@ after u x h s = placeAfter u h s (prevAfter u x h s)
 
 -- whether there is room for the step; the place after it, its frames, and whether it stalls
 unfoldable pub turnFor : StretchCall → List ℤ → Place → ℕ → Step → Turn
-turnFor u x h room s = cond (ltb room (framesOut s)) NoRoom (Went (after u x h s) (record { 0 = framesOut s }) (stalls s))
+turnFor u x h room s =
+    cond (ltb room (framesOut s)) NoRoom (Went (after u x h s) (record { 0 = framesOut s }) (stalls s))
 
 -- the stage after it: the step's frames at the place `to`
 unfoldable pub stageFor : StretchCall → List ℤ → Place → ℕ → List ℤ → ℕ → Step → List ℤ
 stageFor u x h room stage to s =
-    cond (ltb room (framesOut s)) stage (paste stage to (samplesOut (u .channels) x (h .position .0) s) (framesOut s * u .channels))
+    cond (ltb room (framesOut s)) stage
+    (paste stage to (samplesOut (u .channels) x (h .position .0) s) (framesOut s * u .channels))
 
 -- ---- what calls and steps are handed
 

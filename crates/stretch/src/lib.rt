@@ -1,4 +1,5 @@
-// The stretch: steps that copy, skip or insert pitch periods, and `change_speed` that takes them. `specs/` says what each function gives.
+// The stretch: steps that copy, skip or insert pitch periods, and `change_speed` that takes them. `specs/` says what
+// each function gives.
 mod samples;
 mod speed;
 mod steps;
@@ -43,7 +44,8 @@ pub enum Turn {
     Went(Place, Frames, bool),
 }
 
-// What a call gives: the frames made, the frames of the input used, the time error and the period record after it, whether it stalled.
+// What a call gives: the frames made, the frames of the input used, the time error and the period record after it,
+// whether it stalled.
 pub struct Stretch {
     pub made: Frames,
     pub used: Frames,

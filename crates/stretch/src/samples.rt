@@ -21,7 +21,8 @@ pub(crate) fn write_step(
     stage: &mut [i16],
     to: Samples,
 )
-    requires { ⌜ (1 ≤ channels) × (crossfaded step ≤ longestPeriod) × ((position .0 + framesRead step) * channels ≤ length (now input))
+    requires { ⌜ (1 ≤ channels) × (crossfaded step ≤ longestPeriod)
+        × ((position .0 + framesRead step) * channels ≤ length (now input))
         × (to .0 + framesOut step * channels ≤ length (now stage)) ⌝ }
     ensures { λ _. ⌜ now (stage .exit) ≡ paste (now (stage .entry)) (to .0)
         (samplesOut channels (now (input .entry)) (position .0) step) (framesOut step * channels) ⌝ }

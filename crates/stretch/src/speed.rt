@@ -30,8 +30,8 @@ fn answer(made: Frames, used: Frames, place: Place, stalled: bool) -> Stretch
     }
 }
 
-// The stretch of the frames held: step after step until too few frames are left, one stalls, or one does not fit. The frames go to the
-// place `to` of the stage, which has room for `room` frames there.
+// The stretch of the frames held: step after step until too few frames are left, one stalls, or one does not fit. The
+// frames go to the place `to` of the stage, which has room for `room` frames there.
 pub fn change_speed(
     input: &[i16],
     call: StretchCall,
@@ -44,10 +44,12 @@ pub fn change_speed(
 ) -> Stretched
     requires { ⌜ StretchReady call ⌝ }
     requires { ⌜ PrevInOrder (call .rate) prev ⌝ }
-    requires { ⌜ (call .held .0 * call .channels ≤ length (now input)) × (maxRequired (call .rate) ≤ length (now scratch))
+    requires { ⌜ (call .held .0 * call .channels ≤ length (now input))
+        × (maxRequired (call .rate) ≤ length (now scratch))
         × (to .0 + room .0 * call .channels ≤ length (now stage)) ⌝ }
     ensures { λ r. ⌜ (r ≡ changeSpeed call (now (input .entry)) (begun «time_error» prev) (room .0))
-        × Staged call (now (input .entry)) (begun «time_error» prev) (room .0) (now (stage .entry)) (now (stage .exit)) (to .0) ⌝ }
+        × Staged call (now (input .entry)) (begun «time_error» prev) (room .0) (now (stage .entry))
+        (now (stage .exit)) (to .0) ⌝ }
 {
     let required = period::max_required(call.rate).0;
     let held = call.held.0;

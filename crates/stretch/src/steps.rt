@@ -13,7 +13,8 @@ ghost use Prim.Native.Nat.{_+_, _*_, _≤_, _<_, _^_};
 ghost use lib.ListN.{length, drop};
 ghost use Rattle.period.specs.Rates.{InLimits, maxRequired};
 ghost use Rattle.period.specs.Pitch.{findPitchPeriod, InRange, PrevInOrder};
-ghost use Rattle.stretch.specs.Steps.{periodStep, nextStep, framesOut, framesUsed, framesRead, stalls, errorAfter};
+ghost use Rattle.stretch.specs.Steps.{periodStep, nextStep, framesOut, framesUsed, framesRead, stalls};
+ghost use Rattle.stretch.specs.Steps.{errorAfter};
 ghost use Rattle.stretch.specs.Steps.{prevAfter, placeAfter, turnFor, stageFor, StretchReady, Sound};
 
 // The period that a step at the place `from` of the input uses, in frames, and the period record after the search.
@@ -27,7 +28,8 @@ fn search_at(
 ) -> Chosen
     requires { ⌜ InLimits rate channels ⌝ }
     requires { ⌜ PrevInOrder rate prev ⌝ }
-    requires { ⌜ (from .0 + maxRequired rate * channels ≤ length (now input)) × (maxRequired rate ≤ length (now scratch)) ⌝ }
+    requires { ⌜ (from .0 + maxRequired rate * channels ≤ length (now input))
+        × (maxRequired rate ≤ length (now scratch)) ⌝ }
     ensures { λ r. ⌜ (r ≡ findPitchPeriod (drop (from .0) (now (input .entry))) channels rate prev)
         × InRange rate (r .period .0) × PrevInOrder rate (r .prev) ⌝ }
 {
@@ -52,10 +54,12 @@ fn period_step(s: f32, period: Frames) -> Step
 fn next_step(input: &[i16], call: StretchCall, place: Place, scratch: &mut [i16]) -> NextStep
     requires { ⌜ StretchReady call ⌝ }
     requires { ⌜ PrevInOrder (call .rate) (place .prev) ⌝ }
-    requires { ⌜ (place .position .0 + maxRequired (call .rate) ≤ call .held .0) × (call .held .0 * call .channels ≤ length (now input))
+    requires { ⌜ (place .position .0 + maxRequired (call .rate) ≤ call .held .0)
+        × (call .held .0 * call .channels ≤ length (now input))
         × (maxRequired (call .rate) ≤ length (now scratch)) ⌝ }
     ensures { λ r. ⌜ (r .step ≡ nextStep call (now (input .entry)) place)
-        × (r .prev ≡ prevAfter call (now (input .entry)) place (nextStep call (now (input .entry)) place)) × PrevInOrder (call .rate) (r .prev) ⌝ }
+        × (r .prev ≡ prevAfter call (now (input .entry)) place (nextStep call (now (input .entry)) place))
+        × PrevInOrder (call .rate) (r .prev) ⌝ }
 {
     let s = call.speed;
     let error = place.time_error;
@@ -148,7 +152,8 @@ fn place_after(call: StretchCall, place: Place, step: Step, prev: PeriodRecord) 
     }
 }
 
-// One turn: the step that is due, its frames written at the place `to` of the stage if there is room for them among `room` frames.
+// One turn: the step that is due, its frames written at the place `to` of the stage if there is room for them among
+// `room` frames.
 pub(crate) fn take_step(
     input: &[i16],
     call: StretchCall,
@@ -160,11 +165,15 @@ pub(crate) fn take_step(
 ) -> Turn
     requires { ⌜ StretchReady call ⌝ }
     requires { ⌜ PrevInOrder (call .rate) (place .prev) ⌝ }
-    requires { ⌜ (place .position .0 + maxRequired (call .rate) ≤ call .held .0) × (call .held .0 * call .channels ≤ length (now input))
-        × (maxRequired (call .rate) ≤ length (now scratch)) × (to .0 + room .0 * call .channels ≤ length (now stage)) ⌝ }
+    requires { ⌜ (place .position .0 + maxRequired (call .rate) ≤ call .held .0)
+        × (call .held .0 * call .channels ≤ length (now input))
+        × (maxRequired (call .rate) ≤ length (now scratch))
+        × (to .0 + room .0 * call .channels ≤ length (now stage)) ⌝ }
     ensures { λ r. ⌜ (r ≡ turnFor call (now (input .entry)) place (room .0) (nextStep call (now (input .entry)) place))
-        × (now (stage .exit) ≡ stageFor call (now (input .entry)) place (room .0) (now (stage .entry)) (to .0) (nextStep call (now (input .entry)) place))
-        × PrevInOrder (call .rate) (prevAfter call (now (input .entry)) place (nextStep call (now (input .entry)) place)) ⌝ }
+        × (now (stage .exit) ≡ stageFor call (now (input .entry)) place (room .0) (now (stage .entry)) (to .0)
+        (nextStep call (now (input .entry)) place))
+        × PrevInOrder (call .rate) (prevAfter call (now (input .entry)) place
+        (nextStep call (now (input .entry)) place)) ⌝ }
 {
     let due = next_step(input, call, place, scratch);
     let step = due.step;

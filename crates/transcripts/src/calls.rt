@@ -1,4 +1,5 @@
-// The calls, with the areas lent as far as the lengths say. Each prints what the call answers and hands back its stream.
+// The calls, with the areas lent as far as the lengths say. Each prints what the call answers and hands back its
+// stream.
 use crate::lent::LentLengths;
 use crate::lent::of_area;
 use crate::lent::of_slice;
@@ -110,7 +111,8 @@ fn gave(answer: Gave) -> SonicStream {
     }
 }
 
-// Reads at most `most` frames into a slice of `count` samples, or of as many as there is room for, and prints the sum over the whole slice.
+// Reads at most `most` frames into a slice of `count` samples, or of as many as there is room for, and prints the sum
+// over the whole slice.
 pub fn read(
     stream: SonicStream,
     most: usize,

@@ -1,5 +1,6 @@
-// Replays stored runs: reads calls from standard input, makes each on the stream that the one before handed back, and prints the answers.
-// The file `stdout` has those of the original, with the refusals of document 01's table; docs/VECTORS.md says how it was made.
+// Replays stored runs: reads calls from standard input, makes each on the stream that the one before handed back, and
+// prints the answers. The file `stdout` has those of the original, with the refusals of document 01's table;
+// docs/VECTORS.md says how it was made.
 mod replay;
 
 use libc::STDIN_FILENO;

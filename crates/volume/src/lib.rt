@@ -45,7 +45,8 @@ fn fixed_point(volume: f32) -> i32
 // Scales `count` samples of the area, from `at` on, by the volume; at volume 1.0 they stay.
 pub fn scale_samples(area: &mut [i16], at: Samples, count: Samples, volume: f32)
     requires { ⌜ T (le minVolume volume) × T (le volume maxVolume) × (at .0 + count .0 ≤ length (now area)) ⌝ }
-    ensures { λ _. ⌜ now (area .exit) ≡ paste (now (area .entry)) (at .0) (map (scaled volume) (drop (at .0) (now (area .entry)))) (count .0) ⌝ }
+    ensures { λ _. ⌜ now (area .exit) ≡ paste (now (area .entry)) (at .0)
+        (map (scaled volume) (drop (at .0) (now (area .entry)))) (count .0) ⌝ }
 {
     if volume == 1.0 {
         return;

@@ -27,9 +27,11 @@ fn write_frames(
     output: &mut [i16],
     scratch: &mut [i16],
 ) -> Wrote
-    requires { ⌜ AddReady stream period (areas (now input) (now stage) (now output) (now scratch)) (n .0) × (n .0 ≡ length (now samples) / stream .channels) ⌝ }
+    requires { ⌜ AddReady stream period (areas (now input) (now stage) (now output) (now scratch)) (n .0)
+        × (n .0 ≡ length (now samples) / stream .channels) ⌝ }
     ensures { λ r. ⌜ CallEnsures (stream .channels)
-        (writeCall stream (now (samples .entry)) (areas (now (input .entry)) (now (stage .entry)) (now (output .entry)) (now (scratch .entry)))) r
+        (writeCall stream (now (samples .entry))
+        (areas (now (input .entry)) (now (stage .entry)) (now (output .entry)) (now (scratch .entry)))) r
         (areas (now (input .exit)) (now (stage .exit)) (now (output .exit)) (now (scratch .exit))) ⌝ }
     ensures { λ r. ⌜ OrderAfter r ⌝ }
 {
@@ -53,7 +55,8 @@ pub fn write_f32(
     scratch: &mut [i16],
 ) -> Wrote
     ensures { λ r. ⌜ CallEnsures (stream .channels)
-        (writeCall stream (now (samples .entry)) (areas (now (input .entry)) (now (stage .entry)) (now (output .entry)) (now (scratch .entry)))) r
+        (writeCall stream (now (samples .entry))
+        (areas (now (input .entry)) (now (stage .entry)) (now (output .entry)) (now (scratch .entry)))) r
         (areas (now (input .exit)) (now (stage .exit)) (now (output .exit)) (now (scratch .exit))) ⌝ }
     ensures { λ r. ⌜ OrderAfter r ⌝ }
 {
