@@ -10,7 +10,7 @@ use lib.Signed.{quotZ, ltZ}
 use lib.Dec.{T}
 use borrow.Author.Tests.{ltb-true}
 use Rattle.laws.proofs.Reciprocal as law
-use Rattle.period.specs.Search.{longestPeriod}
+use Rattle.search.specs.Search.{longestPeriod}
 use Rattle.laws.specs.Reciprocal.{reciprocalParts, reciprocalOf}
 
 module _ (n k : ℕ) (some : 1 ≤ k) (short : k ≤ longestPeriod) (size : n ≤ 32768 * k) where

@@ -12,7 +12,7 @@ use mir.Val.{SFits, toZ, ofZ}
 use mir.Facts.{toZ-ofZ, toZ-pos}
 use Rattle.laws.proofs.Integers.{sfits-of-natAbs, natAbs-mul, pos-sub, mag-neg, mag-pos-neg, mag-neg-pos, mag-neg-neg}
 use Rattle.laws.proofs.Widening.{widened-reads}
-use Rattle.period.specs.Search.{longestPeriod}
+use Rattle.search.specs.Search.{longestPeriod}
 
 -- ---- bounds
 

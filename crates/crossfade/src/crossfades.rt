@@ -10,7 +10,7 @@ ghost use lib.ListN.{length, drop};
 ghost use lib.Seq.{paste};
 ghost use Rattle.crossfade.specs.Crossfade.{crossfadeSample, crossfadeFrame, overlapAdd};
 ghost use Rattle.laws.specs.Reciprocal.{reciprocalOf};
-ghost use Rattle.period.specs.Search.{longestPeriod};
+ghost use Rattle.search.specs.Search.{longestPeriod};
 
 // The parts of 1 in which a reciprocal is counted.
 const RECIPROCAL_PARTS: u64 = 0x1000_0000_0000;

@@ -7,7 +7,7 @@ ghost use Prim.Native.Nat.{_+_, _*_, _≤_};
 ghost use lib.ListN.{length};
 ghost use lib.Seq.{paste};
 ghost use Rattle.crossfade.specs.Crossfade.{copyUnmodifiedSamples, skipPitchPeriod, insertPitchPeriod};
-ghost use Rattle.period.specs.Search.{longestPeriod};
+ghost use Rattle.search.specs.Search.{longestPeriod};
 
 // Copies n frames of the input from the position on to the place `to` of the stage.
 pub fn copy_unmodified_samples(

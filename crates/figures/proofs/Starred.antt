@@ -16,8 +16,8 @@ use Rattle.rate.specs.Halving.{halved, ratesOf}
 use Rattle.rate.specs.Tail.{start, ceilDiv, due, next, emit, scan}
 use Rattle.rate.specs.Conversion.{convert}
 use Rattle.period.specs.Rates.{minPeriod, maxPeriod, maxRequired, skip}
-use Rattle.period.specs.Search.{diffs, lesser, greater, sweep, findPitchPeriodInRange}
-use Rattle.period.specs.Averages.{sumFrom, meanFrom}
+use Rattle.search.specs.Search.{diffs, lesser, greater, sweep, findPitchPeriodInRange}
+use Rattle.averages.specs.Averages.{sumFrom, meanFrom}
 use Rattle.crossfade.specs.Crossfade.{crossfadeSample}
 
 -- the frames that a tail of k frames makes at 8,000 Hz and pitch 0.5, from positions at 0

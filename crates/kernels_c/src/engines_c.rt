@@ -10,8 +10,8 @@ ghost use lib.ListN.{length, drop};
 ghost use lib.Seq.{paste};
 ghost use Rattle.floats.specs.Settings.{minVolume, maxVolume};
 ghost use Rattle.floats.specs.Write.{sampleIn};
-ghost use Rattle.period.specs.Averages.{downSampleInput, Averageable};
-ghost use Rattle.period.specs.Search.{findPitchPeriodInRange, longestPeriod, Searchable};
+ghost use Rattle.averages.specs.Averages.{downSampleInput, Averageable};
+ghost use Rattle.search.specs.Search.{findPitchPeriodInRange, longestPeriod, Searchable};
 ghost use Rattle.sinc.specs.Sinc.{interpolateFrame};
 ghost use Rattle.sinc.specs.SincTable.{sincTable};
 ghost use Rattle.crossfade.specs.Crossfade.{overlapAdd};
@@ -45,7 +45,7 @@ pub extern "C" fn kernel_find_pitch_period_in_range(
         × (r .«min_diff» ≡ findPitchPeriodInRange (now (samples .entry)) low high .«min_diff»)
         × (r .«max_diff» ≡ findPitchPeriodInRange (now (samples .entry)) low high .«max_diff») ⌝ }
 {
-    let found = period::find_pitch_period_in_range(samples, low, high);
+    let found = search::find_pitch_period_in_range(samples, low, high);
     Search {
         period: found.period,
         min_diff: found.min_diff,
@@ -64,7 +64,7 @@ pub extern "C" fn kernel_down_sample_input(
     ensures { λ _. ⌜ now (out .exit) ≡ downSampleInput (now (samples .entry)) count per
         ++ drop count (now (out .entry)) ⌝ }
 {
-    period::down_sample_input(samples, out, count, Samples(per));
+    averages::down_sample_input(samples, out, count, Samples(per));
 }
 
 #[no_mangle]

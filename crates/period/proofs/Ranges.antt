@@ -9,10 +9,10 @@ use borrow.Author.Tests.{ltb-true, eqb-true}
 use lib.Dec.{ltb, eqb}
 use lib.IntN.{ℤ}
 use Rattle.period.specs.Rates.{minPeriod, maxPeriod, maxRequired, amdfFreq, skip, InLimits}
-use Rattle.period.specs.Search.{Searchable}
-use Rattle.period.specs.Averages.{Averageable}
+use Rattle.search.specs.Search.{Searchable}
+use Rattle.averages.specs.Averages.{Averageable}
 use Rattle.period.specs.Pitch.{valuesOf, coarse, fine, found, InRange}
-use Rattle.period.proofs.SearchRule.{search-rule}
+use Rattle.search.proofs.SearchRule.{search-rule}
 
 -- ---- the skip of a rate
 pub record Skip (R s : ℕ) : Type 0 where

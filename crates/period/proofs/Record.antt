@@ -7,7 +7,7 @@ use Prim.Native.Nat.{ℕ}
 use borrow.Author.Tests.{eq-eqb, not-true}
 use lib.Dec.{eqb}
 use lib.IntN.{ℤ}
-use Rattle.period.specs.declared.Found.{Found}
+use Rattle.search.specs.declared.Found.{Found}
 use Rattle.period.specs.declared.PeriodRecord.{PeriodRecord}
 use Rattle.period.specs.Rates.{InLimits}
 use Rattle.period.specs.Pitch.{found, prevPeriodBetter, chosen, findPitchPeriod, InRange, PeriodIn}

@@ -7,12 +7,12 @@ use mathlib.Core.Logic.{_⊎_}
 use mathlib.Core.List.{List}
 use lib.Dec.{leb, ltb, eqb}
 use lib.IntN.{ℤ}
-use Rattle.period.specs.declared.Found.{Found}
+use Rattle.search.specs.declared.Found.{Found}
 use Rattle.period.specs.declared.PeriodRecord.{PeriodRecord}
 use Rattle.period.specs.declared.Chosen.{Chosen}
 use Rattle.period.specs.Rates.{minPeriod, maxPeriod, maxRequired, skip}
-use Rattle.period.specs.Search.{findPitchPeriodInRange, widestGap}
-use Rattle.period.specs.Averages.{downSampleInput}
+use Rattle.search.specs.Search.{findPitchPeriodInRange, widestGap}
+use Rattle.averages.specs.Averages.{downSampleInput}
 
 -- what is searched where `per` samples make one value: the samples themselves (mono with skip 1), otherwise n averages
 unfoldable pub valuesOf : List ℤ → ℕ → ℕ → List ℤ

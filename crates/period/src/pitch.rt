@@ -1,16 +1,16 @@
 // The period that a step uses: which samples are searched, and the choice between the period found and the previous
 // one. `specs/Pitch.antt` says what each function gives.
 use crate::Chosen;
-use crate::Found;
 use crate::PeriodRecord;
 use frames::Frames;
 use frames::Samples;
+use search::Found;
 ghost use mathlib.Core.Path.{_≡_};
 ghost use Prim.Native.Nat.{_+_, _-_, _*_, _^_, _≤_, _<_, min, max};
 ghost use lib.ListN.{length};
 ghost use Rattle.period.specs.Rates.{minPeriod, maxPeriod, maxRequired, skip, InLimits};
-ghost use Rattle.period.specs.Search.{findPitchPeriodInRange, widestGap, Searchable};
-ghost use Rattle.period.specs.Averages.{Averageable};
+ghost use Rattle.search.specs.Search.{findPitchPeriodInRange, widestGap, Searchable};
+ghost use Rattle.averages.specs.Averages.{Averageable};
 ghost use Rattle.period.specs.Pitch.{valuesOf, coarse, fine, found, prevPeriodBetter, findPitchPeriod, InRange};
 ghost use Rattle.period.specs.Pitch.{PrevInOrder};
 
@@ -54,10 +54,10 @@ fn search_values(
 {
     let n = per_value.0;
     if n == 1 {
-        return crate::search::find_pitch_period_in_range(samples, low, high);
+        return search::find_pitch_period_in_range(samples, low, high);
     }
-    crate::averages::down_sample_input(samples, scratch, num_values, per_value);
-    crate::search::find_pitch_period_in_range(&scratch[..num_values], low, high)
+    averages::down_sample_input(samples, scratch, num_values, per_value);
+    search::find_pitch_period_in_range(&scratch[..num_values], low, high)
 }
 
 // The first search, over averages of `skip` frames each.

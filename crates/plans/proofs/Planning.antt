@@ -15,7 +15,7 @@ use lib.Ieee.{Float, binary32, mul, div, toUnsigned}
 use Rattle.floats.specs.Numbers.{two}
 use Rattle.floats.specs.Settings.{minPitch, maxPitch}
 use Rattle.period.specs.Rates.{minPeriod, maxPeriod, maxRequired, InLimits}
-use Rattle.period.specs.Search.{longestPeriod}
+use Rattle.search.specs.Search.{longestPeriod}
 use Rattle.rate.specs.Halving.{maxHalvedRate, ratesOf}
 use Rattle.rate.proofs.Halving.{RatesWithin, rates-within}
 use Rattle.stream.specs.declared.SonicStream.{SonicStream}

@@ -7,7 +7,7 @@ ghost use mathlib.Core.Path.{_≡_};
 ghost use mathlib.Core.Bool.{true};
 ghost use Prim.Native.Nat.{_*_, _^_, _≤_, _<_, min};
 ghost use lib.Dec.{leb};
-ghost use Rattle.period.specs.Search.{longestPeriod};
+ghost use Rattle.search.specs.Search.{longestPeriod};
 ghost use Rattle.stream.specs.Refusals.{inOrder};
 ghost use Rattle.plans.specs.Plans.{scratchArea, growthOf, fillTo, heldMost, stagedMost, madeMost, planOf};
 ghost use Rattle.plans.specs.Plans.{serviceOf};

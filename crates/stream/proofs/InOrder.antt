@@ -19,7 +19,7 @@ use lib.IntN.{ℤ}
 use lib.Ieee.{Float, le}
 use Rattle.floats.specs.Settings.{samplePeriod, minSpeed, maxSpeed, minPitch, maxPitch, minVolume, maxVolume}
 use Rattle.period.specs.Rates.{minPeriod, maxPeriod, InLimits}
-use Rattle.period.specs.Search.{widestGap}
+use Rattle.search.specs.Search.{widestGap}
 use Rattle.period.specs.Pitch.{InRange, PrevInOrder}
 use Rattle.rate.specs.declared.Rates.{Rates}
 use Rattle.rate.specs.Halving.{ratesOf}

@@ -21,7 +21,7 @@ use Rattle.floats.proofs.Signs.{le-no-nan}
 use Rattle.floats.proofs.Facts.{clamped-in, longest, period-range}
 use Rattle.period.specs.declared.PeriodRecord.{PeriodRecord}
 use Rattle.period.specs.Rates.{minPeriod, maxPeriod, InLimits}
-use Rattle.period.specs.Search.{widestGap}
+use Rattle.search.specs.Search.{widestGap}
 use Rattle.period.specs.Pitch.{PeriodIn, PrevInOrder}
 use Rattle.rate.specs.declared.Rates.{Rates}
 use Rattle.rate.specs.declared.Position.{Position}

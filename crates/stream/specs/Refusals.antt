@@ -9,7 +9,7 @@ use lib.ListN.{length}
 use Rattle.frames.specs.Areas.{Areas}
 use Rattle.floats.specs.Settings.{samplePeriod, minSpeed, maxSpeed, minPitch, maxPitch, minVolume, maxVolume}
 use Rattle.period.specs.Rates.{minPeriod, maxPeriod, maxRequired}
-use Rattle.period.specs.Search.{widestGap}
+use Rattle.search.specs.Search.{widestGap}
 use Rattle.rate.specs.declared.Rates.{Rates}
 use Rattle.rate.specs.Halving.{ratesOf}
 use Rattle.rate.specs.Tail.{ceilDiv}

@@ -16,7 +16,7 @@ use Rattle.floats.specs.Steps.{copyingDue, copyCount, skipCount, insertCount, e
 use Rattle.period.specs.declared.PeriodRecord.{PeriodRecord}
 use Rattle.period.specs.declared.Chosen.{Chosen}
 use Rattle.period.specs.Rates.{InLimits}
-use Rattle.period.specs.Search.{longestPeriod}
+use Rattle.search.specs.Search.{longestPeriod}
 use Rattle.period.specs.Pitch.{findPitchPeriod}
 use Rattle.stretch.specs.declared.StretchCall.{StretchCall}
 use Rattle.stretch.specs.declared.Place.{Place}

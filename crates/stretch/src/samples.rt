@@ -9,7 +9,7 @@ ghost use mathlib.Core.Path.{_≡_};
 ghost use Prim.Native.Nat.{_+_, _*_, _≤_};
 ghost use lib.ListN.{length};
 ghost use lib.Seq.{paste};
-ghost use Rattle.period.specs.Search.{longestPeriod};
+ghost use Rattle.search.specs.Search.{longestPeriod};
 ghost use Rattle.stretch.specs.Steps.{framesOut, framesRead, crossfaded, samplesOut};
 
 // Writes the frames that a step at the position makes at the place `to` of the stage.

@@ -1,7 +1,7 @@
 -- `kernels_c::engines_c::kernel_find_pitch_period_in_range` meets its contract: field by field. Assumes nothing.
 use borrow.Author.Needs.{needs}
 use mathlib.Core.Path.{ap}
-use Rattle.period.specs.declared.Found.{Found}
+use Rattle.search.specs.declared.Found.{Found}
 use Rattle.kernels_c.proofs.engines_c.kernel_find_pitch_period_in_range.Statement.{statement}
 use Rattle.kernels_c.proofs.engines_c.kernel_find_pitch_period_in_range.Tie as tie
 

@@ -5,7 +5,7 @@ use Prim.Native.Nat.{ℕ, _*_, _/_}
 use native.Mathlib.Omega.{arith}
 use native.Mathlib.Nat.{mul-le-mul}
 use Rattle.period.specs.Rates.{skip}
-use Rattle.period.specs.Search.{findPitchPeriodInRange}
+use Rattle.search.specs.Search.{findPitchPeriodInRange}
 use Rattle.period.specs.Pitch.{valuesOf, coarse}
 use Rattle.period.proofs.Ranges.{Skip, skip-in, coarse-searchable, coarse-averageable}
 use Rattle.period.proofs.pitch.coarse_search.Statement.{statement}

@@ -5,7 +5,7 @@ use mathlib.Core.Path.{_≡_, _∙_}
 use Prim.Native.Nat.{_+_, _-_, _*_, min, max}
 use native.Mathlib.Omega.{arith}
 use Rattle.period.specs.Rates.{minPeriod, maxPeriod, skip}
-use Rattle.period.specs.Search.{findPitchPeriodInRange}
+use Rattle.search.specs.Search.{findPitchPeriodInRange}
 use Rattle.period.specs.Pitch.{valuesOf, fine}
 use Rattle.period.proofs.Ranges.{skip-in, fine-searchable, fine-averageable}
 use Rattle.period.proofs.pitch.fine_search.Statement.{statement}

@@ -4,7 +4,7 @@ use mathlib.Core.Path.{_≡_, sym, ap, _∙_}
 use Prim.Native.Nat.{_*_}
 use native.Mathlib.Omega.{arith}
 use borrow.Author.Tests.{eq-eqb, ne-eqb}
-use Rattle.period.specs.declared.Found.{Found}
+use Rattle.search.specs.declared.Found.{Found}
 use Rattle.period.specs.Rates.{skip}
 use Rattle.period.specs.Pitch.{coarse, fine, found}
 use Rattle.period.proofs.Ranges.{near-high, near-low}

@@ -8,10 +8,10 @@ use borrow.Author.Tests.{eq-eqb, ne-eqb}
 use lib.IntN.{ℤ}
 use lib.ListN.{length, take, drop}
 use lib.Seq.{take-at}
-use Rattle.period.specs.Search.{findPitchPeriodInRange}
-use Rattle.period.specs.Averages.{downSampleInput}
+use Rattle.search.specs.Search.{findPitchPeriodInRange}
+use Rattle.averages.specs.Averages.{downSampleInput}
 use Rattle.period.specs.Pitch.{valuesOf}
-use Rattle.period.proofs.Means.{length-downSampleInput}
+use Rattle.averages.proofs.Means.{length-downSampleInput}
 use Rattle.period.proofs.pitch.search_values.Statement.{statement}
 use Rattle.period.proofs.pitch.search_values.Tie as tie
 

@@ -4,7 +4,7 @@ use mathlib.Core.Path.{_≡_, subst}
 use Prim.Native.Nat.{_+_, _*_, _≤_}
 use lib.ListN.{length}
 use Rattle.stretch.specs.declared.Step.{Step}
-use Rattle.period.specs.Search.{longestPeriod}
+use Rattle.search.specs.Search.{longestPeriod}
 use Rattle.stretch.specs.Steps.{framesOut, framesRead, crossfaded, samplesOut}
 use borrow.Author.Needs.{needs}
 use Rattle.stretch.proofs.samples.write_step.Statement.{statement}
