@@ -7,9 +7,10 @@ Each edit of crates/NAME/refused (a wrong program) and of crates/NAME/refused-de
 right program does not meet) is made in a copy of its crate, which `rt dev` must refuse. NAME...: only these crates.
 
 `rt must-fail` proves a whole crate again for each edit. Here the modules that the crate's proof left are laid into the
-copy's incremental folder, and only what the edit reaches is checked again. The crate as it is must be proved over that
-folder first. An edit fails if it is not refused, if a text of it does not stand exactly once in its file, if it does
-not reach the prover, or if what is refused first is no fact but a proof that does not fit the edited code (SHAPE).
+copy's incremental folder, and only what the edit reaches is checked again. (A program leaves none.) An edit fails if it
+is not refused, if it is refused elsewhere than its first line says, if a text of it does not stand exactly once in its
+file, if it does not reach the prover, or if what is refused first is no fact but a proof that does not fit the edited
+code (SHAPE).
 
     --long          the edits of refused-long/ too.
     --must-fail     the edits of must-fail/ too.
@@ -182,7 +183,6 @@ class Crate:
         self.name, self.edits = name, edits_of(name, flags)
         is_program = os.path.isfile(os.path.join("crates", name, "src/main.rt"))
         self.libraries = sorted(reached(name, deps) | (set() if is_program else {name}))
-        self.modules = None
 
     def is_proved(self):
         return all(stamp(library) for library in self.libraries)
@@ -204,29 +204,22 @@ class Crate:
         shutil.copytree(os.path.join(ROOM, "stamp"), os.path.join(where, "target/stamp"))
         return where
 
-    def prove(self, folder):
-        """Proves the crate as it is over the modules that its proof left. A program leaves none: they are made here."""
-        where = self.repository("as-it-is")
-        modules = os.path.join(where, "target/inc", self.name)
+    def lay_modules(self, where, folder):
+        """Lays the modules that the crate's proof left into the incremental folder of a trial."""
         checked = os.path.join(ROOM, "rlib", self.name + ".rlib", "toolchain/checked")
-        if os.path.isdir(checked):
-            shutil.copytree(checked, os.path.join(modules, folder))
-        status, lines = dev(where, self.name)
-        if status != 0:
-            raise Wrong(f"{self.name} as it is is not proved over its own modules:\n" + "\n".join(lines))
-        self.modules = modules
+        if folder and os.path.isdir(checked):
+            shutil.copytree(checked, os.path.join(where, "target/inc", self.name, folder))
 
-    def attempt(self, edit):
+    def attempt(self, edit, folder):
         """Tries an edit and tells how it went. Answers whether it is refused as it must be."""
         began = time.time()
         where = self.repository(edit.folder + "." + edit.label)
         try:
             edit.apply(os.path.join(where, "crates", self.name))
-            if self.modules:
-                shutil.copytree(self.modules, os.path.join(where, "target/inc", self.name))
+            self.lay_modules(where, folder)
             place = refused_at(*dev(where, self.name))
-            told = f"refused at {place}" + ("" if place in edit.lines[0] else ", not where its first line says")
-            good = True
+            good = place in edit.lines[0]
+            told = f"refused at {place}" + ("" if good else ", NOT WHERE ITS FIRST LINE SAYS")
         except Wrong as wrong:
             told, good = str(wrong), False
         shutil.rmtree(where)
@@ -277,15 +270,10 @@ def try_all(crates, flags):
     lay_out(crates)
     folder = None if "--from-nothing" in flags else modules_folder()
 
-    def begin(crate):
-        if folder:
-            crate.prove(folder)
-        return [(edit, pool.submit(crate.attempt, edit)) for edit in crate.edits]
-
     with ThreadPoolExecutor(int(os.environ.get("RT_JOBS") or min(4, os.cpu_count()))) as pool:
         try:
-            begun = [pool.submit(begin, crate) for crate in crates]
-            return [(edit, trial.result()) for trials in begun for edit, trial in trials.result()]
+            begun = [(edit, pool.submit(crate.attempt, edit, folder)) for crate in crates for edit in crate.edits]
+            return [(edit, trial.result()) for edit, trial in begun]
         except BaseException:
             pool.shutdown(wait=False, cancel_futures=True)
             for run in list(RUNNING):
