@@ -8,7 +8,7 @@ use lib.ListN.{getD}
 use mir.Syntax.{w16}
 use mir.Facts.{toZ-ofZ}
 use Rattle.averages.specs.Averages.{meanFrom}
-use Rattle.averages.proofs.Means.{Front, front-none, front-at, front-more, meanFrom-two}
+use Rattle.averages.proofs.Averaging.{Front, front-none, front-at, front-more, meanFrom-two}
 use Rattle.averages.proofs.down_sample_by_two.Statement.{statement}
 use Rattle.averages.proofs.down_sample_by_two.Tie as tie
 

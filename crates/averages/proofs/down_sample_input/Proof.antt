@@ -6,7 +6,7 @@ use native.Mathlib.Nat.{le-trans, zero-mul, add-mul, mul-le-mul-right}
 use native.Mathlib.Omega.{arith}
 use lib.ListN.{length, length-set}
 use Rattle.averages.specs.Averages.{meanFrom}
-use Rattle.averages.proofs.Means.{Front, front-none, front-at, front-more}
+use Rattle.averages.proofs.Averaging.{Front, front-none, front-at, front-more}
 use Rattle.averages.proofs.down_sample_input.Statement.{statement}
 use Rattle.averages.proofs.down_sample_input.Tie as tie
 

@@ -5,7 +5,7 @@ use lib.IntN.{_+ℤ_}
 use mir.Syntax.{w16, w32}
 use mir.Val.{toZ, ofZ}
 use Rattle.laws.proofs.Widening.{widened-fits}
-use Rattle.averages.proofs.Means.{Total, total-one, added-fits, added-total, quotient-fits, quotient-narrows, mean-reads}
+use Rattle.averages.proofs.Averaging.{Total, total-one, added-fits, added-total, quotient-fits, quotient-narrows, mean-reads}
 use Rattle.averages.proofs.mean_of_two.Statement.{statement}
 use Rattle.averages.proofs.mean_of_two.Tie as tie
 

@@ -4,8 +4,8 @@ use Prim.Native.Nat.{_+_, _-_, _≤_}
 use native.Mathlib.Omega.{arith}
 use mir.Syntax.{w32}
 use mir.Val.{toZ}
-use Rattle.averages.proofs.Means.{Total, total-none, total-at, sample-widens, added-fits, added-total}
-use Rattle.averages.proofs.Means.{quotient-fits, quotient-narrows, mean-reads}
+use Rattle.averages.proofs.Averaging.{Total, total-none, total-at, sample-widens, added-fits, added-total}
+use Rattle.averages.proofs.Averaging.{quotient-fits, quotient-narrows, mean-reads}
 use Rattle.averages.proofs.means_from.Statement.{statement}
 use Rattle.averages.proofs.means_from.Tie as tie
 

@@ -11,7 +11,7 @@ use lib.Seq.{take-at}
 use Rattle.search.specs.Search.{findPitchPeriodInRange}
 use Rattle.averages.specs.Averages.{downSampleInput}
 use Rattle.period.specs.Pitch.{valuesOf}
-use Rattle.averages.proofs.Means.{length-downSampleInput}
+use Rattle.averages.proofs.Averaging.{length-downSampleInput}
 use Rattle.period.proofs.pitch.search_values.Statement.{statement}
 use Rattle.period.proofs.pitch.search_values.Tie as tie
 
