@@ -20,7 +20,7 @@ use Rattle.stream.specs.Order.{StreamReady}
 use Rattle.stream.specs.Refusals.{stageFull, outputFull, inOrder, refusal}
 use Rattle.stream.proofs.InOrder.{tests-of, ranges-of, ranges-same}
 use Rattle.stream.proofs.Stays.{ready-in-order}
-use Rattle.process.specs.declared.Outcome.{Outcome}
+use Rattle.fill.specs.declared.Outcome.{Outcome}
 use Rattle.process.specs.declared.Work.{Work}
 use Rattle.process.specs.Process.{Made, joined, process}
 use Rattle.process.specs.Streams.{joinedStream}

@@ -15,7 +15,7 @@ use Rattle.stream.specs.declared.SonicStream.{SonicStream}
 use Rattle.stream.specs.State.{State}
 use Rattle.stream.specs.Stream.{streamOf}
 use Rattle.stream.specs.Refusals.{accepted, badStream, badAreas, inputFull, stageFull, outputFull, inOrder, areasBad, tooShort, refusal}
-use Rattle.process.specs.declared.Outcome.{Outcome}
+use Rattle.fill.specs.declared.Outcome.{Outcome}
 use Rattle.adding.specs.declared.Wrote.{Wrote}
 use Rattle.adding.specs.Calls.{CallResult, refusedCall, acceptedCall, callBy, CallEnsures, OrderAfter}
 use Rattle.adding.specs.Adding.{Accepted}

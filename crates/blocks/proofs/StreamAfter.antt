@@ -10,7 +10,7 @@ use Rattle.stream.specs.declared.SonicStream.{SonicStream}
 use Rattle.stream.specs.State.{State}
 use Rattle.stream.specs.Stream.{stateOf, streamOf}
 use Rattle.stream.specs.Refusals.{refusal}
-use Rattle.process.specs.declared.Outcome.{Outcome}
+use Rattle.fill.specs.declared.Outcome.{Outcome}
 use Rattle.process.specs.Process.{Made, wholeFrames, writeWork}
 use Rattle.process.proofs.Taken.{write-settings}
 use Rattle.adding.specs.Calls.{refusedCall, acceptedCall, callBy, writeCall, streamAfter}

@@ -35,7 +35,7 @@ use Rattle.stream.specs.Refusals.{
   areasBad,
   tooShort,
 }
-use Rattle.process.specs.declared.Outcome.{Outcome}
+use Rattle.fill.specs.declared.Outcome.{Outcome}
 use Rattle.process.specs.declared.Work.{Work}
 use Rattle.process.specs.Process.{Made, joined, flushWork, expected, cleared}
 use Rattle.process.specs.Streams.{joinedStream}

@@ -1,8 +1,8 @@
 // An answer's line of stored runs (docs/VECTORS.md): what a call answers, then every field of the stream that it hands
 // back, and the sums over the samples kept.
+use fill::Outcome;
 use frames::Frames;
 use libc::STDOUT_FILENO;
-use process::Outcome;
 use scripts::sums::area_sum;
 use scripts::sums::bits;
 use stream::SonicStream;

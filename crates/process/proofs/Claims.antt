@@ -16,10 +16,11 @@ use Rattle.stretch.specs.Steps.{framesOut, StretchReady}
 use Rattle.stretch.specs.Speed as Speed
 use Rattle.stretch.proofs.Claims as Stretch
 use Rattle.stream.specs.State.{State}
-use Rattle.process.specs.declared.Outcome.{Outcome}
-use Rattle.process.specs.declared.Outcome.the-variants.{Empty, Copied, Waiting, Stretched, Stalled}
-use Rattle.process.specs.Process.{Taken, nothing, copied, stretched, takenAt, taken, speedAt, callAt, placeOf, stepsAt, finished, process}
-use Rattle.process.proofs.Branches.{speed-fits}
+use Rattle.fill.specs.declared.Outcome.{Outcome}
+use Rattle.fill.specs.declared.Outcome.the-variants.{Empty, Copied, Waiting, Stretched, Stalled}
+use Rattle.fill.specs.Taking.{Taken, nothing, copied, stretched, takenAt, taken, speedAt, callAt, placeOf, stepsAt}
+use Rattle.process.specs.Process.{finished, process}
+use Rattle.fill.proofs.Branches.{speed-fits}
 
 -- what the claim asks of a state: rate and channels in range, few frames, a period record in the range
 pub record Held (s : State) : Type 0 where

@@ -24,7 +24,7 @@ use Rattle.stream.specs.declared.SonicStream.{SonicStream}
 use Rattle.stream.specs.State.{State, withTail}
 use Rattle.stream.specs.Stream.{stateOf, streamOf, ChangedBy}
 use Rattle.process.specs.declared.Work.{Work}
-use Rattle.process.specs.declared.fill.Filled.{Filled}
+use Rattle.fill.specs.declared.Filled.{Filled}
 use Rattle.process.specs.Finishing.{FinishReady, CommitReady, FinishedBy, adjustedAs}
 
 -- ---- volume: a map over the samples of frames

@@ -13,7 +13,8 @@ use Rattle.period.specs.declared.PeriodRecord.{PeriodRecord}
 use Rattle.rate.specs.declared.Position.{Position}
 use Rattle.stretch.specs.declared.Stretch.{Stretch}
 use Rattle.stream.specs.State.{State, withInput, withTail}
-use Rattle.process.specs.Process.{joined, removed, stepped, cleared}
+use Rattle.fill.specs.Taking.{removed, stepped}
+use Rattle.process.specs.Process.{joined, cleared}
 
 -- t has the rate, the channels and the settings of s
 pub record SameSettings (s t : State) : Type 0 where

@@ -7,8 +7,9 @@ use lib.ListN.{length}
 use Rattle.floats.specs.Write.{speedChanges}
 use Rattle.period.specs.Rates.{maxRequired}
 use Rattle.stream.specs.State.{State}
-use Rattle.process.specs.declared.Outcome.{Outcome}
-use Rattle.process.specs.Process.{Taken, nothing, copied, stretched, takenAt, speedAt, taken, finished, process, writeWork, flushWork}
+use Rattle.fill.specs.declared.Outcome.{Outcome}
+use Rattle.fill.specs.Taking.{Taken, nothing, copied, stretched, takenAt, speedAt, taken}
+use Rattle.process.specs.Process.{finished, process, writeWork, flushWork}
 use Rattle.process.proofs.States.{
   SameSettings,
   Keeps,

@@ -16,11 +16,12 @@ use Rattle.stream.specs.State.{State, withTail}
 use Rattle.stream.specs.Stream.{stateOf, streamOf, ChangedBy}
 use Rattle.stream.specs.Order.{StateReady, StreamReady}
 use Rattle.stream.proofs.Streams.{changed-back, tail-alike, ready-stream, ready-tail}
-use Rattle.process.specs.declared.Outcome.{Outcome}
+use Rattle.fill.specs.declared.Outcome.{Outcome}
 use Rattle.process.specs.declared.Work.{Work}
-use Rattle.process.specs.declared.fill.Filled.{Filled}
-use Rattle.process.specs.Process.{Taken, Made, taken, finished, process}
-use Rattle.process.specs.Filling.{FilledAs}
+use Rattle.fill.specs.declared.Filled.{Filled}
+use Rattle.fill.specs.Taking.{Taken, taken}
+use Rattle.process.specs.Process.{Made, finished, process}
+use Rattle.fill.specs.Filling.{FilledAs}
 use Rattle.process.specs.Finishing.{FinishReady, FinishedAs, FinishedBy, conversionOf, FinishEnsures}
 use Rattle.process.specs.Working.{AreasReady, WorkedAs, WorkedBy, WorkEnsures}
 use Rattle.process.proofs.States.{Keeps}

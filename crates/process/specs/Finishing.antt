@@ -15,9 +15,9 @@ use Rattle.stream.specs.declared.SonicStream.{SonicStream}
 use Rattle.stream.specs.State.{State, withTail}
 use Rattle.stream.specs.Stream.{stateOf, ChangedBy}
 use Rattle.stream.specs.Order.{StreamReady}
-use Rattle.process.specs.declared.Outcome.{Outcome}
+use Rattle.fill.specs.declared.Outcome.{Outcome}
 use Rattle.process.specs.declared.Work.{Work}
-use Rattle.process.specs.declared.fill.Filled.{Filled}
+use Rattle.fill.specs.declared.Filled.{Filled}
 
 -- ---- required
 

@@ -1,5 +1,4 @@
 pub mod Process
 pub mod Streams
-pub mod Filling
 pub mod Finishing
 pub mod Working

@@ -1,10 +1,7 @@
 -- What the functions of `process` say of a stream by its state. Definitions only. Assumes nothing.
 use mathlib.Core.List.{[]}
 use Prim.Native.Nat.{ℕ}
-use lib.Ieee.{Float}
 use lib.ListN.{replicate}
-use Rattle.floats.specs.Settings.{samplePeriod}
-use Rattle.floats.specs.Write.{localSpeed}
 use Rattle.stream.specs.declared.SonicStream.{SonicStream}
 use Rattle.stream.specs.Stream.{streamOf, unlent}
 use Rattle.process.specs.Process.{joined}
@@ -12,7 +9,3 @@ use Rattle.process.specs.Process.{joined}
 -- the stream s when n frames have joined its input
 abbrev pub joinedStream : ℕ → SonicStream → SonicStream
 joinedStream n s = streamOf (joined (replicate n []) (unlent s)) (s .waiting .0)
-
--- the local speed
-abbrev pub speedOf : SonicStream → Float
-speedOf s = localSpeed (s .held .0) (samplePeriod (s .rate)) (s .«input_play_time»)

@@ -9,10 +9,10 @@ use Rattle.frames.specs.Framing.{framesOf}
 use Rattle.stream.specs.declared.SonicStream.{SonicStream}
 use Rattle.stream.specs.Stream.{stateOf, streamOf}
 use Rattle.stream.specs.Order.{StreamReady}
-use Rattle.process.specs.declared.Outcome.{Outcome}
+use Rattle.fill.specs.declared.Outcome.{Outcome}
 use Rattle.process.specs.declared.Work.{Work}
 use Rattle.process.specs.Process.{Made, process}
-use Rattle.process.specs.Filling.{FillReady}
+use Rattle.fill.specs.Filling.{FillReady}
 
 -- ---- required
 

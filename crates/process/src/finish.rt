@@ -1,7 +1,7 @@
 // The second half of a call's work: rate and volume, into the output behind the frames waiting; then what was used
 // leaves input and tail.
 use crate::Work;
-use crate::fill::Filled;
+use fill::Filled;
 use frames::Frames;
 use rate::Adjusted;
 use rate::Adjustment;

@@ -1,10 +1,10 @@
 // One call's work on a stream: frames that a write or a flush added are copied or stretched, then rate and volume
 // follow. `specs/Process.antt` says what becomes of the samples. Work goes into the free parts of the areas first and
 // is committed at the end.
-mod fill;
 mod finish;
 
 use fill::Fill;
+pub use fill::Outcome;
 use frames::Frames;
 use stream::SonicStream;
 ghost use mathlib.Core.Path.{_≡_};
@@ -14,15 +14,6 @@ ghost use Rattle.floats.specs.Settings.{samplePeriod};
 ghost use Rattle.stream.specs.Order.{StreamReady};
 ghost use Rattle.process.specs.Streams.{joinedStream};
 ghost use Rattle.process.specs.Working.{AreasReady, WorkEnsures};
-
-// How a call's work went.
-pub enum Outcome {
-    Empty,
-    Copied,
-    Waiting,
-    Stretched,
-    Stalled,
-}
 
 // A call's work: no room in the stage, no room in the output, or done.
 pub enum Work {

@@ -8,8 +8,8 @@ use mathlib.Core.Path.{_≡_}
 use mathlib.Core.Bool.{Bool, true, false, not, cond, _&&_, _||_}
 use Prim.Native.Nat.{ℕ, _+_, _-_, _*_, _/_, _%_, _^_, _≤_, _<_}
 use lib.Dec.{eqb, ltb}
-use Rattle.process.specs.declared.Outcome.{Outcome}
-use Rattle.process.specs.declared.Outcome.the-variants.{Empty, Copied, Waiting, Stretched, Stalled}
+use Rattle.fill.specs.declared.Outcome.{Outcome}
+use Rattle.fill.specs.declared.Outcome.the-variants.{Empty, Copied, Waiting, Stretched, Stalled}
 use Rattle.stream.specs.declared.SonicStream.{SonicStream}
 use Rattle.adding.specs.declared.Wrote.{Wrote}
 use Rattle.read.specs.declared.Gave.{Gave}

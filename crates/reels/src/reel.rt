@@ -1,9 +1,9 @@
 // A run: its stream, with what is told of it at the end.
 use adding::Wrote;
+use fill::Outcome;
 use frames::Frames;
 use libc::STDOUT_FILENO;
 use plans::BLOCK_SAMPLES;
-use process::Outcome;
 use read::Gave;
 use stream::SonicStream;
 use stream::refusals;

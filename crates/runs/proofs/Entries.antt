@@ -5,7 +5,7 @@ use mathlib.Core.List.{List, [], _∷_, _++_, map, map-append}
 use Prim.Native.Nat.{ℕ}
 use lib.Ieee.{Float}
 use Rattle.floats.specs.Write.{sampleIn}
-use Rattle.process.specs.declared.Outcome.{Outcome}
+use Rattle.fill.specs.declared.Outcome.{Outcome}
 use Rattle.process.specs.Process.{wholeFrames}
 use Rattle.runs.specs.Ledger.{Call, setting, write, flush, read, Fed, Ledger, entry, posted, ledgerFrom}
 use Rattle.runs.specs.Demand.{unlessRead, acceptedIn, All, CopiedOrEmpty, Mark, at-setting, at-flush, Segment, Joined, marked, joinedFrames}

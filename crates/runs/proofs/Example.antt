@@ -27,8 +27,9 @@ use Rattle.stream.specs.Stream.{stateOf, streamOf}
 use Rattle.stream.specs.Refusals.{badAreas, inputFull, rateBad, channelsBad, limitsInOrder, periodInOrder, settingsInOrder, prevInOrder, positionsInOrder}
 use Rattle.stream.specs.Refusals.{inOrder, sizesBad, partsBad, areasBad, outputBad, refusal, readRefusal}
 use Rattle.stream.specs.Settings.{fresh, withSetting, openCall, setCall}
-use Rattle.process.specs.declared.Outcome.the-variants.{Copied}
-use Rattle.process.specs.Process.{wholeFrames, joined, removed, nothing, copied, takenAt, taken, finished, process, writeWork, flushWork, expected, cleared}
+use Rattle.fill.specs.declared.Outcome.the-variants.{Copied}
+use Rattle.fill.specs.Taking.{removed, nothing, copied, takenAt, taken}
+use Rattle.process.specs.Process.{wholeFrames, joined, finished, process, writeWork, flushWork, expected, cleared}
 use Rattle.adding.specs.declared.Wrote.{Wrote}
 use Rattle.read.specs.declared.Gave.{Gave}
 use Rattle.adding.specs.Calls.{refusedCall, acceptedCall, writeCall, flushCall}

@@ -30,8 +30,9 @@ use Rattle.stream.specs.Stream.{stateOf, streamOf}
 use Rattle.stream.specs.Refusals.{rateBad, channelsBad, limitsInOrder, periodInOrder, settingsInOrder, prevInOrder, positionsInOrder, inOrder}
 use Rattle.stream.specs.Refusals.{sizesBad, partsBad, areasBad, refusal}
 use Rattle.stream.specs.Settings.{fresh, withSetting, openCall, setCall}
-use Rattle.process.specs.declared.Outcome.the-variants.{Copied}
-use Rattle.process.specs.Process.{wholeFrames, joined, removed, nothing, copied, takenAt, taken, finished, process, writeWork, flushWork, expected, cleared}
+use Rattle.fill.specs.declared.Outcome.the-variants.{Copied}
+use Rattle.fill.specs.Taking.{removed, nothing, copied, takenAt, taken}
+use Rattle.process.specs.Process.{wholeFrames, joined, finished, process, writeWork, flushWork, expected, cleared}
 use Rattle.adding.specs.declared.Wrote.{Wrote}
 use Rattle.adding.specs.Calls.{refusedCall, acceptedCall, writeCall, flushCall}
 use Rattle.runs.specs.Ledger.{setting, write, begun, entry, posted, ledgerFrom, ledger}

@@ -19,9 +19,10 @@ use Rattle.stream.specs.declared.Setting.{Setting}
 use Rattle.stream.specs.declared.Setting.the-variants.{Speed, Pitch, Volume}
 use Rattle.stream.specs.State.{State}
 use Rattle.stream.specs.Settings.{withSetting}
-use Rattle.process.specs.declared.Outcome.{Outcome}
-use Rattle.process.specs.declared.Outcome.the-variants.{Empty, Waiting, Stretched, Stalled}
-use Rattle.process.specs.Process.{Taken, Made, wholeFrames, joined, removed, nothing, copied, stepsAt, stretched, takenAt, speedAt, taken, finished}
+use Rattle.fill.specs.declared.Outcome.{Outcome}
+use Rattle.fill.specs.declared.Outcome.the-variants.{Empty, Waiting, Stretched, Stalled}
+use Rattle.fill.specs.Taking.{Taken, removed, nothing, copied, stepsAt, stretched, takenAt, speedAt, taken}
+use Rattle.process.specs.Process.{Made, wholeFrames, joined, finished}
 use Rattle.process.specs.Process.{process, writeWork, flushWork, expected, cleared}
 use Rattle.runs.specs.Ledger.{Call, setting, write, flush, read, Ledger, entry}
 use Rattle.runs.specs.Demand.{CopiedOrEmpty}

@@ -11,7 +11,7 @@ use Rattle.floats.specs.Write.{sampleOut}
 use Rattle.stream.specs.declared.SonicStream.{SonicStream}
 use Rattle.stream.specs.State.{State}
 use Rattle.stream.specs.Stream.{streamOf}
-use Rattle.process.specs.declared.Outcome.{Outcome}
+use Rattle.fill.specs.declared.Outcome.{Outcome}
 use Rattle.adding.specs.declared.Wrote.{Wrote}
 use Rattle.adding.specs.Calls.{refusedCall, acceptedCall, callBy, CallEnsures}
 use Rattle.runs.specs.Ledger.{Call, Ledger, entry, posted}

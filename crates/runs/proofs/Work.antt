@@ -24,8 +24,9 @@ use Rattle.stream.specs.declared.Setting.{Setting}
 use Rattle.stream.specs.declared.Setting.the-variants.{Speed, Pitch, Volume}
 use Rattle.stream.specs.State.{State, withSettings, withInput}
 use Rattle.stream.specs.Settings.{withSetting}
-use Rattle.process.specs.declared.Outcome.the-variants.{Empty, Waiting}
-use Rattle.process.specs.Process.{Taken, removed, nothing, copied, callAt, placeOf, stepsAt, stepped, stretched, takenAt, speedAt, taken, finished, process}
+use Rattle.fill.specs.declared.Outcome.the-variants.{Empty, Waiting}
+use Rattle.fill.specs.Taking.{Taken, removed, nothing, copied, callAt, placeOf, stepsAt, stepped, stretched, takenAt, speedAt, taken}
+use Rattle.process.specs.Process.{finished, process}
 
 -- what holds of both holds of the one chosen
 pub cond-cases : {A : Type 0} (P : A → Type 0) (b : Bool) (x y : A) → (b ≡ true → P x) → (b ≡ false → P y) → P (cond b x y)

@@ -16,8 +16,8 @@ use Rattle.stream.specs.declared.Setting.{Setting}
 use Rattle.stream.specs.declared.Setting.the-variants.{Speed, Pitch, Volume}
 use Rattle.stream.specs.declared.Opened.{Opened}
 use Rattle.stream.specs.Settings.{openCall}
-use Rattle.process.specs.declared.Outcome.{Outcome}
-use Rattle.process.specs.declared.Outcome.the-variants.{Empty, Copied, Waiting, Stretched, Stalled}
+use Rattle.fill.specs.declared.Outcome.{Outcome}
+use Rattle.fill.specs.declared.Outcome.the-variants.{Empty, Copied, Waiting, Stretched, Stalled}
 use Rattle.process.specs.Process.{wholeFrames}
 use Rattle.runs.specs.Ledger.{Call, setting, write, flush, read, Fed, Ledger, ledger}
 use Rattle.runs.specs.Run.{Event, Moment, opening, Run, end, values, total, fed}

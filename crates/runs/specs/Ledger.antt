@@ -9,7 +9,7 @@ use Rattle.frames.specs.Framing.{Frame}
 use Rattle.stream.specs.declared.Setting.{Setting}
 use Rattle.stream.specs.State.{State}
 use Rattle.stream.specs.Settings.{fresh, withSetting}
-use Rattle.process.specs.declared.Outcome.{Outcome}
+use Rattle.fill.specs.declared.Outcome.{Outcome}
 use Rattle.process.specs.Process.{Made, writeWork, flushWork, expected, cleared}
 
 -- a call with its arguments: a setting, the samples of a write, a flush, the maximum that a read names

@@ -18,7 +18,7 @@ use Rattle.stream.specs.Stream.{stateOf}
 use Rattle.stream.specs.Refusals.{accepted, refusal}
 use Rattle.stream.proofs.InOrder.{limits-of, ready-of}
 use Rattle.stream.proofs.AreaTests.{areas-of}
-use Rattle.process.specs.declared.Outcome.{Outcome}
+use Rattle.fill.specs.declared.Outcome.{Outcome}
 use Rattle.process.specs.Process.{wholeFrames, joined, writeWork, flushWork}
 use Rattle.process.proofs.Claims.{Held, StallsExactly, stalled-exactly}
 use Rattle.adding.specs.declared.Wrote.{Wrote}

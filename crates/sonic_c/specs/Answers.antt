@@ -12,8 +12,8 @@ use Rattle.stream.specs.declared.Opened as open-answer
 use Rattle.stream.specs.declared.Changed as set-answer
 use Rattle.stream.specs.declared.Available as available-answer
 use Rattle.stream.specs.Refusals.{accepted}
-use Rattle.process.specs.declared.Outcome.{Outcome}
-use Rattle.process.specs.declared.Outcome.the-variants.{Empty, Copied, Waiting, Stretched, Stalled}
+use Rattle.fill.specs.declared.Outcome.{Outcome}
+use Rattle.fill.specs.declared.Outcome.the-variants.{Empty, Copied, Waiting, Stretched, Stalled}
 use Rattle.adding.specs.declared.Wrote as write-answer
 use Rattle.read.specs.declared.Gave as read-answer
 use Rattle.adding.specs.Calls.{CallResult}

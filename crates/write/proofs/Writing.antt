@@ -17,7 +17,7 @@ use Rattle.floats.specs.Write.{sampleIn}
 use Rattle.stream.specs.declared.SonicStream.{SonicStream}
 use Rattle.stream.specs.Stream.{stateOf, streamOf}
 use Rattle.stream.specs.Refusals.{badStream, badAreas, inputFull, inOrder, areasBad, tooShort}
-use Rattle.process.specs.declared.Outcome.{Outcome}
+use Rattle.fill.specs.declared.Outcome.{Outcome}
 use Rattle.process.specs.declared.Work.{Work}
 use Rattle.process.specs.Process.{Made, wholeFrames, joined, writeWork}
 use Rattle.process.specs.Streams.{joinedStream}

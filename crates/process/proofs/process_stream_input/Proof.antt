@@ -5,8 +5,8 @@ use mathlib.Core.Path.{_≡_, refl, subst}
 use mathlib.Core.List.{List}
 use lib.IntN.{ℤ}
 use Rattle.frames.specs.Areas.{Areas, areas}
-use Rattle.process.specs.declared.fill.Fill.{Fill}
-use Rattle.process.specs.Filling.{FillEnsures}
+use Rattle.fill.specs.declared.Fill.{Fill}
+use Rattle.fill.specs.Filling.{FillEnsures}
 use Rattle.process.proofs.Working.{finish-ready, work-done, work-full}
 use Rattle.process.proofs.process_stream_input.Statement.{statement}
 use Rattle.process.proofs.process_stream_input.Tie as tie

@@ -6,7 +6,7 @@ use native.Mathlib.Omega.{arith}
 use lib.IntN.{ℤ}
 use Rattle.frames.specs.Areas.{areas}
 use Rattle.frames.proofs.Room.{count-le}
-use Rattle.process.proofs.Filling.{ready-limits}
+use Rattle.fill.proofs.Filling.{ready-limits}
 use Rattle.process.proofs.Finishing.{moved-as, used-fits, left-fits, commit-done}
 use Rattle.process.proofs.finish.commit.Statement.{statement}
 use Rattle.process.proofs.finish.commit.Tie as tie

@@ -1,4 +1,4 @@
--- `process::fill::stretch_input` meets its contract: places, what the stretch is handed and answers, the needs that it answers, what is
+-- `fill::stretch_input` meets its contract: places, what the stretch is handed and answers, the needs that it answers, what is
 -- closed by search. Assumes nothing.
 use borrow.Author.Needs.{needs}
 use mathlib.Core.Path.{_≡_, sym, subst}
@@ -11,10 +11,10 @@ use lib.ListN.{length, take}
 use Rattle.frames.proofs.Room.{room-under}
 use Rattle.stretch.specs.declared.Stretched as S
 use Rattle.stream.specs.Stream.{stateOf}
-use Rattle.process.proofs.Filling.{ready-limits, tail-le}
-use Rattle.process.proofs.Stretching.{StretchDue, StretchAnswered, call-ready, lent-long, stretched-full, stretched-used, stretched-filled}
-use Rattle.process.proofs.fill.stretch_input.Statement.{statement}
-use Rattle.process.proofs.fill.stretch_input.Tie as tie
+use Rattle.fill.proofs.Filling.{ready-limits, tail-le}
+use Rattle.fill.proofs.Stretching.{StretchDue, StretchAnswered, call-ready, lent-long, stretched-full, stretched-used, stretched-filled}
+use Rattle.fill.proofs.stretch_input.Statement.{statement}
+use Rattle.fill.proofs.stretch_input.Tie as tie
 
 -- ---- places
 

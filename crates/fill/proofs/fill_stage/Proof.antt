@@ -1,4 +1,4 @@
--- `process::fill::fill_stage` meets its contract: places, what the code tests, the needs that it answers, what is closed by search.
+-- `fill::fill_stage` meets its contract: places, what the code tests, the needs that it answers, what is closed by search.
 -- Assumes nothing.
 use borrow.Author.Needs.{needs}
 use mathlib.Core.Path.{_≡_, sym, ap, _∙_}
@@ -8,10 +8,10 @@ use native.Mathlib.Omega.{arith}
 use lib.Ieee.{Float}
 use Rattle.floats.specs.Write.{localSpeed, speedChanges}
 use Rattle.period.specs.Rates.{maxRequired}
-use Rattle.process.specs.Streams.{speedOf}
-use Rattle.process.proofs.Filling.{held-few, empty-filled, waiting-filled}
-use Rattle.process.proofs.fill.fill_stage.Statement.{statement}
-use Rattle.process.proofs.fill.fill_stage.Tie as tie
+use Rattle.fill.specs.Filling.{speedOf}
+use Rattle.fill.proofs.Filling.{held-few, empty-filled, waiting-filled}
+use Rattle.fill.proofs.fill_stage.Statement.{statement}
+use Rattle.fill.proofs.fill_stage.Tie as tie
 
 -- ---- places
 

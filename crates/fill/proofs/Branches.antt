@@ -12,8 +12,8 @@ use Rattle.floats.specs.Numbers.{count}
 use Rattle.floats.specs.Write.{localSpeed, speedChanges}
 use Rattle.period.specs.Rates.{maxRequired}
 use Rattle.stream.specs.State.{State}
-use Rattle.process.specs.declared.Outcome.the-variants.{Empty, Waiting}
-use Rattle.process.specs.Process.{nothing, copied, stretched, takenAt, speedAt, taken}
+use Rattle.fill.specs.declared.Outcome.the-variants.{Empty, Waiting}
+use Rattle.fill.specs.Taking.{nothing, copied, stretched, takenAt, speedAt, taken}
 
 pub speed-fits : (held : ℕ) (period play : Float) → T (fits binary32 (localSpeed held period play))
 unfolding localSpeed

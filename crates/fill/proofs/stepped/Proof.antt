@@ -1,11 +1,11 @@
--- `process::fill::stepped` meets its contract. Assumes nothing.
+-- `fill::stepped` meets its contract. Assumes nothing.
 use borrow.Author.Needs.{needs}
 use mathlib.Core.Path.{refl}
 use Rattle.frames.proofs.Framing.{length-framesOf}
 use Rattle.stream.specs.Stream.{stateOf, streamOf}
-use Rattle.process.specs.Process.{stepped}
-use Rattle.process.proofs.fill.stepped.Statement.{statement}
-use Rattle.process.proofs.fill.stepped.Tie as tie
+use Rattle.fill.specs.Taking.{stepped}
+use Rattle.fill.proofs.stepped.Statement.{statement}
+use Rattle.fill.proofs.stepped.Tie as tie
 
 returns : tie.Need-returns
 unfolding stepped stateOf streamOf

@@ -5,18 +5,25 @@ use mathlib.Core.Bool.{cond}
 use mathlib.Core.List.{List}
 use Prim.Native.Nat.{_*_, _^_, _≤_}
 use lib.IntN.{ℤ}
+use lib.Ieee.{Float}
 use lib.ListN.{length, drop}
 use Rattle.frames.specs.Framing.{framesOf, Behind, NoRoom}
+use Rattle.floats.specs.Settings.{samplePeriod}
+use Rattle.floats.specs.Write.{localSpeed}
 use Rattle.period.specs.Rates.{maxRequired}
 use Rattle.period.specs.Pitch.{PrevInOrder}
 use Rattle.stretch.specs.declared.Stretch.{Stretch}
 use Rattle.stream.specs.declared.SonicStream.{SonicStream}
 use Rattle.stream.specs.Stream.{stateOf, streamOf, ChangedBy}
-use Rattle.process.specs.declared.Outcome.{Outcome}
-use Rattle.process.specs.declared.Outcome.the-variants.{Stretched, Stalled}
-use Rattle.process.specs.declared.fill.Filled.{Filled}
-use Rattle.process.specs.declared.fill.Fill.{Fill}
-use Rattle.process.specs.Process.{Taken, taken, stepped}
+use Rattle.fill.specs.declared.Outcome.{Outcome}
+use Rattle.fill.specs.declared.Outcome.the-variants.{Stretched, Stalled}
+use Rattle.fill.specs.declared.Filled.{Filled}
+use Rattle.fill.specs.declared.Fill.{Fill}
+use Rattle.fill.specs.Taking.{Taken, taken, stepped}
+
+-- the local speed
+abbrev pub speedOf : SonicStream → Float
+speedOf s = localSpeed (s .held .0) (samplePeriod (s .rate)) (s .«input_play_time»)
 
 -- ---- required
 

@@ -25,13 +25,13 @@ use Rattle.stream.specs.State.{State}
 use Rattle.stream.specs.Stream.{stateOf, streamOf, ChangedBy}
 use Rattle.stream.specs.Order.{StreamReady}
 use Rattle.stream.proofs.Streams.{held-is, own}
-use Rattle.process.specs.declared.Outcome.{Outcome}
-use Rattle.process.specs.declared.Outcome.the-variants.{Empty, Copied, Waiting}
-use Rattle.process.specs.declared.fill.Fill.{Fill}
-use Rattle.process.specs.Process.{Taken, nothing, removed, copied, speedAt}
-use Rattle.process.specs.Streams.{speedOf}
-use Rattle.process.specs.Filling.{AreasFit, nothingFilled, FilledBy, FillEnsures}
-use Rattle.process.proofs.Branches.{taken-empty, taken-waiting, taken-copied}
+use Rattle.fill.specs.declared.Outcome.{Outcome}
+use Rattle.fill.specs.declared.Outcome.the-variants.{Empty, Copied, Waiting}
+use Rattle.fill.specs.declared.Fill.{Fill}
+use Rattle.fill.specs.Taking.{Taken, nothing, removed, copied, speedAt}
+use Rattle.fill.specs.Filling.{speedOf}
+use Rattle.fill.specs.Filling.{AreasFit, nothingFilled, FilledBy, FillEnsures}
+use Rattle.fill.proofs.Branches.{taken-empty, taken-waiting, taken-copied}
 
 -- ---- counts
 

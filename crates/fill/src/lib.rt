@@ -1,5 +1,4 @@
 // The first half of a call's work: copied or stretched frames, into the stage behind the tail. The input stays.
-use crate::Outcome;
 use frames::Frames;
 use frames::Samples;
 use period::PeriodRecord;
@@ -15,9 +14,17 @@ ghost use Rattle.floats.specs.Write.{speedChanges};
 ghost use Rattle.period.specs.Rates.{maxRequired};
 ghost use Rattle.stream.specs.Stream.{ChangedBy};
 ghost use Rattle.stream.specs.Order.{StreamReady};
-ghost use Rattle.process.specs.Process.{removed};
-ghost use Rattle.process.specs.Streams.{speedOf};
-ghost use Rattle.process.specs.Filling.{AreasFit, FillReady, SteppedAs, nothingFilled, FillEnsures};
+ghost use Rattle.fill.specs.Taking.{removed};
+ghost use Rattle.fill.specs.Filling.{speedOf, AreasFit, FillReady, SteppedAs, nothingFilled, FillEnsures};
+
+// How a call's work went.
+pub enum Outcome {
+    Empty,
+    Copied,
+    Waiting,
+    Stretched,
+    Stalled,
+}
 
 // New frames in the stage, frames of the input to be removed, the stream without these, and the outcome.
 pub struct Filled {
@@ -163,7 +170,7 @@ fn nothing(stream: SonicStream, outcome: Outcome) -> Fill
 }
 
 // The frames of a call, before rate and volume.
-pub(crate) fn fill_stage(
+pub fn fill_stage(
     stream: SonicStream,
     input: &[i16],
     stage: &mut [i16],

@@ -1,4 +1,4 @@
--- `process::fill::copy_input` meets its contract: places, the room in the stage, the needs that it answers, what is closed by search.
+-- `fill::copy_input` meets its contract: places, the room in the stage, the needs that it answers, what is closed by search.
 -- Assumes nothing.
 use borrow.Author.Needs.{needs}
 use Prim.Native.Nat.{_+_, _*_, _≤_}
@@ -6,9 +6,9 @@ use native.Mathlib.Nat.{add-mul, le-refl}
 use native.Mathlib.Omega.{arith}
 use lib.ListN.{length}
 use Rattle.frames.proofs.Room.{room-over, room-under}
-use Rattle.process.proofs.Filling.{ready-limits, held-few, tail-le, copied-full, copied-filled}
-use Rattle.process.proofs.fill.copy_input.Statement.{statement}
-use Rattle.process.proofs.fill.copy_input.Tie as tie
+use Rattle.fill.proofs.Filling.{ready-limits, held-few, tail-le, copied-full, copied-filled}
+use Rattle.fill.proofs.copy_input.Statement.{statement}
+use Rattle.fill.proofs.copy_input.Tie as tie
 
 -- ---- places
 

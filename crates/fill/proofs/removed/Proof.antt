@@ -1,11 +1,11 @@
--- `process::fill::removed` meets its contract. Assumes nothing.
+-- `fill::removed` meets its contract. Assumes nothing.
 use borrow.Author.Needs.{needs}
 use lib.ListN.{length-drop}
 use Rattle.frames.proofs.Framing.{length-framesOf}
 use Rattle.stream.specs.Stream.{stateOf, streamOf}
-use Rattle.process.specs.Process.{removed}
-use Rattle.process.proofs.fill.removed.Statement.{statement}
-use Rattle.process.proofs.fill.removed.Tie as tie
+use Rattle.fill.specs.Taking.{removed}
+use Rattle.fill.proofs.removed.Statement.{statement}
+use Rattle.fill.proofs.removed.Tie as tie
 
 sub-left : tie.Need-sub-left
 sub-left c = search needs

@@ -34,13 +34,13 @@ use Rattle.stream.specs.State.{State}
 use Rattle.stream.specs.Stream.{stateOf}
 use Rattle.stream.specs.Order.{StreamReady}
 use Rattle.stream.proofs.Streams.{held-is}
-use Rattle.process.specs.declared.fill.Filled.{Filled}
-use Rattle.process.specs.declared.fill.Fill.{Fill}
-use Rattle.process.specs.Process.{Taken, removed, stretched, stepped, callAt, placeOf, speedAt, taken}
-use Rattle.process.specs.Streams.{speedOf}
-use Rattle.process.specs.Filling.{AreasFit, SteppedAs, FilledBy, FillEnsures}
-use Rattle.process.proofs.Branches.{speed-fits, taken-stretched}
-use Rattle.process.proofs.Filling.{ready-limits, held-few, speed-same}
+use Rattle.fill.specs.declared.Filled.{Filled}
+use Rattle.fill.specs.declared.Fill.{Fill}
+use Rattle.fill.specs.Taking.{Taken, removed, stretched, stepped, callAt, placeOf, speedAt, taken}
+use Rattle.fill.specs.Filling.{speedOf}
+use Rattle.fill.specs.Filling.{AreasFit, SteppedAs, FilledBy, FillEnsures}
+use Rattle.fill.proofs.Branches.{speed-fits, taken-stretched}
+use Rattle.fill.proofs.Filling.{ready-limits, held-few, speed-same}
 
 -- ---- the call
 

@@ -1,0 +1,90 @@
+-- Document 01, "A write" and "Stretch steps": copied or stretched frames, before rate and volume, with no limit of room.
+-- Definitions only. Assumes nothing.
+use mathlib.Core.Bool.{cond}
+use mathlib.Core.List.{List, []}
+use Prim.Native.Nat.{ℕ, _-_}
+use lib.Dec.{eqb, ltb}
+use lib.Ieee.{Float}
+use lib.ListN.{length, drop}
+use Rattle.frames.specs.Framing.{Frame, flat}
+use Rattle.floats.specs.Settings.{samplePeriod}
+use Rattle.floats.specs.Write.{playTimeLeft, localSpeed, speedChanges}
+use Rattle.period.specs.Rates.{maxRequired}
+use Rattle.stretch.specs.declared.StretchCall.{StretchCall}
+use Rattle.stretch.specs.declared.Place.{Place}
+use Rattle.stretch.specs.declared.Step.{Step}
+use Rattle.stretch.specs.declared.Stretch.{Stretch}
+use Rattle.stretch.specs.Speed as Speed
+use Rattle.stretch.specs.Speed.{begun, stalled, answerFor, stretchedFrames}
+use Rattle.stream.specs.State.{State, withInput}
+use Rattle.fill.specs.declared.Outcome.{Outcome}
+use Rattle.fill.specs.declared.Outcome.the-variants.{Empty, Copied, Waiting, Stretched, Stalled}
+
+-- the first k frames leave the input, and play time becomes (play time·left)/held
+unfoldable pub removed : ℕ → State → State
+removed k s =
+    withInput s (drop k (s .input)) (s .prev)
+    (playTimeLeft (s .«input_play_time») (length (s .input) - k) (length (s .input)))
+    (s .«time_error»)
+
+-- the frames, the stretch steps that gave them, the state after it, and the outcome
+pub record Taken : Type 0 where
+  pub frames : List Frame
+  pub steps : List Step
+  pub state : State
+  pub outcome : Outcome
+
+-- no frames
+unfoldable pub nothing : Outcome → State → Taken
+nothing outcome s = record { frames = []; steps = []; state = s; outcome = outcome }
+
+-- all frames of the input
+unfoldable pub copied : State → Taken
+copied s = record { frames = s .input; steps = []; state = removed (length (s .input)) s; outcome = Copied }
+
+-- the stretch's call at local speed x, the place where it begins, and its steps
+abbrev pub callAt : Float → State → StretchCall
+callAt x s =
+    record {
+      channels = s .channels;
+      rate = s .rate;
+      «sample_period» = samplePeriod (s .rate);
+      speed = x;
+      «input_play_time» = s .«input_play_time»;
+      held = record { 0 = length (s .input) };
+    }
+
+abbrev pub placeOf : State → Place
+placeOf s = begun (s .«time_error») (s .prev)
+
+abbrev pub stepsAt : Float → State → List Step
+stepsAt x s = Speed.steps (callAt x s) (flat (s .input)) (placeOf s)
+
+-- after steps that gave the answer a: a stall removes no input
+unfoldable pub stepped : Stretch → State → State
+stepped a s =
+    let t : State = withInput s (s .input) (a .prev) (s .«input_play_time») (a .«time_error») in cond (a .stalled) t
+    (removed (a .used .0) t)
+
+-- the frames of these steps
+unfoldable pub stretched : Float → State → Taken
+stretched x s =
+    record {
+      frames = stretchedFrames (callAt x s) (flat (s .input)) (placeOf s);
+      steps = stepsAt x s;
+      state = stepped (answerFor (callAt x s) (flat (s .input)) (placeOf s) (stepsAt x s)) s;
+      outcome = cond (stalled (stepsAt x s)) Stalled Stretched;
+    }
+
+-- outside 0.99999..1.00001 the stretch runs, with at least `max_required` frames; else, and for a NaN, all frames are
+-- copied
+unfoldable pub takenAt : Float → State → Taken
+takenAt x s =
+    cond (speedChanges x) (cond (ltb (length (s .input)) (maxRequired (s .rate))) (nothing Waiting s)
+    (stretched x s)) (copied s)
+
+abbrev pub speedAt : State → Float
+speedAt s = localSpeed (length (s .input)) (samplePeriod (s .rate)) (s .«input_play_time»)
+
+unfoldable pub taken : State → Taken
+taken s = cond (eqb (length (s .input)) 0) (nothing Empty s) (takenAt (speedAt s) s)
