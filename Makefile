@@ -25,11 +25,12 @@ skim: program
 	echo "to skim your own: tools/skim.sh < in.pcm > out.pcm; tools/skim.sh --help tells more"
 
 # Layout; then every proof, must-fail edit and program from nothing; then the other wrong programs beside the comparisons. The last line
-# is that of `rt ci`, which starts RT_JOBS crates at a time and waits for all of them: more than there are cores, so that none is idle.
+# is that of `rt ci`, which starts RT_JOBS crates at a time and waits for all of them: more than there are cores, so that none is idle. A
+# crate takes up to 2 GB.
 test:
 	rt fmt --check
 	log=$$(mktemp); trap 'rm -f "$$log"' EXIT; \
-	{ $(call told,RT_JOBS=$$((3 * $$(nproc))) rt ci,"$$log"); } && { \
+	{ $(call told,RT_JOBS=$${RT_JOBS:-6} rt ci,"$$log"); } && { \
 	tools/refusals.py & refusals=$$!; \
 	$(MAKE) --no-print-directory compare; compared=$$?; \
 	wait $$refusals && test $$compared = 0; } && tail -n 1 "$$log"

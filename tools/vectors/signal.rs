@@ -1,5 +1,5 @@
 
-// ---- Samples and sums, as crates/vectors/src/signal.rt and sums.rt make them.
+// ---- Samples and sums, as crates/scripts/src/signal.rt and sums.rt make them.
 
 /// A sum with one word more.
 fn sum(values: impl Iterator<Item = f32>) -> u64 {

@@ -1,4 +1,4 @@
-// Refusal 4, and room for frames by dividing an area's length, so that no count overflows.
+// Refusals 4 and 5, which go by the lengths of areas. A length is divided by the channels, so that no count overflows.
 use crate::SonicStream;
 use frames::Frames;
 use frames::Samples;
@@ -10,7 +10,7 @@ ghost use Rattle.frames.specs.Areas.{areas};
 ghost use Rattle.stream.specs.Refusals.{tooShort, sizesBad, partsBad, areasBad, outputBad};
 
 // Whether an area has fewer samples than these frames.
-pub fn too_short(area: &[i16], count: Frames, channels: u32) -> bool
+fn too_short(area: &[i16], count: Frames, channels: u32) -> bool
     requires { ⌜ 1 ≤ channels ⌝ }
     ensures { λ r. ⌜ r ≡ tooShort channels (count .0) (now (area .entry)) ⌝ }
 {

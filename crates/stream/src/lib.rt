@@ -1,6 +1,5 @@
 // The stream's value with its constants, and the calls that are lent no area: opening, settings, the frames available.
-// `areas` has the refusals that go by the lengths of the areas lent. `specs/Settings.antt` says what each answers.
-// Write, read and flush are in `sonic`.
+// `specs/Settings.antt` says what each answers. `areas` has refusals 4 and 5, for the calls that are lent areas.
 pub mod areas;
 mod order;
 pub mod refusals;
