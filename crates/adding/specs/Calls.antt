@@ -12,7 +12,7 @@ use Rattle.stream.specs.declared.SonicStream.{SonicStream}
 use Rattle.stream.specs.State.{State}
 use Rattle.stream.specs.Stream.{stateOf, streamOf}
 use Rattle.stream.specs.Refusals.{inOrder, refusal}
-use Rattle.fill.specs.declared.Outcome.{Outcome}
+use Rattle.fill.specs.declared.Told.{Told}
 use Rattle.process.specs.Process.{Made, wholeFrames, writeWork, flushWork, expected, cleared}
 use Rattle.adding.specs.declared.Wrote.{Wrote}
 
@@ -33,11 +33,11 @@ refusedCall number s a =
       output = framesOf (s .channels) (s .waiting .0) (a .output);
     }
 
--- accepted: the state t after it, its frames behind those waiting
-unfoldable pub acceptedCall : SonicStream → Areas → Outcome → State → List Frame → CallResult
-acceptedCall s a outcome t frames =
+-- accepted: what is told, the state t after it, its frames behind those waiting
+unfoldable pub acceptedCall : SonicStream → Areas → Told → State → List Frame → CallResult
+acceptedCall s a told t frames =
     record {
-      answer = Wrote.Done outcome (streamOf t (s .waiting .0 + length frames));
+      answer = Wrote.Done told (streamOf t (s .waiting .0 + length frames));
       input = t .input;
       tail = t .tail;
       output = framesOf (s .channels) (s .waiting .0) (a .output) ++ frames;
@@ -51,22 +51,23 @@ callBy (suc k) s a c = refusedCall (suc k) s a
 unfoldable pub writeCall : SonicStream → List Float → Areas → CallResult
 writeCall s samples a =
     let m : Made = writeWork samples (stateOf s (a .input) (a .stage)) in
-    callBy (refusal s a (length (wholeFrames (s .channels) samples)) (m .staged) (length (m .frames))) s a
-    (acceptedCall s a (m .outcome) (m .state) (m .frames))
+    callBy
+    (refusal s a (length (wholeFrames (s .channels) samples)) (m .staged) (length (m .frames)) (m .state .balance))
+    s a (acceptedCall s a (m .told) (m .state) (m .frames))
 
--- at most e of the frames made are kept; 7 counts before this
+-- at most e of the frames made are kept; 7 counts before this, and so do the totals
 unfoldable pub flushCall : SonicStream → Areas → CallResult
 flushCall s a =
     let entering : State = stateOf s (a .input) (a .stage) in
     let m : Made = flushWork entering in
-    callBy (refusal s a (2 * maxRequired (s .rate)) (m .staged) (length (m .frames))) s a
-    (acceptedCall s a (m .outcome) (cleared (m .state)) (take (expected entering) (m .frames)))
+    callBy (refusal s a (2 * maxRequired (s .rate)) (m .staged) (length (m .frames)) (m .state .balance)) s a
+    (acceptedCall s a (m .told) (cleared (m .state)) (take (expected entering) (m .frames)))
 
 -- ---- what their contracts ensure
 
 abbrev pub streamAfter : Wrote → SonicStream
 streamAfter (Wrote.Refused number s) = s
-streamAfter (Wrote.Done outcome s) = s
+streamAfter (Wrote.Done told s) = s
 
 -- the answer r and the areas a at exit are those of the call c
 pub record CallEnsures (channels : ℕ) (c : CallResult) (r : Wrote) (a : Areas) : Type 0 where
@@ -78,4 +79,4 @@ pub record CallEnsures (channels : ℕ) (c : CallResult) (r : Wrote) (a : Areas)
 -- an accepted call hands back a stream in order
 abbrev pub OrderAfter : Wrote → Type 0
 OrderAfter (Wrote.Refused number s) = Unit {0}
-OrderAfter (Wrote.Done outcome s) = inOrder s ≡ true
+OrderAfter (Wrote.Done told s) = inOrder s ≡ true

@@ -1,7 +1,7 @@
 // What a write and a flush share: their answer, and the work of a call that has added frames to the input.
 // `specs/Calls.antt` says what each answers.
 use frames::Frames;
-use process::Outcome;
+use process::Told;
 use process::Work;
 use stream::SonicStream;
 ghost use Rattle.frames.specs.Areas.{areas};
@@ -10,7 +10,7 @@ ghost use Rattle.adding.specs.Adding.{AddReady, AddEnsures};
 // The answer of a write or a flush. Each refusal carries its number and the entering stream.
 pub enum Wrote {
     Refused(u32, SonicStream),
-    Done(Outcome, SonicStream),
+    Done(Told, SonicStream),
 }
 
 // The work of a call that has put n frames behind those held. The period is that of the rate.

@@ -20,7 +20,10 @@ use Rattle.frames.proofs.Room.{frames-le, count-le}
 use Rattle.floats.specs.Settings.{samplePeriod}
 use Rattle.floats.specs.Write.{localSpeed, speedChanges}
 use Rattle.period.specs.Rates.{InLimits, maxRequired}
+use Rattle.stretch.specs.Tally.{tally}
+use Rattle.stretch.specs.Speed.{stalled}
 use Rattle.stream.specs.declared.SonicStream.{SonicStream}
+use Rattle.stream.specs.Balance.{none}
 use Rattle.stream.specs.State.{State}
 use Rattle.stream.specs.Stream.{stateOf, streamOf, ChangedBy}
 use Rattle.stream.specs.Order.{StreamReady}
@@ -28,7 +31,7 @@ use Rattle.stream.proofs.Streams.{held-is, own}
 use Rattle.fill.specs.declared.Outcome.{Outcome}
 use Rattle.fill.specs.declared.Outcome.the-variants.{Empty, Copied, Waiting}
 use Rattle.fill.specs.declared.Fill.{Fill}
-use Rattle.fill.specs.Taking.{Taken, nothing, removed, copied, speedAt}
+use Rattle.fill.specs.Taking.{Taken, nothing, removed, copied, speedAt, counted}
 use Rattle.fill.specs.Filling.{speedOf}
 use Rattle.fill.specs.Filling.{AreasFit, nothingFilled, FilledBy, FillEnsures}
 use Rattle.fill.proofs.Branches.{taken-empty, taken-waiting, taken-copied}
@@ -55,7 +58,7 @@ speed-same s input stage =
 
 -- all frames held were copied, and the stream t has none of them
 abbrev pub allFilled : SonicStream → SonicStream → Fill
-allFilled s t = Fill.Done (record { frames = s .held; used = s .held; stream = t; outcome = Copied })
+allFilled s t = Fill.Done (record { frames = s .held; used = s .held; balance = none; stream = t; told = record { outcome = Copied } })
 
 module _ (s : SonicStream) (r : StreamReady s) (input stage : List ℤ) (fit : AreasFit s input stage) where
   abbrev state : State
@@ -67,10 +70,11 @@ module _ (s : SonicStream) (r : StreamReady s) (input stage : List ℤ) (fit : A
   -- ---- no frames
 
   nothing-filled : (o : Outcome) → FilledBy s (nothing o state) input stage stage (nothingFilled s o)
-  unfolding nothing stateOf
+  unfolding nothing stateOf counted stalled tally
   nothing-filled o =
       record {
-        outcome = refl;
+        told = refl;
+        balance = refl;
         behind = behind-none (s .channels) (s .tail .0) stage (fit .tail);
         used = zero-le;
         rest = refl;
@@ -106,13 +110,14 @@ module _ (s : SonicStream) (r : StreamReady s) (input stage : List ℤ) (fit : A
         → exit ≡ paste stage (s .tail .0 * s .channels) (drop 0 input) (s .held .0 * s .channels)
         → ChangedBy (removed (s .held .0)) s (s .waiting .0) t
         → FillEnsures s input stage exit (allFilled s t)
-    unfolding copied removed stateOf
+    unfolding copied removed stateOf counted stalled tally
     copied-filled exit t fits e changed =
         let ch = s .channels in
         let b = behind-paste ch (s .tail .0) (s .held .0) stage input fits (fit .held) in
         copies exit (allFilled s t)
         (record {
-          outcome = refl;
+          told = refl;
+          balance = refl;
           behind = subst (λ (x : List ℤ). Behind ch (s .tail .0) (s .held .0) stage x (framesOf ch (s .held .0) input)) (sym e) b;
           used = le-of-eq refl;
           rest = ap (λ (n : ℕ). drop n (framesOf ch (s .held .0) input)) (sym held);

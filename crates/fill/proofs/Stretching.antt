@@ -26,19 +26,22 @@ use Rattle.stretch.specs.declared.Place.{Place}
 use Rattle.stretch.specs.declared.Stretch.{Stretch}
 use Rattle.stretch.specs.declared.Stretched as S
 use Rattle.stretch.specs.Steps.{StretchReady}
-use Rattle.stretch.specs.Speed.{steps, framesMade, begun, answerFor, changeSpeed, Staged}
+use Rattle.stretch.specs.Tally.{Tally, tally}
+use Rattle.stretch.specs.Speed.{steps, framesMade, lastPlace, stalled, begun, answerFor, changeSpeed, Staged}
+use Rattle.stretch.proofs.Balance.{position-used, steps-surplus}
 use Rattle.stretch.proofs.Claims.{used-held}
 use Rattle.stretch.proofs.Framed.{staged-behind, staged-full}
 use Rattle.stream.specs.declared.SonicStream.{SonicStream}
+use Rattle.stream.specs.Balance.{none}
 use Rattle.stream.specs.State.{State}
 use Rattle.stream.specs.Stream.{stateOf}
 use Rattle.stream.specs.Order.{StreamReady}
 use Rattle.stream.proofs.Streams.{held-is}
 use Rattle.fill.specs.declared.Filled.{Filled}
 use Rattle.fill.specs.declared.Fill.{Fill}
-use Rattle.fill.specs.Taking.{Taken, removed, stretched, stepped, callAt, placeOf, speedAt, taken}
+use Rattle.fill.specs.Taking.{Taken, removed, stretched, stepped, callAt, placeOf, speedAt, taken, counted}
 use Rattle.fill.specs.Filling.{speedOf}
-use Rattle.fill.specs.Filling.{AreasFit, SteppedAs, FilledBy, FillEnsures}
+use Rattle.fill.specs.Filling.{AreasFit, surplus, SteppedAs, FilledBy, FillEnsures}
 use Rattle.fill.proofs.Branches.{speed-fits, taken-stretched}
 use Rattle.fill.proofs.Filling.{ready-limits, held-few, speed-same}
 
@@ -162,6 +165,16 @@ module _ (a : Stretch) (t : State) where
   unfolding stepped removed
   stepped-prev = prev-cases (a .stalled) (a .prev) _ _ refl refl
 
+-- ---- what the steps add to the totals
+
+surplus-is : (b : Bool) (t : Tally) (position : ℕ) → position ≡ t .used → (t .skipped ≡ t .used - t .out) × (t .inserted ≡ t .out - t .used)
+    → cond b none (surplus (t .out) (cond b 0 position)) ≡ cond b none (record { skipped = t .skipped; inserted = t .inserted })
+surplus-is true t position e k = refl
+surplus-is false t position e k =
+    let skipped : position - t .out ≡ t .skipped = omega (arith, k .0) in
+    let inserted : t .out - position ≡ t .inserted = omega (arith, k .1) in
+    λ i. record { skipped = skipped i; inserted = inserted i }
+
 -- ---- by the answer
 
 answer-full : (b : Bool) (a : Stretch) → S.Stretched.Full ≡ cond b S.Stretched.Full (S.Stretched.Made a) → b ≡ true
@@ -216,7 +229,7 @@ module _ {s : SonicStream} {x : Float} {input stage : List ℤ} (d : StretchDue 
 
     -- the steps' frames fill the stage, as f says
     pub stretched-filled : (f : Filled) → SteppedAs s m f → FillEnsures s input stage exit (Fill.Done f)
-    unfolding stretched stateOf answerFor
+    unfolding stretched stateOf answerFor counted
     stretched-filled f g =
         let t : State = stateOf s input stage in
         let fits = room-under (s .channels) (s .tail .0) made (length stage) (ready-limits (d .ready) .channels-low) (d .fit .tail) (made-all .0) in
@@ -224,7 +237,10 @@ module _ {s : SonicStream} {x : Float} {input stage : List ℤ} (d : StretchDue 
         let h : SteppedAs s answer f = subst (λ (a : Stretch). SteppedAs s a f) (sym (made-all .1)) g in
         fills d exit (Fill.Done f)
         (record {
-          outcome = h .outcome;
+          told = h .told;
+          balance = h .balance
+              ∙ surplus-is (stalled (steps call list place)) (tally (steps call list place)) (lastPlace call list place (steps call list place) .position .0)
+              (omega (arith, position-used call list place (steps call list place))) (steps-surplus call list place);
           behind = rw (h .frames) behind;
           used = rw (g .used) (used-cases (m .stalled) stretched-used);
           rest = ap (λ (n : ℕ). drop n (t .input)) (h .used) ∙ sym (stepped-input answer t);

@@ -3,7 +3,7 @@
 use mathlib.Core.Path.{_≡_}
 use mathlib.Core.Bool.{cond}
 use mathlib.Core.List.{List}
-use Prim.Native.Nat.{_*_, _^_, _≤_}
+use Prim.Native.Nat.{ℕ, _-_, _*_, _^_, _≤_}
 use lib.IntN.{ℤ}
 use lib.Ieee.{Float}
 use lib.ListN.{length, drop}
@@ -14,12 +14,14 @@ use Rattle.period.specs.Rates.{maxRequired}
 use Rattle.period.specs.Pitch.{PrevInOrder}
 use Rattle.stretch.specs.declared.Stretch.{Stretch}
 use Rattle.stream.specs.declared.SonicStream.{SonicStream}
+use Rattle.stream.specs.declared.balance.Balance.{Balance}
+use Rattle.stream.specs.Balance.{none}
 use Rattle.stream.specs.Stream.{stateOf, streamOf, ChangedBy}
 use Rattle.fill.specs.declared.Outcome.{Outcome}
 use Rattle.fill.specs.declared.Outcome.the-variants.{Stretched, Stalled}
 use Rattle.fill.specs.declared.Filled.{Filled}
 use Rattle.fill.specs.declared.Fill.{Fill}
-use Rattle.fill.specs.Taking.{Taken, taken, stepped}
+use Rattle.fill.specs.Taking.{Taken, taken, stepped, counted}
 
 -- the local speed
 abbrev pub speedOf : SonicStream → Float
@@ -41,21 +43,34 @@ pub record FillReady (s : SonicStream) (input stage scratch : List ℤ) : Type 0
 
 -- ---- ensured
 
+-- what a call skips or inserts, by its frames out and used; `-` ends at 0
+abbrev pub surplus : ℕ → ℕ → Balance
+surplus made used = record { skipped = used - made; inserted = made - used }
+
 -- after the steps of a stretch
 pub record SteppedAs (s : SonicStream) (a : Stretch) (d : Filled) : Type 0 where
   pub frames : d .frames ≡ a .made
   pub used : d .used .0 ≡ cond (a .stalled) 0 (a .used .0)
+  pub balance : d .balance ≡ cond (a .stalled) none (surplus (a .made .0) (a .used .0))
   pub stream : ChangedBy (stepped a) s (s .waiting .0) (d .stream)
-  pub outcome : d .outcome ≡ cond (a .stalled) Stalled Stretched
+  pub told : d .told ≡ record { outcome = cond (a .stalled) Stalled Stretched }
 
 -- no frames
 abbrev pub nothingFilled : SonicStream → Outcome → Fill
 nothingFilled s outcome =
-    Fill.Done (record { frames = record { 0 = 0 }; used = record { 0 = 0 }; stream = s; outcome = outcome })
+    Fill.Done
+    (record {
+      frames = record { 0 = 0 };
+      used = record { 0 = 0 };
+      balance = none;
+      stream = s;
+      told = record { outcome = outcome };
+    })
 
 -- the stage was filled as t says
 pub record FilledAs (s : SonicStream) (t : Taken) (input entry exit : List ℤ) (d : Filled) : Type 0 where
-  pub outcome : d .outcome ≡ t .outcome
+  pub told : d .told ≡ t .told
+  pub balance : d .balance ≡ counted (t .steps)
   pub behind : Behind (s .channels) (s .tail .0) (d .frames .0) entry exit (t .frames)
   pub used : d .used .0 ≤ s .held .0
   pub rest : drop (d .used .0) (framesOf (s .channels) (s .held .0) input) ≡ t .state .input

@@ -1,7 +1,7 @@
 -- Document 01, "A write" and "Stretch steps": copied or stretched frames, before rate and volume, with no limit of room.
 -- Definitions only. Assumes nothing.
 use mathlib.Core.Bool.{cond}
-use mathlib.Core.List.{List, []}
+use mathlib.Core.List.{List, [], _∷_}
 use Prim.Native.Nat.{ℕ, _-_}
 use lib.Dec.{eqb, ltb}
 use lib.Ieee.{Float}
@@ -14,9 +14,13 @@ use Rattle.stretch.specs.declared.StretchCall.{StretchCall}
 use Rattle.stretch.specs.declared.Place.{Place}
 use Rattle.stretch.specs.declared.Step.{Step}
 use Rattle.stretch.specs.declared.Stretch.{Stretch}
+use Rattle.stretch.specs.Tally.{tally}
 use Rattle.stretch.specs.Speed as Speed
 use Rattle.stretch.specs.Speed.{begun, stalled, answerFor, stretchedFrames}
+use Rattle.stream.specs.declared.balance.Balance.{Balance}
+use Rattle.stream.specs.Balance.{none}
 use Rattle.stream.specs.State.{State, withInput}
+use Rattle.fill.specs.declared.Told.{Told}
 use Rattle.fill.specs.declared.Outcome.{Outcome}
 use Rattle.fill.specs.declared.Outcome.the-variants.{Empty, Copied, Waiting, Stretched, Stalled}
 
@@ -27,20 +31,26 @@ removed k s =
     (playTimeLeft (s .«input_play_time») (length (s .input) - k) (length (s .input)))
     (s .«time_error»)
 
--- the frames, the stretch steps that gave them, the state after it, and the outcome
+-- the frames, the steps that gave them, the state after it, and what is told
 pub record Taken : Type 0 where
   pub frames : List Frame
   pub steps : List Step
   pub state : State
-  pub outcome : Outcome
+  pub told : Told
 
 -- no frames
 unfoldable pub nothing : Outcome → State → Taken
-nothing outcome s = record { frames = []; steps = []; state = s; outcome = outcome }
+nothing outcome s = record { frames = []; steps = []; state = s; told = record { outcome = outcome } }
 
--- all frames of the input
+-- all frames of the input, in one copying step
 unfoldable pub copied : State → Taken
-copied s = record { frames = s .input; steps = []; state = removed (length (s .input)) s; outcome = Copied }
+copied s =
+    record {
+      frames = s .input;
+      steps = Step.Copied (record { 0 = length (s .input) }) ∷ [];
+      state = removed (length (s .input)) s;
+      told = record { outcome = Copied };
+    }
 
 -- the stretch's call at local speed x, the place where it begins, and its steps
 abbrev pub callAt : Float → State → StretchCall
@@ -73,7 +83,7 @@ stretched x s =
       frames = stretchedFrames (callAt x s) (flat (s .input)) (placeOf s);
       steps = stepsAt x s;
       state = stepped (answerFor (callAt x s) (flat (s .input)) (placeOf s) (stepsAt x s)) s;
-      outcome = cond (stalled (stepsAt x s)) Stalled Stretched;
+      told = record { outcome = cond (stalled (stepsAt x s)) Stalled Stretched };
     }
 
 -- outside 0.99999..1.00001 the stretch runs, with at least `max_required` frames; else, and for a NaN, all frames are
@@ -88,3 +98,7 @@ speedAt s = localSpeed (length (s .input)) (samplePeriod (s .rate)) (s .«input_
 
 unfoldable pub taken : State → Taken
 taken s = cond (eqb (length (s .input)) 0) (nothing Empty s) (takenAt (speedAt s) s)
+
+-- document 02, C-16: what steps add to the totals; a call that stalls counts none of them
+unfoldable pub counted : List Step → Balance
+counted ss = cond (stalled ss) none (record { skipped = tally ss .skipped; inserted = tally ss .inserted })

@@ -2,6 +2,7 @@
 use frames::Frames;
 use frames::Samples;
 use period::PeriodRecord;
+use stream::Balance;
 use stream::SonicStream;
 use stretch::Stretch;
 use stretch::StretchCall;
@@ -15,7 +16,7 @@ ghost use Rattle.period.specs.Rates.{maxRequired};
 ghost use Rattle.stream.specs.Stream.{ChangedBy};
 ghost use Rattle.stream.specs.Order.{StreamReady};
 ghost use Rattle.fill.specs.Taking.{removed};
-ghost use Rattle.fill.specs.Filling.{speedOf, AreasFit, FillReady, SteppedAs, nothingFilled, FillEnsures};
+ghost use Rattle.fill.specs.Filling.{speedOf, AreasFit, FillReady, surplus, SteppedAs, nothingFilled, FillEnsures};
 
 // How a call's work went.
 pub enum Outcome {
@@ -26,12 +27,19 @@ pub enum Outcome {
     Stalled,
 }
 
-// New frames in the stage, frames of the input to be removed, the stream without these, and the outcome.
+// What is told of an accepted write or flush.
+pub struct Told {
+    pub outcome: Outcome,
+}
+
+// New frames in the stage, frames of the input to be removed, what the call adds to the totals, the stream without
+// these, and what is told.
 pub struct Filled {
     pub frames: Frames,
     pub used: Frames,
+    pub balance: Balance,
     pub stream: SonicStream,
-    pub outcome: Outcome,
+    pub told: Told,
 }
 
 // Full: the frames do not fit the stage.
@@ -57,7 +65,24 @@ fn removed(mut stream: SonicStream, used: Frames) -> SonicStream
     stream
 }
 
-// What the steps of a stretch gave; a stall removes no input.
+// The frames that a call skipped or inserted, by its frames out and used: frames out plus skipped are frames used plus
+// inserted, and a call never does both.
+fn balance_of(made: Frames, used: Frames) -> Balance
+    ensures { λ r. ⌜ r ≡ surplus (made .0) (used .0) ⌝ }
+{
+    if made.0 < used.0 {
+        return Balance {
+            skipped: (used.0 - made.0) as u64,
+            inserted: 0,
+        };
+    }
+    Balance {
+        skipped: 0,
+        inserted: (made.0 - used.0) as u64,
+    }
+}
+
+// What the steps of a stretch gave; a stall removes no input and counts no step.
 fn stepped(mut stream: SonicStream, stretch: Stretch) -> Filled
     requires { ⌜ (stretch .used .0 ≤ stream .held .0) × (stream .held .0 ≤ 2 ^ 24)
         × (stream .«sample_period» ≡ samplePeriod (stream .rate)) ⌝ }
@@ -73,15 +98,21 @@ fn stepped(mut stream: SonicStream, stretch: Stretch) -> Filled
         return Filled {
             frames,
             used: Frames(0),
+            balance: Balance::NONE,
             stream,
-            outcome: Outcome::Stalled,
+            told: Told {
+                outcome: Outcome::Stalled,
+            },
         };
     }
     Filled {
         frames,
         used,
+        balance: balance_of(frames, used),
         stream: removed(stream, used),
-        outcome: Outcome::Stretched,
+        told: Told {
+            outcome: Outcome::Stretched,
+        },
     }
 }
 
@@ -152,8 +183,11 @@ fn copy_input(stream: SonicStream, input: &[i16], stage: &mut [i16]) -> Fill
     Fill::Done(Filled {
         frames: held,
         used: held,
+        balance: Balance::NONE,
         stream: removed(stream, held),
-        outcome: Outcome::Copied,
+        told: Told {
+            outcome: Outcome::Copied,
+        },
     })
 }
 
@@ -164,8 +198,9 @@ fn nothing(stream: SonicStream, outcome: Outcome) -> Fill
     Fill::Done(Filled {
         frames: Frames(0),
         used: Frames(0),
+        balance: Balance::NONE,
         stream,
-        outcome,
+        told: Told { outcome },
     })
 }
 

@@ -19,7 +19,7 @@ ghost use Rattle.adding.specs.Calls.{flushCall, CallEnsures, OrderAfter};
 ghost use Rattle.adding.specs.Adding.{AddReady};
 
 // The stream after a flush: of the frames behind the first `waiting` ones at most `expected` wait, and nothing is
-// held. Positions and period record stay.
+// held. Positions, period record and totals stay.
 fn cleared(mut stream: SonicStream, waiting: Frames, expected: Frames) -> SonicStream
     requires { ⌜ (waiting .0 ≤ stream .waiting .0) × (stream .«sample_period» ≡ samplePeriod (stream .rate)) ⌝ }
     ensures { λ r. ⌜ ChangedBy cleared stream (waiting .0 + min (expected .0) (stream .waiting .0 - waiting .0)) r ⌝ }
@@ -65,7 +65,8 @@ fn flush_frames(
     match process_added(stream, period, n, input, stage, output, scratch) {
         Work::StageFull => Wrote::Refused(refusals::STAGE_FULL, stream),
         Work::OutputFull => Wrote::Refused(refusals::OUTPUT_FULL, stream),
-        Work::Done(outcome, after) => Wrote::Done(outcome, cleared(after, waiting, expected)),
+        Work::TotalFull => Wrote::Refused(refusals::TOTAL_FULL, stream),
+        Work::Done(told, after) => Wrote::Done(told, cleared(after, waiting, expected)),
     }
 }
 

@@ -1,11 +1,15 @@
 -- What holds of every call's work: it answers stalled exactly when one of its stretch steps gives no frame. Assumes nothing.
 use mathlib.Core.Path.{_≡_, refl, sym, ap, _∙_}
 use mathlib.Core.Bool.{Bool, true, false, cond, false≢true}
-use mathlib.Core.List.{List, [], List·Memᴰ, List·Memᴰ·not-nil}
-use Prim.Native.Nat.{_^_, _≤_}
+use mathlib.Core.Logic.{_⊎_, inl, inr}
+use mathlib.Core.List.{List, [], _∷_, List·Memᴰ, List·Memᴰ·cases-cons, List·Memᴰ·not-nil}
+use Prim.Native.Nat.{ℕ, _^_, _≤_}
+use native.Mathlib.Omega.{arith}
+use borrow.Author.Tests.{eqb-false}
 use lib.Dec.{eqb, ltb}
 use lib.Ieee.{Float}
 use lib.ListN.{length}
+use Rattle.frames.specs.declared.Frames.{Frames}
 use Rattle.frames.specs.Framing.{flat}
 use Rattle.floats.specs.Settings.{samplePeriod}
 use Rattle.floats.specs.Write.{speedChanges}
@@ -44,6 +48,14 @@ isStalled Stalled = true
 no-steps : (o : Outcome) → isStalled o ≡ false → StallsExactly o []
 no-steps o e = (λ f. absurd (false≢true (sym e ∙ ap isStalled f)), λ t m z. absurd (List·Memᴰ·not-nil m))
 
+-- with one copying step, of some frames
+one-copied : (n : Frames) → 1 ≤ n .0 → StallsExactly Copied (Step.Copied n ∷ [])
+one-copied n some = (λ e. absurd (false≢true (ap isStalled e)), λ t m z. absurd (gives-some t (List·Memᴰ·cases-cons m) z))
+  where
+    gives-some : (t : Step) → (t ≡ Step.Copied n) ⊎ List·Memᴰ t [] → framesOut t ≡ 0 → ⊥
+    gives-some t (inl e) z = let none : n .0 ≡ 0 = sym (ap framesOut e) ∙ z in omega arith
+    gives-some t (inr m) z = List·Memᴰ·not-nil m
+
 -- by whether one of the steps stalls
 stretch-cases : (b : Bool) (steps : List Step) → (b ≡ true → (t : Step) × List·Memᴰ t steps × (framesOut t ≡ 0))
     → ((t : Step) → List·Memᴰ t steps → framesOut t ≡ 0 → b ≡ true) → StallsExactly (cond b Stalled Stretched) steps
@@ -62,24 +74,29 @@ module _ (s : State) (h : Held s) where
     few = h .few;
   }
 
-  stretched-exactly : StallsExactly (stretched x s .outcome) (stretched x s .steps)
+  stretched-exactly : StallsExactly (stretched x s .told .outcome) (stretched x s .steps)
   unfolding stretched
   stretched-exactly =
       let exactly = Stretch.stalled-exactly (flat (s .input)) (placeOf s) ready (h .prev) in
       stretch-cases (Speed.stalled (stepsAt x s)) (stepsAt x s) (exactly .0) (exactly .1)
 
-  at-exactly : (changes few : Bool) → (t : Taken) → t ≡ cond changes (cond few (nothing Waiting s) (stretched x s)) (copied s)
-      → StallsExactly (t .outcome) (t .steps)
+  at-exactly : (changes few : Bool) → 1 ≤ length (s .input) → (t : Taken)
+      → t ≡ cond changes (cond few (nothing Waiting s) (stretched x s)) (copied s) → StallsExactly (t .told .outcome) (t .steps)
   unfolding nothing copied
-  at-exactly true true t e = rw e (no-steps Waiting refl)
-  at-exactly true false t e = rw e stretched-exactly
-  at-exactly false few t e = rw e (no-steps Copied refl)
+  at-exactly true true some t e = rw e (no-steps Waiting refl)
+  at-exactly true false some t e = rw e stretched-exactly
+  at-exactly false few some t e = rw e (one-copied _ some)
 
-  taken-exactly : (none : Bool) (t : Taken) → t ≡ cond none (nothing Empty s) (takenAt x s) → StallsExactly (t .outcome) (t .steps)
+  taken-exactly : (none : Bool) → eqb (length (s .input)) 0 ≡ none → (t : Taken) → t ≡ cond none (nothing Empty s) (takenAt x s)
+      → StallsExactly (t .told .outcome) (t .steps)
   unfolding nothing takenAt
-  taken-exactly true t e = rw e (no-steps Empty refl)
-  taken-exactly false t e = at-exactly (speedChanges x) (ltb (length (s .input)) (maxRequired (s .rate))) t e
+  taken-exactly true e t is = rw is (no-steps Empty refl)
+  taken-exactly false e t is =
+      at-exactly (speedChanges x) (ltb (length (s .input)) (maxRequired (s .rate))) (positive (eqb-false (length (s .input)) 0 e)) t is
+    where
+      positive : {n : ℕ} → (n ≡ 0 → ⊥) → 1 ≤ n
+      positive {n} f = omega (arith, f)
 
-  pub stalled-exactly : StallsExactly (process s .outcome) (process s .steps)
+  pub stalled-exactly : StallsExactly (process s .told .outcome) (process s .steps)
   unfolding process finished taken
-  stalled-exactly = taken-exactly (eqb (length (s .input)) 0) (taken s) refl
+  stalled-exactly = taken-exactly (eqb (length (s .input)) 0) refl (taken s) refl

@@ -1,9 +1,10 @@
 -- The second half of a call's work, in the words of the contracts. Here:
 --   mapped-behind                 volume
---   TailedBy, moved-as, used-fits, left-fits, commit-done     the commit
+--   TurnedBy, moved-as, used-fits, left-fits, commit-passed, commit-done     the commit
 --   commit-ready, finish-done     the finish, which the commit ends
 -- Assumes nothing.
 use mathlib.Core.Path.{_≡_, refl, ap, _∙_, subst}
+use mathlib.Core.Bool.{true, false}
 use mathlib.Core.List.{List, [], map}
 use Prim.Native.Nat.{ℕ, _+_, _-_, _*_, _≤_}
 use native.Mathlib.Nat.{add-mul, mul-le-mul-right}
@@ -21,11 +22,12 @@ use Rattle.rate.specs.declared.Adjusted.{Adjusted}
 use Rattle.rate.specs.Conversion.{Conversion}
 use Rattle.rate.specs.Adjusting.{AdjustedAs, newFrames}
 use Rattle.stream.specs.declared.SonicStream.{SonicStream}
-use Rattle.stream.specs.State.{State, withTail}
+use Rattle.stream.specs.declared.balance.Balance.{Balance}
+use Rattle.stream.specs.Balance.{past}
 use Rattle.stream.specs.Stream.{stateOf, streamOf, ChangedBy}
 use Rattle.process.specs.declared.Work.{Work}
 use Rattle.fill.specs.declared.Filled.{Filled}
-use Rattle.process.specs.Finishing.{FinishReady, CommitReady, FinishedBy, adjustedAs}
+use Rattle.process.specs.Finishing.{FinishReady, CommitReady, totals, turned, FinishedBy, adjustedAs}
 
 -- ---- volume: a map over the samples of frames
 
@@ -38,13 +40,13 @@ mapped-behind f ch w m entry exit h e =
 
 -- ---- the commit
 
--- the stream x has the tail and the positions of the conversion c, and its frames wait
-abbrev pub TailedBy : SonicStream → Filled → Conversion → SonicStream → Type 0
-TailedBy s d c x = ChangedBy (λ (y : State). withTail y (c .rest) (c .at)) (d .stream) (s .waiting .0 + length (c .made)) x
+-- the stream x has the tail and the positions of the conversion c and the totals of d, and its frames wait
+abbrev pub TurnedBy : SonicStream → Filled → Conversion → SonicStream → Type 0
+TurnedBy s d c x = ChangedBy (turned d c) (d .stream) (s .waiting .0 + length (c .made)) x
 
--- the stream x with the positions of an answer c and what it leaves of the tail, and w frames waiting
-abbrev pub committed : SonicStream → Adjusted → ℕ → SonicStream
-committed x c w =
+-- the stream x with the positions of an answer c and what it leaves of the tail, w frames waiting, and the totals b
+abbrev pub committed : SonicStream → Adjusted → ℕ → Balance → SonicStream
+committed x c w b =
     record {
       rate = x .rate;
       channels = x .channels;
@@ -61,6 +63,7 @@ committed x c w =
       held = x .held;
       tail = c .left;
       waiting = record { 0 = w };
+      balance = b;
     }
 
 -- samples of an area moved to its front: the counts n and m are k and l
@@ -97,23 +100,26 @@ module _ {s : SonicStream} {d : Filled} {a : Areas} where
     left-fits =
         omega (arith, add-mul (c .from .0) (c .left .0) (s .channels), mul-le-mul-right (s .channels) (r .within), r .finish .staged-fits)
 
-    abbrev done : SonicStream
-    done = committed (d .stream) c (s .waiting .0 + c .made .0)
-
-    done-is : TailedBy s d (adjustedAs s c a) done
+    done-is : TurnedBy s d (adjustedAs s c a) (committed (d .stream) c (s .waiting .0 + c .made .0) (totals d))
     unfolding stateOf streamOf
     done-is input stage = simp length-framesOf (rw (r .finish .period-is))
 
+    -- a total passes 64 bits: the areas stay as they are
+    pub commit-passed : past (totals d) ≡ true → FinishedBy s d (adjustedAs s c a) a a Work.TotalFull
+    commit-passed e = record { input = refl; stage = refl; kept = refl; fits = rw length-framesOf (r .fits); passed = e }
+
     -- the areas go from a to b
-    pub commit-done : (b : Areas) → b .input ≡ paste (a .input) 0 (drop (d .used .0 * s .channels) (a .input)) (d .stream .held .0 * s .channels)
+    pub commit-done : (b : Areas) (t : Balance) → (past (totals d) ≡ false) × (totals d ≡ t)
+        → b .input ≡ paste (a .input) 0 (drop (d .used .0 * s .channels) (a .input)) (d .stream .held .0 * s .channels)
         → b .stage ≡ paste (a .stage) 0 (drop (c .from .0 * s .channels) (a .stage)) (c .left .0 * s .channels)
         → Behind (s .channels) (s .waiting .0) (c .made .0) (a .output) (b .output)
         (map (map (scaled (s .volume))) (newFrames (s .channels) (s .waiting .0) (c .made .0) (a .output)))
-        → FinishedBy s d (adjustedAs s c a) a b (Work.Done (d .outcome) (committed (d .stream) c (s .waiting .0 + c .made .0)))
-    commit-done b input stage behind =
+        → FinishedBy s d (adjustedAs s c a) a b (Work.Done (d .told) (committed (d .stream) c (s .waiting .0 + c .made .0) t))
+    commit-done b t within input stage behind =
         record {
-          outcome = refl;
-          stream = done-is;
+          told = refl;
+          within = within .0;
+          stream = rw (← within .1) done-is;
           rest = rw input (rest-moved (r .finish));
           tail = rw length-framesOf (rw stage (moved-frames (s .channels) (c .from .0) (c .left .0) (a .stage) left-fits));
           behind = rw length-framesOf behind;
@@ -158,8 +164,16 @@ module _ (s : SonicStream) (d : Filled) (c : Conversion) (a : Areas) (middle : L
   from-start b Work.StageFull h = h
   from-start b Work.OutputFull h =
       (h .0, h .1, record { kept = h .2 .kept ∙ j .behind .kept; over = rw (← j .behind .long) (h .2 .over) })
+  from-start b Work.TotalFull h =
+      record {
+        input = h .input;
+        stage = h .stage;
+        kept = h .kept ∙ j .behind .kept;
+        fits = rw (← j .behind .long) (h .fits);
+        passed = h .passed;
+      }
   from-start b (Work.Done o t) h =
-      record { outcome = h .outcome; stream = h .stream; rest = h .rest; tail = h .tail; behind = behind-again (j .behind) (h .behind) }
+      record { told = h .told; within = h .within; stream = h .stream; rest = h .rest; tail = h .tail; behind = behind-again (j .behind) (h .behind) }
 
   pub finish-done : (b : Areas) (w : Work)
       → FinishedBy s d (adjustedAs s x (areas (a .input) (a .stage) middle [])) (areas (a .input) (a .stage) middle []) b w → FinishedBy s d c a b w

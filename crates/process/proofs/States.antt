@@ -1,6 +1,6 @@
 -- What the steps of a call's work leave alone in a state:
 --   joined-keeps, removed-keeps, stepped-keeps     all but the input, the period record and the times
---   cleared-settings, tail-settings                rate, channels and settings
+--   cleared-settings, tail-settings, counting-settings     rate, channels and settings
 -- The layers above cite it. Assumes nothing.
 use mathlib.Core.Path.{_≡_, refl, _∙_}
 use mathlib.Core.Bool.{Bool, true, false, cond}
@@ -11,10 +11,11 @@ use Rattle.frames.specs.Framing.{Frame}
 use Rattle.floats.specs.Numbers.{zero}
 use Rattle.period.specs.declared.PeriodRecord.{PeriodRecord}
 use Rattle.rate.specs.declared.Position.{Position}
+use Rattle.stretch.specs.declared.Step.{Step}
 use Rattle.stretch.specs.declared.Stretch.{Stretch}
 use Rattle.stream.specs.State.{State, withInput, withTail}
 use Rattle.fill.specs.Taking.{removed, stepped}
-use Rattle.process.specs.Process.{joined, cleared}
+use Rattle.process.specs.Process.{joined, counting, cleared}
 
 -- t has the rate, the channels and the settings of s
 pub record SameSettings (s t : State) : Type 0 where
@@ -54,6 +55,10 @@ input-keeps s input prev play error =
 
 pub tail-settings : (s : State) (tail : List Frame) (at : Position) → SameSettings s (withTail s tail at)
 tail-settings s tail at = record { rate = refl; channels = refl; speed = refl; pitch = refl; volume = refl }
+
+pub counting-settings : (ss : List Step) (s : State) → SameSettings s (counting ss s)
+unfolding counting
+counting-settings ss s = record { rate = refl; channels = refl; speed = refl; pitch = refl; volume = refl }
 
 module _ (s : State) where
   pub own-keeps : Keeps s s

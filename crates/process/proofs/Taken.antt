@@ -16,6 +16,7 @@ use Rattle.process.proofs.States.{
   settings-trans,
   keeps-cases,
   tail-settings,
+  counting-settings,
   own-keeps,
   joined-keeps,
   removed-keeps,
@@ -40,7 +41,7 @@ taken-keeps s = keeps-cases (λ (t : Taken). t .state) (eqb (length (s .input)) 
 
 pub process-settings : (s : State) → SameSettings s (process s .state)
 unfolding process finished
-process-settings s = settings-trans (taken-keeps s .settings) (tail-settings (taken s .state) _ _)
+process-settings s = settings-trans (taken-keeps s .settings) (settings-trans (tail-settings (taken s .state) _ _) (counting-settings _ _))
 
 pub write-settings : (samples : List Float) (s : State) → SameSettings s (writeWork samples s .state)
 unfolding writeWork

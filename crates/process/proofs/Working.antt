@@ -12,21 +12,22 @@ use Rattle.volume.specs.Volume.{scaled}
 use Rattle.rate.specs.Conversion.{Conversion, adjustRate}
 use Rattle.rate.proofs.Chunks.{adjustRate-order}
 use Rattle.stream.specs.declared.SonicStream.{SonicStream}
-use Rattle.stream.specs.State.{State, withTail}
+use Rattle.stream.specs.Balance.{booked, past}
+use Rattle.stream.specs.State.{State, withTail, withBalance}
 use Rattle.stream.specs.Stream.{stateOf, streamOf, ChangedBy}
 use Rattle.stream.specs.Order.{StateReady, StreamReady}
-use Rattle.stream.proofs.Streams.{changed-back, tail-alike, ready-stream, ready-tail}
-use Rattle.fill.specs.declared.Outcome.{Outcome}
+use Rattle.stream.proofs.Streams.{changed-back, tail-alike, balance-alike, ready-stream, ready-tail, ready-balance}
+use Rattle.fill.specs.declared.Told.{Told}
 use Rattle.process.specs.declared.Work.{Work}
 use Rattle.fill.specs.declared.Filled.{Filled}
 use Rattle.fill.specs.Taking.{Taken, taken}
-use Rattle.process.specs.Process.{Made, finished, process}
+use Rattle.process.specs.Process.{Made, counting, finished, process}
 use Rattle.fill.specs.Filling.{FilledAs}
-use Rattle.process.specs.Finishing.{FinishReady, FinishedAs, FinishedBy, conversionOf, FinishEnsures}
+use Rattle.process.specs.Finishing.{FinishReady, totals, turned, FinishedAs, FinishedBy, conversionOf, FinishEnsures}
 use Rattle.process.specs.Working.{AreasReady, WorkedAs, WorkedBy, WorkEnsures}
 use Rattle.process.proofs.States.{Keeps}
 use Rattle.process.proofs.Taken.{taken-keeps}
-use Rattle.process.proofs.Finishing.{TailedBy}
+use Rattle.process.proofs.Finishing.{TurnedBy}
 
 -- `middle` is the stage after it was filled
 module _ (s : SonicStream) (d : Filled) (a : Areas) (middle : List ℤ)
@@ -91,14 +92,17 @@ module _ (s : SonicStream) (d : Filled) (a : Areas) (middle : List ℤ)
 
   -- ---- the stream after it
 
-  stream-is : (x : SonicStream) → TailedBy s d c x → x ≡ streamOf (finished t c .state) (s .waiting .0 + length (finished t c .frames))
-  unfolding finished t
+  totals-are : totals d ≡ finished t c .state .balance
+  unfolding finished counting t streamOf
+  totals-are = λ i. booked (f .stream i .balance) (f .balance i)
+
+  stream-is : (x : SonicStream) → TurnedBy s d c x → x ≡ streamOf (finished t c .state) (s .waiting .0 + length (finished t c .frames))
+  unfolding finished counting t
   stream-is x e =
-      let tailed : State → State = λ y. withTail y (c .rest) (c .at) in
       let w : ℕ = s .waiting .0 + length (c .made) in
-      changed-back tailed (λ y z h. tail-alike h (c .rest) (c .rest) refl refl) (t .state) (s .waiting .0) w x
-      (subst (λ (y : SonicStream). ChangedBy tailed y w x) (f .stream) e)
-      ∙ ap (λ (n : ℕ). streamOf (tailed (t .state)) (s .waiting .0 + n)) (sym scaled-length)
+      changed-back (turned d c) (λ y z h. balance-alike (tail-alike h (c .rest) (c .rest) refl refl) refl) (t .state) (s .waiting .0) w x
+      (subst (λ (y : SonicStream). ChangedBy (turned d c) y w x) (f .stream) e)
+      ∙ (λ i. streamOf (withBalance (withTail (t .state) (c .rest) (c .at)) (totals-are i)) (s .waiting .0 + sym scaled-length i))
 
   module _ (r : StreamReady s) where
     taken-ready : StateReady (t .state)
@@ -115,11 +119,11 @@ module _ (s : SonicStream) (d : Filled) (a : Areas) (middle : List ℤ)
         }
 
     stream-ready : (w : ℕ) → StreamReady (streamOf (finished t c .state) w)
-    unfolding finished
+    unfolding finished counting
     stream-ready w =
         let u = t .state in
         let at = rw conversion-is at (adjustRate-order (u .rate) (u .pitch) (u .at) (u .tail) (t .frames) (taken-ready .position)) in
-        ready-stream (ready-tail taken-ready (c .rest) (c .at) at) w
+        ready-stream (ready-balance (ready-tail taken-ready (c .rest) (c .at) at) _) w
 
     -- ---- the whole; the areas go from a to b
 
@@ -130,15 +134,16 @@ module _ (s : SonicStream) (d : Filled) (a : Areas) (middle : List ℤ)
       abbrev after : Areas
       after = areas (b .input) (b .stage) (b .output) []
 
-      worked : (o : Outcome) (x : SonicStream) → FinishedAs s d c before after o x → WorkedAs s (finished t c) a b o x
-      unfolding finished t
+      worked : (o : Told) (x : SonicStream) → FinishedAs s d c before after o x → WorkedAs s (finished t c) a b o x
+      unfolding finished counting t
       worked o x h =
           record {
-            outcome = h .outcome ∙ f .outcome;
+            told = h .told ∙ f .told;
             stream = stream-is x (h .stream);
             ready = rw (stream-is x (h .stream)) (stream-ready (s .waiting .0 + length (finished t c .frames)));
             stage-fits = stage-fits;
             output-fits = rw scaled-length (h .behind .fits);
+            totals-fit = ap past (sym totals-are) ∙ h .within;
             held = rw rest-length (h .rest ∙ f .rest);
             tail = h .tail;
             waiting = rw (scaled-length, volume-is) (behind-whole (h .behind));
@@ -155,6 +160,16 @@ module _ (s : SonicStream) (d : Filled) (a : Areas) (middle : List ℤ)
         },
         stage-fits,
         rw scaled-length (h .2 .over),
+      )
+      worked-by Work.TotalFull h = (
+        record {
+          held = ap (framesOf (s .channels) (s .held .0)) (h .input);
+          tail = ap (framesOf (s .channels) (s .tail .0)) (h .stage) ∙ behind-front (f .behind);
+          waiting = framesOf-cong (s .channels) (s .waiting .0) (b .output) (a .output) (h .kept);
+        },
+        stage-fits,
+        rw scaled-length (h .fits),
+        ap past (sym totals-are) ∙ h .passed,
       )
       worked-by (Work.Done o x) h = worked o x h
 

@@ -1,9 +1,10 @@
 -- What the functions of `finish` require and ensure. s is the stream at the call's start, d what filled the stage;
 -- the areas go from a to b. Definitions only. Assumes nothing.
 use mathlib.Core.Path.{_≡_}
+use mathlib.Core.Bool.{true, false}
 use mathlib.Core.List.{map}
 use Prim.Native.Nat.{ℕ, _+_, _-_, _*_, _^_, _≤_}
-use lib.ListN.{length, drop}
+use lib.ListN.{length, take, drop}
 use Rattle.frames.specs.Areas.{Areas}
 use Rattle.frames.specs.Framing.{framesOf, Behind, NoRoom}
 use Rattle.floats.specs.Settings.{samplePeriod}
@@ -12,10 +13,12 @@ use Rattle.rate.specs.declared.Adjusted.{Adjusted}
 use Rattle.rate.specs.Conversion.{Conversion, adjustRate}
 use Rattle.rate.specs.Adjusting.{newFrames}
 use Rattle.stream.specs.declared.SonicStream.{SonicStream}
-use Rattle.stream.specs.State.{State, withTail}
+use Rattle.stream.specs.declared.balance.Balance.{Balance}
+use Rattle.stream.specs.Balance.{booked, past}
+use Rattle.stream.specs.State.{State, withTail, withBalance}
 use Rattle.stream.specs.Stream.{stateOf, ChangedBy}
 use Rattle.stream.specs.Order.{StreamReady}
-use Rattle.fill.specs.declared.Outcome.{Outcome}
+use Rattle.fill.specs.declared.Told.{Told}
 use Rattle.process.specs.declared.Work.{Work}
 use Rattle.fill.specs.declared.Filled.{Filled}
 
@@ -42,17 +45,34 @@ pub record CommitReady (s : SonicStream) (d : Filled) (c : Adjusted) (a : Areas)
 
 -- ---- ensured
 
+-- the totals with those of the call
+abbrev pub totals : Filled → Balance
+totals d = booked (d .stream .balance) (d .balance)
+
+-- the state with the tail and the positions of the conversion c, and the totals of d
+abbrev pub turned : Filled → Conversion → State → State
+turned d c x = withBalance (withTail x (c .rest) (c .at)) (totals d)
+
 -- done as the conversion c says: the frames used have left the input, and the tail frames consumed the stage; the
 -- frames made are scaled
-pub record FinishedAs (s : SonicStream) (d : Filled) (c : Conversion) (a b : Areas) (o : Outcome) (t : SonicStream)
+pub record FinishedAs (s : SonicStream) (d : Filled) (c : Conversion) (a b : Areas) (o : Told) (t : SonicStream)
     : Type 0 where
-  pub outcome : o ≡ d .outcome
-  pub stream : ChangedBy (λ (x : State). withTail x (c .rest) (c .at)) (d .stream) (s .waiting .0 + length (c .made)) t
+  pub told : o ≡ d .told
+  pub within : past (totals d) ≡ false
+  pub stream : ChangedBy (turned d c) (d .stream) (s .waiting .0 + length (c .made)) t
   pub rest : framesOf (s .channels) (s .held .0 - d .used .0) (b .input)
       ≡ drop (d .used .0) (framesOf (s .channels) (s .held .0) (a .input))
   pub tail : framesOf (s .channels) (length (c .rest)) (b .stage) ≡ c .rest
   pub behind : Behind (s .channels) (s .waiting .0) (length (c .made)) (a .output) (b .output)
       (map (map (scaled (s .volume))) (c .made))
+
+-- its frames fit the output, but a total passes 64 bits
+pub record TotalPassed (s : SonicStream) (d : Filled) (c : Conversion) (a b : Areas) : Type 0 where
+  pub input : b .input ≡ a .input
+  pub stage : b .stage ≡ a .stage
+  pub kept : take (s .waiting .0 * s .channels) (b .output) ≡ take (s .waiting .0 * s .channels) (a .output)
+  pub fits : (s .waiting .0 + length (c .made)) * s .channels ≤ length (a .output)
+  pub passed : past (totals d) ≡ true
 
 -- or its frames do not fit the output
 abbrev pub FinishedBy : SonicStream → Filled → Conversion → Areas → Areas → Work → Type 0
@@ -60,6 +80,7 @@ FinishedBy s d c a b Work.StageFull = ⊥
 FinishedBy s d c a b Work.OutputFull =
     (b .input ≡ a .input) × (b .stage ≡ a .stage)
     × NoRoom (s .channels) (s .waiting .0) (a .output) (b .output) (c .made)
+FinishedBy s d c a b Work.TotalFull = TotalPassed s d c a b
 FinishedBy s d c a b (Work.Done o t) = FinishedAs s d c a b o t
 
 -- the conversion of the stage's frames, `new` behind the tail

@@ -14,9 +14,10 @@ use Rattle.volume.specs.Volume.{scaled}
 use Rattle.rate.specs.Conversion.{Conversion, adjustRate}
 use Rattle.period.specs.Rates.{maxRequired}
 use Rattle.stretch.specs.declared.Step.{Step}
-use Rattle.stream.specs.State.{State, withInput, withTail}
-use Rattle.fill.specs.declared.Outcome.{Outcome}
-use Rattle.fill.specs.Taking.{Taken, taken}
+use Rattle.stream.specs.Balance.{booked}
+use Rattle.stream.specs.State.{State, withInput, withTail, withBalance}
+use Rattle.fill.specs.declared.Told.{Told}
+use Rattle.fill.specs.Taking.{Taken, taken, counted}
 
 -- ---- a write's frames
 
@@ -30,24 +31,28 @@ joined fs s =
     withInput s (s .input ++ fs) (s .prev)
     (playTimeGrown (s .«input_play_time») (length fs) (samplePeriod (s .rate)) (s .speed) (s .pitch)) (s .«time_error»)
 
--- ---- one call's work: then rate and volume
+-- ---- one call's work: then rate and volume, and the totals (document 02, C-16)
 
--- the state after it, the frames made, how many were staged for them, the stretch steps, and the outcome
+-- the state after it, the frames made, how many were staged for them, the steps, and what is told
 pub record Made : Type 0 where
   pub state : State
   pub frames : List Frame
   pub staged : ℕ
   pub steps : List Step
-  pub outcome : Outcome
+  pub told : Told
+
+-- the totals with what steps add to them
+unfoldable pub counting : List Step → State → State
+counting ss s = withBalance s (booked (s .balance) (counted ss))
 
 unfoldable pub finished : Taken → Conversion → Made
 finished t c =
     record {
-      state = withTail (t .state) (c .rest) (c .at);
+      state = counting (t .steps) (withTail (t .state) (c .rest) (c .at));
       frames = map (map (scaled (t .state .volume))) (c .made);
       staged = length (t .frames);
       steps = t .steps;
-      outcome = t .outcome;
+      told = t .told;
     }
 
 unfoldable pub process : State → Made
@@ -69,6 +74,6 @@ expected s = expectedFrames (length (s .input)) (length (s .tail)) (s .speed) (s
 unfoldable pub flushWork : State → Made
 flushWork s = process (joined (replicate (2 * maxRequired (s .rate)) (replicate (s .channels) (pos 0))) s)
 
--- input, tail, play time and time error are cleared; p, n and the period record are not
+-- input, tail, play time and time error are cleared; p, n, the period record and the totals are not
 unfoldable pub cleared : State → State
 cleared s = withTail (withInput s [] (s .prev) zero zero) [] (s .at)

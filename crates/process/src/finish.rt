@@ -1,11 +1,12 @@
 // The second half of a call's work: rate and volume, into the output behind the frames waiting; then what was used
-// leaves input and tail.
+// leaves input and tail, and the totals grow.
 use crate::Work;
 use fill::Filled;
 use frames::Frames;
 use rate::Adjusted;
 use rate::Adjustment;
 use rate::Position;
+use stream::Booked;
 use stream::SonicStream;
 ghost use mathlib.Core.List.{[], map};
 ghost use Prim.Native.Nat.{_+_, _*_, _^_, _≤_};
@@ -35,7 +36,7 @@ fn scale_made(stream: SonicStream, made: Frames, output: &mut [i16])
     );
 }
 
-// The conversion is done: volume, and what was used leaves input and tail.
+// The conversion is done. Unless a total passes 64 bits: volume, and what was used leaves input and tail.
 fn commit(
     stream: SonicStream,
     filled: Filled,
@@ -51,6 +52,10 @@ fn commit(
 {
     let channels = stream.channels as usize;
     let mut after = filled.stream;
+    let booked = after.balance.book(filled.balance);
+    let Booked::Within(balance) = booked else {
+        return Work::TotalFull;
+    };
     let used = filled.used;
     let rest = after.held;
     let made = adjusted.made;
@@ -65,8 +70,9 @@ fn commit(
     after.new_rate_position = at.new;
     after.tail = left;
     after.waiting.0 = waiting;
-    let outcome = filled.outcome;
-    Work::Done(outcome, after)
+    after.balance = balance;
+    let told = filled.told;
+    Work::Done(told, after)
 }
 
 // The new frames of the stage at the pitch and the volume, into the output behind the frames waiting.

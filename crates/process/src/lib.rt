@@ -5,6 +5,7 @@ mod finish;
 
 use fill::Fill;
 pub use fill::Outcome;
+pub use fill::Told;
 use frames::Frames;
 use stream::SonicStream;
 ghost use mathlib.Core.Path.{_≡_};
@@ -15,11 +16,12 @@ ghost use Rattle.stream.specs.Order.{StreamReady};
 ghost use Rattle.process.specs.Streams.{joinedStream};
 ghost use Rattle.process.specs.Working.{AreasReady, WorkEnsures};
 
-// A call's work: no room in the stage, no room in the output, or done.
+// A call's work: no room in the stage, no room in the output, a total past 64 bits, or done.
 pub enum Work {
     StageFull,
     OutputFull,
-    Done(Outcome, SonicStream),
+    TotalFull,
+    Done(Told, SonicStream),
 }
 
 // The stream when n frames have joined its input, with the sample period that its rate gives.
@@ -40,7 +42,7 @@ pub fn joined(mut stream: SonicStream, period: f32, n: Frames) -> SonicStream
     stream
 }
 
-// A call's work on the frames held. Without room the kept parts stay as they came.
+// A call's work on the frames held. Unless it is done the kept parts stay as they came.
 pub fn process_stream_input(
     stream: SonicStream,
     input: &mut [i16],

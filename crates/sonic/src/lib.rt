@@ -4,9 +4,11 @@
 pub use adding::Wrote;
 pub use flush::flush;
 pub use process::Outcome;
+pub use process::Told;
 pub use read::Gave;
 pub use read::read_f32;
 pub use stream::Available;
+pub use stream::Balance;
 pub use stream::Changed;
 pub use stream::Opened;
 pub use stream::Setting;

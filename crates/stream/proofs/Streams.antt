@@ -6,9 +6,9 @@
 --   streamOf-lent, lent-alike      the states of a stream in any areas
 --   streamOf-back, back-alike      the state of a state's stream
 --   KeepsAlike, changed-any, changed-back        `ChangedBy` by one pair of areas, and of a state's stream
---   settings-alike, input-alike, tail-alike      alike states, changed alike
+--   settings-alike, input-alike, tail-alike, balance-alike      alike states, changed alike
 --   ready-lent, ready-stream       a state in order, in any areas; its stream
---   ready-input, ready-tail        with another input or tail
+--   ready-input, ready-tail, ready-balance       with another input, tail or totals
 -- Assumes nothing.
 use mathlib.Core.Path.{_≡_, refl, sym, _∙_}
 use mathlib.Core.List.{List, []}
@@ -25,7 +25,8 @@ use Rattle.rate.specs.declared.Position.{Position}
 use Rattle.rate.specs.Halving.{ratesOf}
 use Rattle.rate.specs.Tail.{PositionInOrder}
 use Rattle.stream.specs.declared.SonicStream.{SonicStream}
-use Rattle.stream.specs.State.{State, withSettings, withInput, withTail}
+use Rattle.stream.specs.declared.balance.Balance.{Balance}
+use Rattle.stream.specs.State.{State, withSettings, withInput, withTail, withBalance}
 use Rattle.stream.specs.Stream.{stateOf, streamOf, unlent, ChangedBy}
 use Rattle.stream.specs.Order.{StateReady, StreamReady}
 
@@ -72,6 +73,7 @@ pub record Alike (x y : State) : Type 0 where
   pub prev : x .prev ≡ y .prev
   pub «input_play_time» : x .«input_play_time» ≡ y .«input_play_time»
   pub «time_error» : x .«time_error» ≡ y .«time_error»
+  pub balance : x .balance ≡ y .balance
 
 -- they have one stream
 pub streamOf-same : {x y : State} → Alike x y → (w : ℕ) → streamOf x w ≡ streamOf y w
@@ -92,6 +94,7 @@ streamOf-same a w = λ i. record {
   held = record { 0 = a .input i };
   tail = record { 0 = a .tail i };
   waiting = record { 0 = w };
+  balance = a .balance i;
 }
 
 -- and states of one stream are alike
@@ -110,6 +113,7 @@ alike-of x y w e =
       prev = λ i. record { period = e i .«prev_period»; «min_diff» = e i .«prev_min_diff» };
       «input_play_time» = λ i. e i .«input_play_time»;
       «time_error» = λ i. e i .«time_error»;
+      balance = λ i. e i .balance;
     }
 
 -- the states of a stream, in any areas
@@ -158,6 +162,7 @@ module _ {x y : State} (h : Alike x y) where
         prev = h .prev;
         «input_play_time» = h .«input_play_time»;
         «time_error» = h .«time_error»;
+        balance = h .balance;
       }
 
   pub input-alike : (a b : List Frame) {p q : PeriodRecord} {t u e f : Float} → length a ≡ length b → p ≡ q → t ≡ u → e ≡ f
@@ -175,6 +180,7 @@ module _ {x y : State} (h : Alike x y) where
         prev = prev;
         «input_play_time» = play;
         «time_error» = error;
+        balance = h .balance;
       }
 
   pub tail-alike : (a b : List Frame) {p q : Position} → length a ≡ length b → p ≡ q → Alike (withTail x a p) (withTail y b q)
@@ -191,6 +197,24 @@ module _ {x y : State} (h : Alike x y) where
         prev = h .prev;
         «input_play_time» = h .«input_play_time»;
         «time_error» = h .«time_error»;
+        balance = h .balance;
+      }
+
+  pub balance-alike : {b c : Balance} → b ≡ c → Alike (withBalance x b) (withBalance y c)
+  balance-alike balance =
+      record {
+        rate = h .rate;
+        channels = h .channels;
+        speed = h .speed;
+        pitch = h .pitch;
+        volume = h .volume;
+        input = h .input;
+        tail = h .tail;
+        at = h .at;
+        prev = h .prev;
+        «input_play_time» = h .«input_play_time»;
+        «time_error» = h .«time_error»;
+        balance = balance;
       }
 
 -- ---- states in order
@@ -217,3 +241,7 @@ module _ {x : State} (r : StateReady x) where
 
   pub ready-tail : (tail : List Frame) (at : Position) → PositionInOrder (ratesOf (x .rate) (x .pitch)) at → StateReady (withTail x tail at)
   ready-tail tail at p = record { limits = r .limits; volume-low = r .volume-low; volume-high = r .volume-high; position = p; prev = r .prev }
+
+  pub ready-balance : (balance : Balance) → StateReady (withBalance x balance)
+  ready-balance balance =
+      record { limits = r .limits; volume-low = r .volume-low; volume-high = r .volume-high; position = r .position; prev = r .prev }

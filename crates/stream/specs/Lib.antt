@@ -1,3 +1,4 @@
+pub mod Balance
 pub mod State
 pub mod Stream
 pub mod Refusals

@@ -1,4 +1,4 @@
--- Document 01, "Areas and refusals": the table's tests, in its order. Definitions only. Assumes nothing.
+-- Document 01, "Areas and refusals": the table's tests, in its order; behind them document 02's. Definitions only. Assumes nothing.
 use mathlib.Core.Bool.{Bool, not, cond, _&&_, _||_}
 use mathlib.Core.List.{List}
 use Prim.Native.Nat.{ℕ, _+_, _*_}
@@ -14,6 +14,8 @@ use Rattle.rate.specs.declared.Rates.{Rates}
 use Rattle.rate.specs.Halving.{ratesOf}
 use Rattle.rate.specs.Tail.{ceilDiv}
 use Rattle.stream.specs.declared.SonicStream.{SonicStream}
+use Rattle.stream.specs.declared.balance.Balance.{Balance}
+use Rattle.stream.specs.Balance.{past}
 
 -- ---- the numbers; 0: accepted
 
@@ -40,6 +42,9 @@ stageFull = 6
 
 abbrev pub outputFull : ℕ
 outputFull = 7
+
+abbrev pub totalFull : ℕ
+totalFull = 12
 
 -- ---- 1 and 2, of an opening
 
@@ -82,13 +87,13 @@ positionsInOrder r s =
     ltb (s .«old_rate_position») (r .old) && eqb (s .«new_rate_position»)
     (ceilDiv (s .«old_rate_position» * r .new) (r .old))
 
--- play time, time error and counts are free
+-- play time, time error, counts and totals are free
 unfoldable pub inOrder : SonicStream → Bool
 inOrder s =
     limitsInOrder s
     && (periodInOrder s && (settingsInOrder s && (prevInOrder s && positionsInOrder (ratesOf (s .rate) (s .pitch)) s)))
 
--- ---- 4 to 7, by the lengths of the areas
+-- ---- 4 to 7, by the lengths of the areas; then 12, by the totals
 
 -- the longest area, in samples
 abbrev pub maxArea : ℕ
@@ -122,14 +127,16 @@ areasBad s a = sizesBad s a || partsBad s a
 unfoldable pub outputBad : SonicStream → List ℤ → Bool
 outputBad s output = tooLong output || tooShort (s .channels) (s .waiting .0) output
 
--- the number of a write or a flush that adds, stages and makes so many frames; 0: accepted
-unfoldable pub refusal : SonicStream → Areas → ℕ → ℕ → ℕ → ℕ
-refusal s a added staged made =
+-- the number of a write or a flush that adds, stages and makes so many frames, and would carry the totals to these;
+-- 0: accepted
+unfoldable pub refusal : SonicStream → Areas → ℕ → ℕ → ℕ → Balance → ℕ
+refusal s a added staged made balance =
     cond (not (inOrder s)) badStream
     (cond (areasBad s a) badAreas
     (cond (tooShort (s .channels) (s .held .0 + added) (a .input)) inputFull
     (cond (tooShort (s .channels) (s .tail .0 + staged) (a .stage)) stageFull
-    (cond (tooShort (s .channels) (s .waiting .0 + made) (a .output)) outputFull accepted))))
+    (cond (tooShort (s .channels) (s .waiting .0 + made) (a .output)) outputFull
+    (cond (past balance) totalFull accepted)))))
 
 -- that of a read
 unfoldable pub readRefusal : SonicStream → List ℤ → ℕ

@@ -12,6 +12,7 @@ use Rattle.stream.specs.declared.Setting.the-variants.{Speed, Pitch, Vol
 use Rattle.stream.specs.declared.Opened.{Opened}
 use Rattle.stream.specs.declared.Changed.{Changed}
 use Rattle.stream.specs.declared.Available.{Available}
+use Rattle.stream.specs.Balance.{none}
 use Rattle.stream.specs.State.{State, withSettings}
 use Rattle.stream.specs.Stream.{streamOf, unlent, zeroStream}
 use Rattle.stream.specs.Refusals.{badRate, badChannels, badStream, rateBad, channelsBad, inOrder}
@@ -31,6 +32,7 @@ fresh rate channels =
       prev = record { period = 0; «min_diff» = 0 };
       «input_play_time» = zero;
       «time_error» = zero;
+      balance = none;
     }
 
 -- 1 and 2 carry the number given and the stream with every field 0

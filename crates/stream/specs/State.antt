@@ -1,13 +1,15 @@
--- What a stream and its areas hold, the frames waiting apart (document 01, "Ledger of demand 3"). Definitions only.
--- Assumes nothing.
+-- What a stream and its areas hold, the frames waiting apart (document 01, "Ledger of demand 3"; document 02, C-16: its
+-- totals). Definitions only. Assumes nothing.
 use mathlib.Core.List.{List}
 use Prim.Native.Nat.{ℕ}
 use lib.Ieee.{Float}
 use Rattle.frames.specs.Framing.{Frame}
 use Rattle.period.specs.declared.PeriodRecord.{PeriodRecord}
 use Rattle.rate.specs.declared.Position.{Position}
+use Rattle.stream.specs.declared.balance.Balance.{Balance}
 
--- rate and channels, the settings, input, tail, positions p and n, period record, play time, time error
+-- rate and channels, the settings, input, tail, positions p and n, period record, play time, time error, and the totals
+-- of frames skipped and inserted
 pub record State : Type 0 where
   pub rate : ℕ
   pub channels : ℕ
@@ -20,6 +22,7 @@ pub record State : Type 0 where
   pub prev : PeriodRecord
   pub «input_play_time» : Float
   pub «time_error» : Float
+  pub balance : Balance
 
 -- the state with other settings and positions
 abbrev pub withSettings : State → Float → Float → Float → Position → State
@@ -36,6 +39,7 @@ withSettings s speed pitch volume at =
       prev = s .prev;
       «input_play_time» = s .«input_play_time»;
       «time_error» = s .«time_error»;
+      balance = s .balance;
     }
 
 -- the state with another input, period record, play time and time error
@@ -53,6 +57,7 @@ withInput s input prev play error =
       prev = prev;
       «input_play_time» = play;
       «time_error» = error;
+      balance = s .balance;
     }
 
 -- the state with another tail and other positions
@@ -70,4 +75,23 @@ withTail s tail at =
       prev = s .prev;
       «input_play_time» = s .«input_play_time»;
       «time_error» = s .«time_error»;
+      balance = s .balance;
+    }
+
+-- the state with other totals
+abbrev pub withBalance : State → Balance → State
+withBalance s balance =
+    record {
+      rate = s .rate;
+      channels = s .channels;
+      speed = s .speed;
+      pitch = s .pitch;
+      volume = s .volume;
+      input = s .input;
+      tail = s .tail;
+      at = s .at;
+      prev = s .prev;
+      «input_play_time» = s .«input_play_time»;
+      «time_error» = s .«time_error»;
+      balance = balance;
     }

@@ -9,6 +9,7 @@ use Rattle.frames.specs.Framing.{framesOf}
 use Rattle.floats.specs.Numbers.{zero}
 use Rattle.floats.specs.Settings.{samplePeriod}
 use Rattle.stream.specs.declared.SonicStream.{SonicStream}
+use Rattle.stream.specs.Balance.{none}
 use Rattle.stream.specs.State.{State}
 
 -- the state that a stream says with its input and its stage: the input holds written frames not yet used, the stage
@@ -27,6 +28,7 @@ stateOf s input stage =
       prev = record { period = s .«prev_period»; «min_diff» = s .«prev_min_diff» };
       «input_play_time» = s .«input_play_time»;
       «time_error» = s .«time_error»;
+      balance = s .balance;
     }
 
 -- the stream of a state, with w frames waiting; its sample period is document 01's T
@@ -48,6 +50,7 @@ streamOf s w =
       held = record { 0 = length (s .input) };
       tail = record { 0 = length (s .tail) };
       waiting = record { 0 = w };
+      balance = s .balance;
     }
 
 -- of a stream whose areas are not lent: as many frames as it holds, with no samples
@@ -77,4 +80,5 @@ zeroStream =
       held = record { 0 = 0 };
       tail = record { 0 = 0 };
       waiting = record { 0 = 0 };
+      balance = none;
     }

@@ -1,10 +1,14 @@
 // The stream's value with its constants, and the calls that are lent no area: opening, settings, the frames available.
-// `specs/Settings.antt` says what each answers. `areas` has refusals 4 and 5, for the calls that are lent areas.
+// `specs/Settings.antt` says what each answers. `areas` has refusals 4 and 5, and `balance` refusal 12,
+// for the calls that are lent areas.
 pub mod areas;
+mod balance;
 mod order;
 pub mod refusals;
 mod settings;
 
+pub use balance::Balance;
+pub use balance::Booked;
 use frames::Frames;
 pub use order::Order;
 ghost use mathlib.Core.Path.{_≡_};
@@ -29,6 +33,7 @@ pub struct SonicStream {
     pub held: Frames,
     pub tail: Frames,
     pub waiting: Frames,
+    pub balance: Balance,
 }
 
 // One setting with its value.
@@ -114,6 +119,7 @@ impl SonicStream {
             held: Frames(0),
             tail: Frames(0),
             waiting: Frames(0),
+            balance: Balance::NONE,
         }
     }
 

@@ -20,3 +20,6 @@ pub const INPUT_FULL: u32 = 5;
 pub const STAGE_FULL: u32 = 6;
 
 pub const OUTPUT_FULL: u32 = 7;
+
+// A total of the balance would pass 64 bits.
+pub const TOTAL_FULL: u32 = 12;

@@ -17,6 +17,7 @@ use Rattle.stretch.specs.declared.Place.{Place}
 use Rattle.stretch.specs.declared.Step.{Step}
 use Rattle.stretch.specs.declared.Turn.the-variants.{NoRoom, Went}
 use Rattle.stretch.specs.Steps.{nextStep, framesOut, stalls, samplesOut, prevAfter, placeAfter, after, turnFor, stageFor, StretchReady, Sound}
+use Rattle.stretch.specs.Tally.{tally}
 use Rattle.stretch.specs.Speed.{steps, framesMade, samplesOf, lastPlace, stalled}
 use Rattle.frames.proofs.Pasted.{paste-append}
 use Rattle.stretch.proofs.Soundness.{nextStep-sound, samplesOut-length, sound-in}
@@ -83,7 +84,7 @@ module _ {u : StretchCall} {x : List ℤ} {h₀ : Place} {stage₀ stage : List 
 
   -- no step is due
   pub going-end : u .held .0 < h .position .0 + maxRequired (u .rate) → Ended u x h₀ stage₀ stage to room h made false
-  unfolding samplesOf framesMade lastPlace stalled
+  unfolding samplesOf tally lastPlace stalled
   going-end d =
       let e = steps-end u x h d in
       let all = g .samples ∙ ap (λ (ss : List Step). g .front ++ samplesOf (u .channels) x (h .position .0) ss) e ∙ append-nil (g .front) in
@@ -112,7 +113,7 @@ module _ {u : StretchCall} {x : List ℤ} {h₀ : Place} {stage₀ stage : List 
         ap (take to) (wrote ∙ stage-left u x h (room - made) (nextStep u x h) stage (to + made * u .channels) over) ∙ going-kept
 
     pub going-full : turnFor u x h (room - made) (nextStep u x h) ≡ NoRoom → room < framesMade (steps u x h₀)
-    unfolding framesMade
+    unfolding tally
     going-full e =
         let k = no-room u x h (room - made) (nextStep u x h) e in
         let n = ap framesMade (on refl) in
@@ -148,7 +149,7 @@ module _ {u : StretchCall} {x : List ℤ} {h₀ : Place} {stage₀ stage : List 
 
       -- the call goes on, or has ended, at the place after it
       going-next : stalls (nextStep u x h) ≡ false → Going u x h₀ stage₀ stage' to room (next u x h) (made + framesOut (nextStep u x h))
-      unfolding samplesOf framesMade lastPlace stalled after placeAfter
+      unfolding samplesOf tally lastPlace stalled after placeAfter
       going-next f =
           let e = on f in
           record {
@@ -166,7 +167,7 @@ module _ {u : StretchCall} {x : List ℤ} {h₀ : Place} {stage₀ stage : List 
           }
 
       ended-next : stalls (nextStep u x h) ≡ true → Ended u x h₀ stage₀ stage' to room (next u x h) (made + framesOut (nextStep u x h)) true
-      unfolding samplesOf framesMade lastPlace stalled after placeAfter
+      unfolding samplesOf tally lastPlace stalled after placeAfter
       ended-next f =
           let e = on f in
           let all = g .samples ∙ ap (λ (ss : List Step). g .front ++ samplesOf (u .channels) x (h .position .0) ss) e

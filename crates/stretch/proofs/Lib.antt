@@ -5,6 +5,7 @@ pub mod Turning
 pub mod Between
 pub mod Outcome
 pub mod Taken
+pub mod Balance
 pub mod Claims
 pub mod Framed
 pub mod Figures

@@ -17,6 +17,7 @@ use Rattle.stretch.specs.declared.Place.{Place}
 use Rattle.stretch.specs.declared.Step.{Step}
 use Rattle.stretch.specs.declared.Step.the-variants.{Copied, Skipped, Inserted}
 use Rattle.stretch.specs.Steps.{framesOut, framesUsed, stalls, samplesOut, after, placeAfter, StretchReady, Sound}
+use Rattle.stretch.specs.Tally.{tally}
 use Rattle.stretch.specs.Speed.{steps, framesMade, samplesOf, lastPlace, stalled}
 use Rattle.stretch.proofs.Soundness.{nextStep-sound, samplesOut-length, sound-in}
 use Rattle.stretch.proofs.Progress.{steps-induct, after-position}
@@ -50,7 +51,7 @@ module _ (u : StretchCall) (x : List ℤ) where
   -- as many samples as frames
   pub sound-length : (h : Place) (ss : List Step) → AllSound u x h ss → u .held .0 * u .channels ≤ length x
       → length (samplesOf (u .channels) x (h .position .0) ss) ≡ framesMade ss * u .channels
-  unfolding samplesOf framesMade after placeAfter
+  unfolding samplesOf tally after placeAfter
   sound-length h [] a k = sym (zero-mul (u .channels))
   sound-length h (s ∷ ss) a k =
       let rest = samplesOf (u .channels) x (h .position .0 + framesUsed s) ss in

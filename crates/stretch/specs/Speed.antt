@@ -19,7 +19,8 @@ use Rattle.stretch.specs.declared.Step.{Step}
 use Rattle.stretch.specs.declared.Stretch.{Stretch}
 use Rattle.stretch.specs.declared.Stretched.{Stretched}
 use Rattle.stretch.specs.declared.Stretched.the-variants.{Made, Full}
-use Rattle.stretch.specs.Steps.{nextStep, framesOut, framesUsed, stalls, samplesOut, after}
+use Rattle.stretch.specs.Steps.{nextStep, framesUsed, stalls, samplesOut, after}
+use Rattle.stretch.specs.Tally.{tally}
 
 -- at most n steps, from a place until position + `max_required` exceeds the frames held or a step stalls
 unfoldable pub stepsIn : ℕ → StretchCall → List ℤ → Place → List Step
@@ -35,9 +36,8 @@ unfoldable pub steps : StretchCall → List ℤ → Place → List Step
 steps u x h = stepsIn (u .held .0) u x h
 
 -- the frames that steps give
-unfoldable pub framesMade : List Step → ℕ
-framesMade [] = 0
-framesMade (s ∷ ss) = framesOut s + framesMade ss
+abbrev pub framesMade : List Step → ℕ
+framesMade ss = tally ss .out
 
 -- their samples; the first of the steps is at frame `at`
 unfoldable pub samplesOf : ℕ → List ℤ → ℕ → List Step → List ℤ

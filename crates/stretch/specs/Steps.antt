@@ -55,6 +55,17 @@ framesUsed (Copied n) = n .0
 framesUsed (Skipped period k) = period .0 + k .0
 framesUsed (Inserted period k) = k .0
 
+-- the frames of the period that it skips, and of the one that it inserts (document 02, C-16)
+abbrev pub framesSkipped : Step → ℕ
+framesSkipped (Copied n) = 0
+framesSkipped (Skipped period k) = period .0
+framesSkipped (Inserted period k) = 0
+
+abbrev pub framesInserted : Step → ℕ
+framesInserted (Copied n) = 0
+framesInserted (Skipped period k) = 0
+framesInserted (Inserted period k) = period .0
+
 -- a skip with k = 0 ends the call as stalled
 abbrev pub stalls : Step → Bool
 stalls (Copied n) = false

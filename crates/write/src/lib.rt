@@ -1,4 +1,4 @@
-// The write: refusals 3 to 5 by the stream and the areas' lengths, 6 and 7 by the work itself.
+// The write: refusals 3 to 5 by the stream and the areas' lengths, 6, 7 and 12 by the work itself.
 use adding::Wrote;
 use adding::process_added;
 use frames::Frames;
@@ -41,7 +41,8 @@ fn write_frames(
     match process_added(stream, period, n, input, stage, output, scratch) {
         Work::StageFull => Wrote::Refused(refusals::STAGE_FULL, stream),
         Work::OutputFull => Wrote::Refused(refusals::OUTPUT_FULL, stream),
-        Work::Done(outcome, after) => Wrote::Done(outcome, after),
+        Work::TotalFull => Wrote::Refused(refusals::TOTAL_FULL, stream),
+        Work::Done(told, after) => Wrote::Done(told, after),
     }
 }
 

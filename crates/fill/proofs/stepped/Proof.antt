@@ -14,9 +14,13 @@ returns c =
     (record {
       frames = refl;
       used = refl;
+      balance = refl;
       stream = λ input stage. simp length-framesOf (rw (c .before .before .before .before .pre .2));
-      outcome = refl;
+      told = refl;
     })
+
+balance-of-requires : tie.Need-balance-of-requires
+balance-of-requires c κs = search needs
 
 removed-requires : tie.Need-removed-requires
 removed-requires c κs = search needs
@@ -24,8 +28,8 @@ removed-requires c κs = search needs
 returns-2 : tie.Need-returns-2
 unfolding stepped stateOf
 returns-2 c =
-    rw (c .before .if1 .left)
-    (record { frames = refl; used = refl; stream = c .removed .ensures; outcome = refl })
+    rw (c .before .before .if1 .left)
+    (record { frames = refl; used = refl; balance = c .before .balance-of .ensures; stream = c .removed .ensures; told = refl })
 
 pub stepped-spec : {M : Type 1} → statement M
-stepped-spec = tie.close (tie.spec returns removed-requires returns-2)
+stepped-spec = tie.close (tie.spec returns balance-of-requires removed-requires returns-2)
