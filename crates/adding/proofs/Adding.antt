@@ -17,10 +17,10 @@ use Rattle.frames.proofs.Behind.{behind-front, front-less}
 use Rattle.stream.specs.declared.SonicStream.{SonicStream}
 use Rattle.stream.specs.Stream.{stateOf, streamOf}
 use Rattle.stream.specs.Order.{StreamReady}
-use Rattle.stream.specs.Refusals.{stageFull, outputFull, inOrder, refusal}
+use Rattle.stream.specs.Refusals.{stageFull, outputFull, totalFull, inOrder}
 use Rattle.stream.proofs.InOrder.{tests-of, ranges-of, ranges-same}
 use Rattle.stream.proofs.Stays.{ready-in-order}
-use Rattle.fill.specs.declared.Outcome.{Outcome}
+use Rattle.fill.specs.declared.Told.{Told}
 use Rattle.process.specs.declared.Work.{Work}
 use Rattle.process.specs.Process.{Made, joined, process}
 use Rattle.process.specs.Streams.{joinedStream}
@@ -28,15 +28,16 @@ use Rattle.process.specs.Working.{Unchanged, WorkedAs, WorkedBy}
 use Rattle.process.proofs.Taken.{process-settings}
 use Rattle.process.proofs.Joining.{joined-state}
 use Rattle.adding.specs.declared.Wrote.{Wrote}
-use Rattle.adding.specs.Calls.{CallResult, callBy}
+use Rattle.adding.specs.Calls.{CallResult, callBy, refusalOf}
 use Rattle.adding.specs.Adding.{Accepted, AddEnsures}
-use Rattle.adding.proofs.Answers.{stage-met, output-met, none-met, CallAnswered, call-refused}
+use Rattle.adding.proofs.Answers.{stage-met, output-met, total-met, none-met, CallAnswered, call-refused}
 use Rattle.adding.proofs.Joining.{held-joined, tail-joined}
 
 -- the answer, where `after` says what is handed back of the stream after the work
 abbrev pub answerBy : SonicStream → (SonicStream → SonicStream) → Work → Wrote
 answerBy s after Work.StageFull = Wrote.Refused stageFull s
 answerBy s after Work.OutputFull = Wrote.Refused outputFull s
+answerBy s after Work.TotalFull = Wrote.Refused totalFull s
 answerBy s after (Work.Done o t) = Wrote.Done o (after t)
 
 -- the work on the state with the frames fs
@@ -69,18 +70,22 @@ module _ (s : SonicStream) (a b : Areas) (n : ℕ) (p : Accepted s a n) (input :
   tail-same u = rw (tail-joined s n) at (u .tail)
 
   module _ (c : CallResult) (after : SonicStream → SonicStream)
-      (done : (o : Outcome) (t : SonicStream) → WorkedAs (joinedStream n s) (workOf s a fs) begun b o t
+      (done : (o : Told) (t : SonicStream) → WorkedAs (joinedStream n s) (workOf s a fs) begun b o t
       → CallAnswered (s .channels) c (Wrote.Done o (after t)) b) where
     by-work : (r : Work) → WorkedBy (joinedStream n s) (workOf s a fs) begun b r
-        → CallAnswered (s .channels) (callBy (refusal s a n (workOf s a fs .staged) (length (workOf s a fs .frames))) s a c) (answerBy s after r) b
+        → CallAnswered (s .channels) (callBy (refusalOf s a n (workOf s a fs)) s a c) (answerBy s after r) b
     unfolding stateOf streamOf joined
     by-work Work.StageFull w =
-        call-refused s a b c (stage-met s a n _ _ p (rw (tail-joined s n) at (w .1))) (held-same (w .0)) (tail-same (w .0)) (w .0 .waiting)
+        call-refused s a b c (stage-met s a n _ _ _ p (rw (tail-joined s n) at (w .1))) (held-same (w .0)) (tail-same (w .0)) (w .0 .waiting)
     by-work Work.OutputFull w =
         let staged = rw (tail-joined s n) at (w .1) in
-        call-refused s a b c (output-met s a n _ _ p staged (w .2)) (held-same (w .0)) (tail-same (w .0)) (w .0 .waiting)
-    by-work (Work.Done o t) w = rw (none-met s a n _ _ p (rw (tail-joined s n) at (w .stage-fits)) (w .output-fits)) (done o t w)
+        call-refused s a b c (output-met s a n _ _ _ p staged (w .2)) (held-same (w .0)) (tail-same (w .0)) (w .0 .waiting)
+    by-work Work.TotalFull w =
+        let staged = rw (tail-joined s n) at (w .1) in
+        call-refused s a b c (total-met s a n _ _ _ p staged (w .2) (w .3)) (held-same (w .0)) (tail-same (w .0)) (w .0 .waiting)
+    by-work (Work.Done o t) w =
+        rw (none-met s a n _ _ _ p (rw (tail-joined s n) at (w .stage-fits)) (w .output-fits) (w .totals-fit)) (done o t w)
 
     pub added-answered : (r : Work) → AddEnsures s n begun b r
-        → CallAnswered (s .channels) (callBy (refusal s a n (workOf s a fs .staged) (length (workOf s a fs .frames))) s a c) (answerBy s after r) b
+        → CallAnswered (s .channels) (callBy (refusalOf s a n (workOf s a fs)) s a c) (answerBy s after r) b
     added-answered r w = by-work r (rw (joined-state s n (a .input) input (a .stage) fs h) at w)

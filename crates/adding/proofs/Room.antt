@@ -1,35 +1,40 @@
 -- What a write or a flush says of its stream and its areas when it was accepted. For the crates above. Assumes nothing.
 use mathlib.Core.Path.{_≡_}
-use mathlib.Core.Bool.{not}
+use mathlib.Core.Bool.{not, false}
 use Prim.Native.Nat.{ℕ, _+_, _*_, _≤_}
 use native.Mathlib.Omega.{arith}
 use borrow.Author.Tests.{ltb-false}
 use lib.ListN.{length}
 use Rattle.frames.specs.Areas.{Areas}
 use Rattle.stream.specs.declared.SonicStream.{SonicStream}
-use Rattle.stream.specs.Refusals.{accepted, badStream, badAreas, inputFull, stageFull, outputFull, inOrder, tooShort, areasBad, refusal}
+use Rattle.stream.specs.Balance.{past}
+use Rattle.stream.specs.Refusals.{accepted, badStream, badAreas, inputFull, stageFull, outputFull, totalFull, inOrder, tooShort, areasBad, refusal}
 use Rattle.stream.proofs.AreaTests.{areas-of}
 use Rattle.stream.proofs.Passing.{passed, in-order-passed}
+use Rattle.process.specs.Process.{Made}
+use Rattle.adding.specs.Calls.{refusalOf}
 use Rattle.adding.specs.Adding.{Accepted}
 
--- the facts behind an accepted write or flush that adds, stages and makes so many frames
-pub record Room (s : SonicStream) (a : Areas) (added staged made : ℕ) : Type 0 where
+-- the facts behind an accepted write or flush that adds so many frames, and whose work is m
+pub record Room (s : SonicStream) (a : Areas) (added : ℕ) (m : Made) : Type 0 where
   pub accepted : Accepted s a added
   pub held-fits : s .held .0 * s .channels ≤ length (a .input)
   pub tail-fits : s .tail .0 * s .channels ≤ length (a .stage)
   pub waiting-fits : s .waiting .0 * s .channels ≤ length (a .output)
-  pub stage : (s .tail .0 + staged) * s .channels ≤ length (a .stage)
-  pub output : (s .waiting .0 + made) * s .channels ≤ length (a .output)
+  pub stage : (s .tail .0 + m .staged) * s .channels ≤ length (a .stage)
+  pub output : (s .waiting .0 + length (m .frames)) * s .channels ≤ length (a .output)
+  pub totals : past (m .state .balance) ≡ false
 
-pub room-of : (s : SonicStream) (a : Areas) (added staged made : ℕ) → refusal s a added staged made ≡ accepted → Room s a added staged made
+pub room-of : (s : SonicStream) (a : Areas) (added : ℕ) (m : Made) → refusalOf s a added m ≡ accepted → Room s a added m
 unfolding refusal
-room-of s a added staged made e =
+room-of s a added m e =
     let ch : ℕ = s .channels in
     let in-order = passed (not (inOrder s)) badStream _ (omega arith) e in
     let areas = passed (areasBad s a) badAreas _ (omega arith) (in-order .1) in
     let input = passed (tooShort ch (s .held .0 + added) (a .input)) inputFull _ (omega arith) (areas .1) in
-    let stage = passed (tooShort ch (s .tail .0 + staged) (a .stage)) stageFull _ (omega arith) (input .1) in
-    let output = passed (tooShort ch (s .waiting .0 + made) (a .output)) outputFull accepted (omega arith) (stage .1) in
+    let stage = passed (tooShort ch (s .tail .0 + m .staged) (a .stage)) stageFull _ (omega arith) (input .1) in
+    let output = passed (tooShort ch (s .waiting .0 + length (m .frames)) (a .output)) outputFull _ (omega arith) (stage .1) in
+    let totals = passed (past (m .state .balance)) totalFull accepted (omega arith) (output .1) in
     let good = areas-of s a (areas .0) in
     record {
       accepted = record {
@@ -40,6 +45,7 @@ room-of s a added staged made e =
       held-fits = good .held;
       tail-fits = good .tail;
       waiting-fits = good .waiting;
-      stage = ltb-false (length (a .stage)) ((s .tail .0 + staged) * ch) (stage .0);
-      output = ltb-false (length (a .output)) ((s .waiting .0 + made) * ch) (output .0);
+      stage = ltb-false (length (a .stage)) ((s .tail .0 + m .staged) * ch) (stage .0);
+      output = ltb-false (length (a .output)) ((s .waiting .0 + length (m .frames)) * ch) (output .0);
+      totals = totals .0;
     }

@@ -48,19 +48,22 @@ abbrev pub callBy : ℕ → SonicStream → Areas → CallResult → CallResult
 callBy zero s a c = c
 callBy (suc k) s a c = refusedCall (suc k) s a
 
+-- that of a call that adds so many frames, and whose work is m
+abbrev pub refusalOf : SonicStream → Areas → ℕ → Made → ℕ
+refusalOf s a added m = refusal s a added (m .staged) (length (m .frames)) (m .state .balance)
+
 unfoldable pub writeCall : SonicStream → List Float → Areas → CallResult
 writeCall s samples a =
     let m : Made = writeWork samples (stateOf s (a .input) (a .stage)) in
-    callBy
-    (refusal s a (length (wholeFrames (s .channels) samples)) (m .staged) (length (m .frames)) (m .state .balance))
-    s a (acceptedCall s a (m .told) (m .state) (m .frames))
+    callBy (refusalOf s a (length (wholeFrames (s .channels) samples)) m) s a
+    (acceptedCall s a (m .told) (m .state) (m .frames))
 
 -- at most e of the frames made are kept; 7 counts before this, and so do the totals
 unfoldable pub flushCall : SonicStream → Areas → CallResult
 flushCall s a =
     let entering : State = stateOf s (a .input) (a .stage) in
     let m : Made = flushWork entering in
-    callBy (refusal s a (2 * maxRequired (s .rate)) (m .staged) (length (m .frames)) (m .state .balance)) s a
+    callBy (refusalOf s a (2 * maxRequired (s .rate)) m) s a
     (acceptedCall s a (m .told) (cleared (m .state)) (take (expected entering) (m .frames)))
 
 -- ---- what their contracts ensure

@@ -35,7 +35,7 @@ use Rattle.stream.specs.Refusals.{
   areasBad,
   tooShort,
 }
-use Rattle.fill.specs.declared.Outcome.{Outcome}
+use Rattle.fill.specs.declared.Told.{Told}
 use Rattle.process.specs.declared.Work.{Work}
 use Rattle.process.specs.Process.{Made, joined, flushWork, expected, cleared}
 use Rattle.process.specs.Streams.{joinedStream}
@@ -86,7 +86,7 @@ unfolding inOrder limitsInOrder periodInOrder settingsInOrder prevInOrder positi
 cleared-in-order t x w w' is e = rw is (rw is at e)
 
 -- what `cleared` asks of the stream after the work
-pub cleared-ready : (s t : SonicStream) (n : ℕ) (a b : Areas) (o : Outcome) → AddEnsures s n a b (Work.Done o t)
+pub cleared-ready : (s t : SonicStream) (n : ℕ) (a b : Areas) (o : Told) → AddEnsures s n a b (Work.Done o t)
     → (s .waiting .0 ≤ t .waiting .0) × (t .«sample_period» ≡ samplePeriod (t .rate))
 unfolding joined stateOf streamOf
 cleared-ready s t n a b o w = (omega (arith, ap (λ (x : SonicStream). x .waiting .0) (w .stream)), w .ready .period-is)
@@ -94,19 +94,22 @@ cleared-ready s t n a b o w = (omega (arith, ap (λ (x : SonicStream). x .waitin
 -- ---- refused before its work
 
 module _ (s : SonicStream) (a : Areas) where
+  abbrev work : Made
+  work = flushWork (stateOf s (a .input) (a .stage))
+
   pub flush-out-of-order : inOrder s ≡ false → CallAnswered (s .channels) (flushCall s a) (Wrote.Refused badStream s) a
   unfolding flushCall
-  flush-out-of-order e = stream-refused s a _ _ _ _ e
+  flush-out-of-order e = stream-refused s a _ work _ e
 
   module _ (o : inOrder s ≡ true) where
     pub flush-areas-bad : areasBad s a ≡ true → CallAnswered (s .channels) (flushCall s a) (Wrote.Refused badAreas s) a
     unfolding flushCall
-    flush-areas-bad e = areas-refused s a _ _ _ _ o e
+    flush-areas-bad e = areas-refused s a _ work _ o e
 
     pub flush-input-full : (n : ℕ) → n ≡ 2 * maxRequired (s .rate) → areasBad s a ≡ false
         → tooShort (s .channels) (s .held .0 + n) (a .input) ≡ true → CallAnswered (s .channels) (flushCall s a) (Wrote.Refused inputFull s) a
     unfolding flushCall
-    flush-input-full n count g e = rw (← count) (input-refused s a n _ _ _ o g e)
+    flush-input-full n count g e = rw (← count) (input-refused s a n work _ o g e)
 
 -- ---- by its work
 
@@ -123,13 +126,13 @@ module _ (s : SonicStream) (a b : Areas) (n : ℕ) (p : Accepted s a n) (count :
   abbrev made : Made
   made = workOf s a (silent s n)
 
-  done : (o : Outcome) (t : SonicStream) → WorkedAs (joinedStream n s) made (areas input (a .stage) (a .output) (a .scratch)) b o t
-      → CallAnswered (s .channels) (acceptedCall s a (made .outcome) (cleared (made .state)) (take e (made .frames))) (Wrote.Done o (clearedAfter s e t)) b
+  done : (o : Told) (t : SonicStream) → WorkedAs (joinedStream n s) made (areas input (a .stage) (a .output) (a .scratch)) b o t
+      → CallAnswered (s .channels) (acceptedCall s a (made .told) (cleared (made .state)) (take e (made .frames))) (Wrote.Done o (clearedAfter s e t)) b
   unfolding cleared framesOf joined stateOf streamOf
   done o t w =
       let order = worked-in-order s t a (silent s n) _ (p .in-order) (w .stream) (w .ready) in
       let output = expected-front (s .channels) (s .waiting .0) e (a .output) (b .output) (made .frames) (w .waiting) in
-      call-done s _ a b o (made .outcome) (cleared (made .state)) (take e (made .frames)) (w .outcome)
+      call-done s _ a b o (made .told) (cleared (made .state)) (take e (made .frames)) (w .told)
       (cleared-is s t (made .state) e (made .frames) (w .stream)) (cleared-in-order t (made .state) _ _ (w .stream) order) refl refl output
 
   pub flush-answered : (r : Work) → AddEnsures s n (areas input (a .stage) (a .output) (a .scratch)) b r
@@ -137,5 +140,5 @@ module _ (s : SonicStream) (a b : Areas) (n : ℕ) (p : Accepted s a n) (count :
   unfolding flushCall flushWork stateOf
   flush-answered r w =
       rw (expected-is s a, ← few, ← count)
-      (added-answered s a b n p input (silent s n) h (acceptedCall s a (made .outcome) (cleared (made .state)) (take e (made .frames)))
+      (added-answered s a b n p input (silent s n) h (acceptedCall s a (made .told) (cleared (made .state)) (take e (made .frames)))
       (clearedAfter s e) done r w)

@@ -24,8 +24,8 @@ pub record Fed : Type 0 where
   pub call : Call
   pub accepted : Bool
 
--- the state (rate, channels, settings, input, tail, p, n, period record, play time, time error), the frames made and
--- the outcomes
+-- the state (rate, channels, settings, input, tail, p, n, period record, play time, time error, and document 02's
+-- totals, without limit), the frames made and the outcomes
 pub record Ledger : Type 0 where
   pub state : State
   pub made : List Frame
@@ -41,13 +41,13 @@ unfoldable pub entry : Ledger → Call → Ledger
 entry l (setting v) = record { state = withSetting v (l .state); made = l .made; outcomes = l .outcomes }
 entry l (write samples) =
     let m : Made = writeWork samples (l .state) in
-    record { state = m .state; made = l .made ++ m .frames; outcomes = l .outcomes ++ (m .outcome ∷ []) }
+    record { state = m .state; made = l .made ++ m .frames; outcomes = l .outcomes ++ (m .told .outcome ∷ []) }
 entry l flush =
     let m : Made = flushWork (l .state) in
     record {
       state = cleared (m .state);
       made = l .made ++ take (expected (l .state)) (m .frames);
-      outcomes = l .outcomes ++ (m .outcome ∷ []);
+      outcomes = l .outcomes ++ (m .told .outcome ∷ []);
     }
 entry l (read most) = l
 

@@ -1,3 +1,4 @@
 pub mod Ledger
 pub mod Run
 pub mod Demand
+pub mod Balance

@@ -97,7 +97,7 @@ streamAfterSetting (Changed.Done s) = s
 -- an accepted call has one outcome, a refused one none
 abbrev pub outcomesOf : Wrote → List Outcome
 outcomesOf (Wrote.Refused number s) = []
-outcomesOf (Wrote.Done outcome s) = outcome ∷ []
+outcomesOf (Wrote.Done told s) = told .outcome ∷ []
 
 -- after a setting, which touches no area
 unfoldable pub afterSetting : Moment → Changed → Moment
@@ -172,7 +172,7 @@ settingAccepted (Changed.Done s) = true
 
 abbrev pub callAccepted : Wrote → Bool
 callAccepted (Wrote.Refused number s) = false
-callAccepted (Wrote.Done outcome s) = true
+callAccepted (Wrote.Done told s) = true
 
 abbrev pub readAccepted : Gave → Bool
 readAccepted (Gave.Refused number s) = false

@@ -15,20 +15,20 @@ use Rattle.period.specs.Rates.{maxRequired}
 use Rattle.stream.specs.declared.SonicStream.{SonicStream}
 use Rattle.stream.specs.State.{State}
 use Rattle.stream.specs.Stream.{stateOf}
-use Rattle.stream.specs.Refusals.{accepted, refusal}
+use Rattle.stream.specs.Refusals.{accepted}
 use Rattle.stream.proofs.InOrder.{limits-of, ready-of}
 use Rattle.stream.proofs.AreaTests.{areas-of}
-use Rattle.fill.specs.declared.Outcome.{Outcome}
+use Rattle.fill.specs.declared.Told.{Told}
 use Rattle.process.specs.Process.{wholeFrames, joined, writeWork, flushWork}
 use Rattle.process.proofs.Claims.{Held, StallsExactly, stalled-exactly}
 use Rattle.adding.specs.declared.Wrote.{Wrote}
-use Rattle.adding.specs.Calls.{refusedCall, acceptedCall, callBy, writeCall, flushCall}
+use Rattle.adding.specs.Calls.{refusedCall, acceptedCall, callBy, refusalOf, writeCall, flushCall}
 use Rattle.adding.specs.Adding.{Accepted}
 use Rattle.adding.proofs.Room.{room-of}
 use Rattle.adding.proofs.Adding.{workOf}
 
--- a call that answers `Done` was not refused, and its outcome is that of the work
-done-of : (number : ℕ) (s t : SonicStream) (a : Areas) (o o' : Outcome) (state : State) (frames : List Frame)
+-- a call that answers `Done` was not refused, and what it tells is what the work tells
+done-of : (number : ℕ) (s t : SonicStream) (a : Areas) (o o' : Told) (state : State) (frames : List Frame)
     → callBy number s a (acceptedCall s a o' state frames) .answer ≡ Wrote.Done o t → (number ≡ accepted) × (o' ≡ o)
 unfolding acceptedCall refusedCall
 done-of zero s t a o o' state frames e = (refl, cc)
@@ -51,27 +51,27 @@ added-held s a fs p =
     }
 
 -- a call that adds the frames fs, and keeps a state and frames of its work
-call-stalls : (s t : SonicStream) (a : Areas) (fs : List Frame) (n : ℕ) (o : Outcome) (state : State) (frames : List Frame) → n ≡ length fs
-    → callBy (refusal s a n (workOf s a fs .staged) (length (workOf s a fs .frames))) s a (acceptedCall s a (workOf s a fs .outcome) state frames) .answer
+call-stalls : (s t : SonicStream) (a : Areas) (fs : List Frame) (n : ℕ) (o : Told) (state : State) (frames : List Frame) → n ≡ length fs
+    → callBy (refusalOf s a n (workOf s a fs)) s a (acceptedCall s a (workOf s a fs .told) state frames) .answer
     ≡ Wrote.Done o t
-    → StallsExactly o (workOf s a fs .steps)
+    → StallsExactly (o .outcome) (workOf s a fs .steps)
 call-stalls s t a fs n o state frames count e =
-    let done = done-of (refusal s a n (workOf s a fs .staged) (length (workOf s a fs .frames))) s t a o (workOf s a fs .outcome) state frames e in
-    let room = room-of s a n (workOf s a fs .staged) (length (workOf s a fs .frames)) (done .0) in
+    let done = done-of (refusalOf s a n (workOf s a fs)) s t a o (workOf s a fs .told) state frames e in
+    let room = room-of s a n (workOf s a fs) (done .0) in
     let held = added-held s a fs (subst (Accepted s a) count (room .accepted)) in
-    subst (λ (x : Outcome). StallsExactly x (workOf s a fs .steps)) (done .1) (stalled-exactly (joined fs (stateOf s (a .input) (a .stage))) held)
+    subst (λ (x : Told). StallsExactly (x .outcome) (workOf s a fs .steps)) (done .1) (stalled-exactly (joined fs (stateOf s (a .input) (a .stage))) held)
 
 -- a write
-pub write-stalls : (s t : SonicStream) (samples : List Float) (a : Areas) (o : Outcome) → writeCall s samples a .answer ≡ Wrote.Done o t
-    → StallsExactly o (writeWork samples (stateOf s (a .input) (a .stage)) .steps)
+pub write-stalls : (s t : SonicStream) (samples : List Float) (a : Areas) (o : Told) → writeCall s samples a .answer ≡ Wrote.Done o t
+    → StallsExactly (o .outcome) (writeWork samples (stateOf s (a .input) (a .stage)) .steps)
 unfolding writeCall writeWork stateOf
 write-stalls s t samples a o e =
     let whole : List (List Float) = wholeFrames (s .channels) samples in
     call-stalls s t a (map (map sampleIn) whole) (length whole) o _ _ (sym (length-map whole (map sampleIn))) e
 
 -- a flush
-pub flush-stalls : (s t : SonicStream) (a : Areas) (o : Outcome) → flushCall s a .answer ≡ Wrote.Done o t
-    → StallsExactly o (flushWork (stateOf s (a .input) (a .stage)) .steps)
+pub flush-stalls : (s t : SonicStream) (a : Areas) (o : Told) → flushCall s a .answer ≡ Wrote.Done o t
+    → StallsExactly (o .outcome) (flushWork (stateOf s (a .input) (a .stage)) .steps)
 unfolding flushCall flushWork stateOf
 flush-stalls s t a o e =
     let n : ℕ = 2 * maxRequired (s .rate) in

@@ -17,7 +17,7 @@ use Rattle.floats.specs.Write.{sampleIn}
 use Rattle.stream.specs.declared.SonicStream.{SonicStream}
 use Rattle.stream.specs.Stream.{stateOf, streamOf}
 use Rattle.stream.specs.Refusals.{badStream, badAreas, inputFull, inOrder, areasBad, tooShort}
-use Rattle.fill.specs.declared.Outcome.{Outcome}
+use Rattle.fill.specs.declared.Told.{Told}
 use Rattle.process.specs.declared.Work.{Work}
 use Rattle.process.specs.Process.{Made, wholeFrames, joined, writeWork}
 use Rattle.process.specs.Streams.{joinedStream}
@@ -39,20 +39,23 @@ writeAnswer s r = answerBy s (λ t. t) r
 -- ---- refused before its work
 
 module _ (s : SonicStream) (samples : List Float) (a : Areas) where
+  abbrev work : Made
+  work = writeWork samples (stateOf s (a .input) (a .stage))
+
   pub write-out-of-order : inOrder s ≡ false → CallAnswered (s .channels) (writeCall s samples a) (Wrote.Refused badStream s) a
   unfolding writeCall
-  write-out-of-order e = stream-refused s a _ _ _ _ e
+  write-out-of-order e = stream-refused s a _ work _ e
 
   module _ (o : inOrder s ≡ true) where
     pub write-areas-bad : areasBad s a ≡ true → CallAnswered (s .channels) (writeCall s samples a) (Wrote.Refused badAreas s) a
     unfolding writeCall
-    write-areas-bad e = areas-refused s a _ _ _ _ o e
+    write-areas-bad e = areas-refused s a _ work _ o e
 
     pub write-input-full : (n : ℕ) → n ≡ length samples / s .channels → areasBad s a ≡ false
         → tooShort (s .channels) (s .held .0 + n) (a .input) ≡ true → CallAnswered (s .channels) (writeCall s samples a) (Wrote.Refused inputFull s) a
     unfolding writeCall wholeFrames
     write-input-full n whole g e =
-        rw (← whole, length-framesOf (s .channels) n samples) (input-refused s a n _ _ _ o g e)
+        rw (← whole, length-framesOf (s .channels) n samples) (input-refused s a n work _ o g e)
 
 -- ---- by its work
 
@@ -61,16 +64,16 @@ module _ (s : SonicStream) (samples : List Float) (a b : Areas) (n : ℕ) (p : A
   abbrev made : Made
   made = workOf s a (written s samples n)
 
-  done : (o : Outcome) (t : SonicStream) → WorkedAs (joinedStream n s) made (areas input (a .stage) (a .output) (a .scratch)) b o t
-      → CallAnswered (s .channels) (acceptedCall s a (made .outcome) (made .state) (made .frames)) (Wrote.Done o t) b
+  done : (o : Told) (t : SonicStream) → WorkedAs (joinedStream n s) made (areas input (a .stage) (a .output) (a .scratch)) b o t
+      → CallAnswered (s .channels) (acceptedCall s a (made .told) (made .state) (made .frames)) (Wrote.Done o t) b
   unfolding joined stateOf streamOf
   done o t w =
       let order = worked-in-order s t a (written s samples n) _ (p .in-order) (w .stream) (w .ready) in
-      call-done s t a b o (made .outcome) (made .state) (made .frames) (w .outcome) (w .stream) order (w .held) (w .tail) (w .waiting)
+      call-done s t a b o (made .told) (made .state) (made .frames) (w .told) (w .stream) order (w .held) (w .tail) (w .waiting)
 
   pub write-answered : (r : Work) → AddEnsures s n (areas input (a .stage) (a .output) (a .scratch)) b r
       → CallAnswered (s .channels) (writeCall s samples a) (writeAnswer s r) b
   unfolding writeCall writeWork wholeFrames stateOf
   write-answered r w =
       rw (← whole, length-framesOf (s .channels) n samples)
-      (added-answered s a b n p input (written s samples n) h (acceptedCall s a (made .outcome) (made .state) (made .frames)) (λ t. t) done r w)
+      (added-answered s a b n p input (written s samples n) h (acceptedCall s a (made .told) (made .state) (made .frames)) (λ t. t) done r w)

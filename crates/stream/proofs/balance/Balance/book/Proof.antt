@@ -39,8 +39,10 @@ returns-3 c =
     let one = both .before .before .before in
     let s = one .before .before .before in
     let a = s .args in
-    simp (le-ltb maxTotal (a .self .skipped + a .call .skipped) (omega (arith, s .good .0, one .if1 .left)),
-    le-ltb maxTotal (a .self .inserted + a .call .inserted) (omega (arith, s .good .0, both .if2 .left)))
+    simp (
+      le-ltb maxTotal (a .self .skipped + a .call .skipped) (omega (arith, s .good .0, one .if1 .left)),
+      le-ltb maxTotal (a .self .inserted + a .call .inserted) (omega (arith, s .good .0, both .if2 .left)),
+    )
 
 pub book-spec : {M : Type 1} → statement M
 book-spec = tie.close (tie.spec sub-if1 returns sub-if2 returns-2 add-t3 add-t5 returns-3)
