@@ -9,25 +9,24 @@ use Rattle.frames.specs.Framing.{Frame}
 use Rattle.stream.specs.declared.SonicStream.{SonicStream}
 use Rattle.stream.specs.State.{State}
 use Rattle.stream.specs.Stream.{stateOf, streamOf}
-use Rattle.stream.specs.Refusals.{refusal}
-use Rattle.fill.specs.declared.Outcome.{Outcome}
+use Rattle.fill.specs.declared.Told.{Told}
 use Rattle.process.specs.Process.{Made, wholeFrames, writeWork}
 use Rattle.process.proofs.Taken.{write-settings}
-use Rattle.adding.specs.Calls.{refusedCall, acceptedCall, callBy, writeCall, streamAfter}
+use Rattle.adding.specs.Calls.{refusedCall, acceptedCall, callBy, refusalOf, writeCall, streamAfter}
 
 module _ (s : SonicStream) (a : Areas) where
-  channels-by : (k : ℕ) (outcome : Outcome) (t : State) (frames : List Frame) → t .channels ≡ s .channels
-      → streamAfter (callBy k s a (acceptedCall s a outcome t frames) .answer) .channels ≡ s .channels
+  channels-by : (k : ℕ) (told : Told) (t : State) (frames : List Frame) → t .channels ≡ s .channels
+      → streamAfter (callBy k s a (acceptedCall s a told t frames) .answer) .channels ≡ s .channels
   unfolding refusedCall acceptedCall streamOf
-  channels-by zero outcome t frames same = same
-  channels-by (suc k) outcome t frames same = refl
+  channels-by zero told t frames same = same
+  channels-by (suc k) told t frames same = refl
 
   write-channels : (samples : List Float) → streamAfter (writeCall s samples a .answer) .channels ≡ s .channels
   unfolding writeCall stateOf
   write-channels samples =
       let entering : State = stateOf s (a .input) (a .stage) in
       let m : Made = writeWork samples entering in
-      channels-by (refusal s a (length (wholeFrames (s .channels) samples)) (m .staged) (length (m .frames))) (m .outcome) (m .state) (m .frames)
+      channels-by (refusalOf s a (length (wholeFrames (s .channels) samples)) m) (m .told) (m .state) (m .frames)
       (write-settings samples entering .channels)
 
 pub write-keeps : {t : SonicStream} (s : SonicStream) (samples : List Float) (a : Areas) → t ≡ streamAfter (writeCall s samples a .answer)

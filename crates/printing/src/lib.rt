@@ -5,6 +5,7 @@ use frames::Frames;
 use libc::STDOUT_FILENO;
 use scripts::sums::area_sum;
 use scripts::sums::bits;
+use stream::Balance;
 use stream::SonicStream;
 
 // Prints bytes as they are.
@@ -79,6 +80,13 @@ fn print_part(count: Frames, channels: u32, area: &[i16]) {
     print_word(area_sum(area, count, channels));
 }
 
+// Prints the totals.
+fn print_balance(balance: Balance) {
+    print(b" |");
+    print_count(balance.skipped);
+    print_count(balance.inserted);
+}
+
 // Prints the rest of an answer's line.
 pub fn print_stream(stream: SonicStream, input: &[i16], stage: &[i16], output: &[i16]) {
     print_settings(stream);
@@ -90,5 +98,6 @@ pub fn print_stream(stream: SonicStream, input: &[i16], stage: &[i16], output: &
     print_part(held, stream.channels, input);
     print_part(tail, stream.channels, stage);
     print_part(waiting, stream.channels, output);
+    print_balance(stream.balance);
     print(b"\n");
 }

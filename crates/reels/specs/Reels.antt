@@ -60,12 +60,12 @@ pub record SameInput (r r' : Reel) : Type 0 where
 -- whether a call stalled
 abbrev pub stalledIn : Wrote → Bool
 stalledIn (Wrote.Refused number s) = false
-stalledIn (Wrote.Done outcome s) = isStalled outcome
+stalledIn (Wrote.Done told s) = isStalled (told .outcome)
 
 -- the number of its refusal, or the number so far
 abbrev pub refusalIn : Wrote → ℕ → ℕ
 refusalIn (Wrote.Refused number s) n = number
-refusalIn (Wrote.Done outcome s) n = n
+refusalIn (Wrote.Done told s) n = n
 
 -- after a call, with so many frames written, and flushed or not; a stall began at the first frame held before it
 pub record Answered (written : ℕ) (flushed : Bool) (r : Reel) (answer : Wrote) (r' : Reel) : Type 0 where

@@ -106,7 +106,8 @@ impl Reel {
                 self.refusal = number;
                 self
             }
-            Wrote::Done(outcome, stream) => {
+            Wrote::Done(told, stream) => {
+                let outcome = told.outcome;
                 self.stream = stream;
                 if is_stalled(outcome) {
                     self.stalled = true;

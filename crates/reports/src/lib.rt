@@ -18,7 +18,8 @@ pub fn refused(number: u32) {
         refusals::BAD_AREAS => say::text(b": an area is too short for what the stream holds\n"),
         refusals::INPUT_FULL => say::text(b": the input area is full\n"),
         refusals::STAGE_FULL => say::text(b": the stage area is full\n"),
-        _ => say::text(b": the output area is full\n"),
+        refusals::OUTPUT_FULL => say::text(b": the output area is full\n"),
+        _ => say::text(b": a total of frames skipped or inserted would pass 64 bits\n"),
     }
 }
 
@@ -98,6 +99,7 @@ fn status(reel: Reel) -> u64
 fn say_summary(reel: Reel, status: u64) {
     let stalled = reel.stalled && !reel.flushed;
     let cut = reel.stalled && reel.flushed;
+    let balance = reel.stream.balance;
     say::number(b"skim: frames_in=", reel.frames_in);
     say::number(b" frames_out=", reel.frames_out);
     say::number(b" stalls=", stalled as u64);
@@ -105,6 +107,8 @@ fn say_summary(reel: Reel, status: u64) {
     say_frame(b" flush_stalled_at=", cut, reel.stalled_at);
     say::number(b" refusal=", reel.refusal as u64);
     say::number(b" status=", status);
+    say::number(b" skipped=", balance.skipped);
+    say::number(b" inserted=", balance.inserted);
     say::text(b"\n");
 }
 

@@ -20,7 +20,7 @@ fn with_setting(mut stream: SonicStream, field: u64, value: u64) -> SonicStream 
     stream
 }
 
-// A stream with a position, a part of the period record or a count of frames set.
+// A stream with a position, a part of the period record, a count of frames or a total set.
 fn with_count(mut stream: SonicStream, field: u64, value: u64) -> SonicStream {
     let n = value as usize;
     match field {
@@ -30,7 +30,9 @@ fn with_count(mut stream: SonicStream, field: u64, value: u64) -> SonicStream {
         11 => stream.prev_min_diff = n,
         12 => stream.held.0 = n,
         13 => stream.tail.0 = n,
-        _ => stream.waiting.0 = n,
+        14 => stream.waiting.0 = n,
+        15 => stream.balance.skipped = value,
+        _ => stream.balance.inserted = value,
     }
     stream
 }

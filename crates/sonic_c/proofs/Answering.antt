@@ -17,7 +17,7 @@ module _ {channels : ℕ} {c : CallResult} {a : Areas} where
   wrote-cases : (w : write-answer.Wrote) → CallEnsures channels c w a → WroteEnsures channels c (wroteOf w) a
   unfolding wroteOf
   wrote-cases (write-answer.Wrote.Refused number s) h = record { answer = rw (← h .answer); input = h .input; tail = h .tail; output = h .output }
-  wrote-cases (write-answer.Wrote.Done outcome s) h = record { answer = rw (← h .answer); input = h .input; tail = h .tail; output = h .output }
+  wrote-cases (write-answer.Wrote.Done told s) h = record { answer = rw (← h .answer); input = h .input; tail = h .tail; output = h .output }
 
   pub wrote-ensures : (w : write-answer.Wrote) (r : Wrote) → r ≡ wroteOf w → CallEnsures channels c w a → WroteEnsures channels c r a
   wrote-ensures w r e h = rw e (wrote-cases w h)

@@ -14,6 +14,7 @@ use Rattle.stream.specs.declared.Available as available-answer
 use Rattle.stream.specs.Refusals.{accepted}
 use Rattle.fill.specs.declared.Outcome.{Outcome}
 use Rattle.fill.specs.declared.Outcome.the-variants.{Empty, Copied, Waiting, Stretched, Stalled}
+use Rattle.fill.specs.declared.Told as call-told
 use Rattle.adding.specs.declared.Wrote as write-answer
 use Rattle.read.specs.declared.Gave as read-answer
 use Rattle.adding.specs.Calls.{CallResult}
@@ -21,6 +22,7 @@ use Rattle.read.specs.Reading.{ReadResult}
 use Rattle.sonic_c.specs.declared.Opened.{Opened}
 use Rattle.sonic_c.specs.declared.Changed.{Changed}
 use Rattle.sonic_c.specs.declared.Available.{Available}
+use Rattle.sonic_c.specs.declared.Told.{Told}
 use Rattle.sonic_c.specs.declared.Wrote.{Wrote}
 use Rattle.sonic_c.specs.declared.Gave.{Gave}
 
@@ -48,9 +50,13 @@ availableOf entering (available-answer.Available.Refused number s) =
 availableOf entering (available-answer.Available.Waiting n) =
     record { refusal = accepted; frames = n; stream = entering }
 
+unfoldable pub toldOf : call-told.Told → Told
+toldOf t = record { outcome = outcomeNumber (t .outcome) }
+
+-- refused, every field told is 0
 unfoldable pub wroteOf : write-answer.Wrote → Wrote
-wroteOf (write-answer.Wrote.Refused number s) = record { refusal = number; outcome = 0; stream = s }
-wroteOf (write-answer.Wrote.Done outcome s) = record { refusal = accepted; outcome = outcomeNumber outcome; stream = s }
+wroteOf (write-answer.Wrote.Refused number s) = record { refusal = number; told = record { outcome = 0 }; stream = s }
+wroteOf (write-answer.Wrote.Done told s) = record { refusal = accepted; told = toldOf told; stream = s }
 
 unfoldable pub gaveOf : read-answer.Gave → Gave
 gaveOf (read-answer.Gave.Refused number s) = record { refusal = number; frames = record { 0 = 0 }; stream = s }

@@ -3,13 +3,14 @@ use crate::Available;
 use crate::Changed;
 use crate::Gave;
 use crate::Opened;
+use crate::Told;
 use crate::Wrote;
 use frames::Frames;
 use sonic::Outcome;
 use stream::SonicStream;
 use stream::refusals;
 ghost use mathlib.Core.Path.{_≡_};
-ghost use Rattle.sonic_c.specs.Answers.{openedOf, changedOf, availableOf, wroteOf, gaveOf, outcomeNumber};
+ghost use Rattle.sonic_c.specs.Answers.{openedOf, changedOf, availableOf, wroteOf, gaveOf, outcomeNumber, toldOf};
 
 // The number of an outcome.
 fn outcome_number(outcome: Outcome) -> u32
@@ -77,6 +78,16 @@ pub(crate) fn available_of(entering: SonicStream, answer: stream::Available) -> 
     }
 }
 
+// What is told of an accepted write or flush.
+fn told_of(told: sonic::Told) -> Told
+    ensures { λ r. ⌜ r ≡ toldOf told ⌝ }
+{
+    let outcome = told.outcome;
+    Told {
+        outcome: outcome_number(outcome),
+    }
+}
+
 // The answer of a write or a flush.
 pub(crate) fn wrote_of(answer: sonic::Wrote) -> Wrote
     ensures { λ r. ⌜ r ≡ wroteOf answer ⌝ }
@@ -84,12 +95,12 @@ pub(crate) fn wrote_of(answer: sonic::Wrote) -> Wrote
     match answer {
         sonic::Wrote::Refused(refusal, stream) => Wrote {
             refusal,
-            outcome: 0,
+            told: Told { outcome: 0 },
             stream,
         },
-        sonic::Wrote::Done(outcome, stream) => Wrote {
+        sonic::Wrote::Done(told, stream) => Wrote {
             refusal: refusals::ACCEPTED,
-            outcome: outcome_number(outcome),
+            told: told_of(told),
             stream,
         },
     }

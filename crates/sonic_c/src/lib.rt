@@ -30,11 +30,17 @@ pub struct Available {
     pub stream: SonicStream,
 }
 
-// A write or a flush, with the number of its outcome.
+// What is told of an accepted write or flush: the number of its outcome.
+#[repr(C)]
+pub struct Told {
+    pub outcome: u32,
+}
+
+// A write or a flush.
 #[repr(C)]
 pub struct Wrote {
     pub refusal: u32,
-    pub outcome: u32,
+    pub told: Told,
     pub stream: SonicStream,
 }
 

@@ -25,7 +25,8 @@ fn wrote(answer: Wrote) -> SonicStream {
             print_refused(number);
             after
         }
-        Wrote::Done(outcome, after) => {
+        Wrote::Done(told, after) => {
+            let outcome = told.outcome;
             print_outcome(outcome);
             after
         }

@@ -10,8 +10,8 @@ enum-known-answer c = search needs
 enum-known-answer-2 : tie.Need-enum-known-answer-2
 enum-known-answer-2 c = search needs
 
-outcome-number-requires : tie.Need-outcome-number-requires
-outcome-number-requires c κs = search needs
+told-of-requires : tie.Need-told-of-requires
+told-of-requires c κs = search needs
 
 returns : tie.Need-returns
 unfolding wroteOf
@@ -19,9 +19,9 @@ returns c = rw (c .before .answer .given .1)
 
 returns-2 : tie.Need-returns-2
 unfolding wroteOf
-returns-2 c = rw (c .before .before .answer2 .given .1, c .outcome-number .ensures)
+returns-2 c = rw (c .before .before .answer2 .given .1, c .told-of .ensures)
 
 pub wrote-of-spec : {M : Type 1} → statement M
 wrote-of-spec =
     tie.close
-    (tie.spec enum-known-answer enum-known-answer-2 outcome-number-requires returns returns-2)
+    (tie.spec enum-known-answer enum-known-answer-2 told-of-requires returns returns-2)
