@@ -40,8 +40,8 @@ enum kelpladder_outcome {
     KELPLADDER_STALLED = 4    /* a step gave no frame: nothing left the input */
 };
 
-/* Totals over all accepted writes and flushes that did not stall. Frames out of the stretch or copy, before the rate conversion, plus
- * skipped equals frames used plus inserted; frames that a flush clears are not used. */
+/* Totals over all accepted writes and flushes that did not stall. Over these calls, frames out of the stretch or copy, before the rate
+ * conversion, plus skipped equals frames used plus inserted; frames that a flush clears are not used. */
 typedef struct kelpladder_balance {
     uint64_t skipped;         /* frames of periods skipped */
     uint64_t inserted;        /* frames of periods inserted */

@@ -1,8 +1,8 @@
 //! The calls of include/kelpladder.h. The functions below them take slices, so that a pointer always comes with its own length. The
 //! repository's tests and benchmarks use this file too, so nothing in it depends on the rest of the crate.
 
-/// The totals of a stream over all its accepted writes and flushes that did not stall. Frames that the stretch or the copy gave, before
-/// the rate conversion, plus those skipped are the frames that it used plus those inserted.
+/// The totals of a stream over all its accepted writes and flushes that did not stall. Over these calls, frames out of the stretch or
+/// copy, before the rate conversion, plus skipped equals frames used plus inserted; frames that a flush clears are not used.
 #[repr(C)]
 #[derive(Debug, Default, Clone, Copy, PartialEq, Eq, Hash)]
 pub struct Balance {
