@@ -14,17 +14,18 @@ const FIXED_RUNS: u64 = 5_000;
 /// Made-up streams whose calls are tried in areas just long enough and one sample short.
 const BORDER_SEEDS: u64 = 300;
 
-/// Plays a figure; its last answer has to be the one known, and the samples left in the output, where they are known.
+/// Plays a figure; its last answer has to be the one known, and the samples left in the output and the totals, where they are known.
 fn play_figure(bench: &mut Bench<'_>, figure: Figure) -> Result<(), Failure> {
     let answer = bench.play(&figure.calls)?;
     if (answer.refusal, answer.outcome, answer.frames) != figure.wanted {
         return Err(Failure { what: format!("{}: {answer:?} in place of {:?}", figure.name, figure.wanted), calls: figure.calls });
     }
-    match figure.output {
-        Some(output) if output != bench.output => {
-            Err(Failure { what: format!("{}: {:?} in place of {output:?}", figure.name, bench.output), calls: figure.calls })
-        }
-        _ => Ok(()),
+    if let Some(output) = figure.output.filter(|output| *output != bench.output) {
+        return Err(Failure { what: format!("{}: {:?} in place of {output:?}", figure.name, bench.output), calls: figure.calls });
+    }
+    match figure.balance.filter(|balance| *balance != bench.balance) {
+        Some(balance) => Err(Failure { what: format!("{}: {:?} in place of {balance:?}", figure.name, bench.balance), calls: figure.calls }),
+        None => Ok(()),
     }
 }
 
