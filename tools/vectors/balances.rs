@@ -7,7 +7,8 @@ fn balances(r: &mut Runs) {
     r.write(NOISE, 1, 1, 9).available().flush().open(8_000, 1);
     for (name, field, speed, flushed) in [("skipped", SKIPPED, 2.0, 140), ("inserted", INSERTED, 0.5, 260)] {
         r.run(&format!("12: {name}, of a write"), AREAS, 8_000, 1).speed(speed).edit_total(field, 19).write(SILENCE, 1, 1, 246);
-        r.edit_total(field, 20).write(SILENCE, 1, 1, 246).write(SILENCE, 1, 1, 100).speed(1.0 / speed).write(VOICE, 1, 62, 900).read(99, 99);
+        r.edit_total(field, 20).write(SILENCE, 1, 1, 246).write(SILENCE, 1, 1, 100).speed(1.0 / speed).write(VOICE, 1, 62, 900);
+        r.read(99, 99);
         r.run(&format!("12: {name}, of a flush"), AREAS, 8_000, 1).speed(speed).edit_total(field, flushed - 1).flush();
         r.edit_total(field, flushed).flush().flush().speed(1.0 / speed).flush();
     }

@@ -60,7 +60,7 @@ pub struct Available {
     pub stream: Stream,
 }
 
-/// What is told of an accepted write or flush.
+/// What is told of an accepted write or flush; every field is 0 if refused.
 #[repr(C)]
 #[derive(Debug, Default, Clone, Copy)]
 pub struct Told {
