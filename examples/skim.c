@@ -40,7 +40,7 @@ int main(void) {
             fprintf(stderr, "refusal %u, or no output\n", wrote.refusal);
             return 2;
         }
-        if (wrote.outcome == KELPLADDER_STALLED) {
+        if (wrote.told.outcome == KELPLADDER_STALLED) {
             fprintf(stderr, "stalled: nothing further on this reel can be skimmed at this speed\n");
             return 1;
         }

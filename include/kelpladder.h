@@ -27,7 +27,8 @@ enum kelpladder_refusal {
     KELPLADDER_BAD_AREAS = 4,    /* an area above 16,777,216 samples, a scratch below 2*(rate/65), or an area below what the stream holds */
     KELPLADDER_INPUT_FULL = 5,   /* frames held plus frames added exceed the input area */
     KELPLADDER_STAGE_FULL = 6,   /* tail plus stretched or copied frames exceed the stage */
-    KELPLADDER_OUTPUT_FULL = 7   /* frames waiting plus frames made exceed the output area */
+    KELPLADDER_OUTPUT_FULL = 7,  /* frames waiting plus frames made exceed the output area */
+    KELPLADDER_TOTAL_FULL = 12   /* a total of the balance would pass 64 bits */
 };
 
 /* How an accepted write or flush went. */
@@ -38,6 +39,13 @@ enum kelpladder_outcome {
     KELPLADDER_STRETCHED = 3, /* stretched */
     KELPLADDER_STALLED = 4    /* a step gave no frame: nothing left the input */
 };
+
+/* Totals over all accepted writes and flushes that did not stall. Over these calls, frames out of the stretch or copy, before the rate
+ * conversion, plus skipped equals frames used plus inserted; frames that a flush clears are not used. */
+typedef struct kelpladder_balance {
+    uint64_t skipped;         /* frames of periods skipped */
+    uint64_t inserted;        /* frames of periods inserted */
+} kelpladder_balance;
 
 /* The stream's value. */
 typedef struct kelpladder_stream {
@@ -56,6 +64,7 @@ typedef struct kelpladder_stream {
     size_t held;              /* frames in the input area */
     size_t tail;              /* frames in the stage */
     size_t waiting;           /* frames in the output area */
+    kelpladder_balance balance;
 } kelpladder_stream;
 
 /* An opening: refused, `given` is the rate or the channels given, and every field of the stream is 0. */
@@ -78,10 +87,15 @@ typedef struct kelpladder_available {
     kelpladder_stream stream;
 } kelpladder_available;
 
-/* A write or a flush; the outcome is 0 if refused. */
+/* What is told of an accepted write or flush; every field is 0 if refused. */
+typedef struct kelpladder_told {
+    uint32_t outcome;
+} kelpladder_told;
+
+/* A write or a flush. */
 typedef struct kelpladder_wrote {
     uint32_t refusal;
-    uint32_t outcome;
+    kelpladder_told told;
     kelpladder_stream stream;
 } kelpladder_wrote;
 
@@ -103,7 +117,8 @@ kelpladder_changed kelpladder_set_volume(kelpladder_stream stream, float volume)
 /* The frames waiting to be read; refusal 3. */
 kelpladder_available kelpladder_available_frames(kelpladder_stream stream);
 
-/* Writes the whole frames of the samples; a partial last frame is dropped. Refusals 3 to 7. Each pointer is followed by its length. */
+/* Writes the whole frames of the samples; a partial last frame is dropped. Refusals 3 to 7 and 12. Each pointer is followed by its
+ * length. */
 kelpladder_wrote kelpladder_write_f32(kelpladder_stream stream, const float *samples, size_t samples_length,
                                       int16_t *input, size_t input_length, int16_t *stage, size_t stage_length,
                                       int16_t *output, size_t output_length, int16_t *scratch, size_t scratch_length);
@@ -112,7 +127,7 @@ kelpladder_wrote kelpladder_write_f32(kelpladder_stream stream, const float *sam
 kelpladder_gave kelpladder_read_f32(kelpladder_stream stream, size_t most_frames, float *slice, size_t slice_length,
                                     int16_t *output, size_t output_length);
 
-/* Makes frames of what is held and of silence, keeps those expected, and clears what is held. Refusals 3 to 7. */
+/* Makes frames of what is held and of silence, keeps those expected, and clears what is held. Refusals 3 to 7 and 12. */
 kelpladder_wrote kelpladder_flush(kelpladder_stream stream, int16_t *input, size_t input_length, int16_t *stage, size_t stage_length,
                                   int16_t *output, size_t output_length, int16_t *scratch, size_t scratch_length);
 

@@ -13,6 +13,8 @@
 //
 // With TRACE=FILE in the environment the calls of the run under way are written to the file before they are made.
 
+#[path = "../../tests/differential/balances.rs"]
+mod balances;
 #[path = "../../tests/differential/bites.rs"]
 mod bites;
 #[path = "../../tests/differential/borders.rs"]

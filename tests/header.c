@@ -38,15 +38,21 @@ static int same_work(kelpladder_stream a, kelpladder_stream b)
         && a.new_rate_position == b.new_rate_position && a.prev_period == b.prev_period && a.prev_min_diff == b.prev_min_diff;
 }
 
+static int totals_are(kelpladder_stream stream, uint64_t skipped, uint64_t inserted)
+{
+    return stream.balance.skipped == skipped && stream.balance.inserted == inserted;
+}
+
 static int same(kelpladder_stream a, kelpladder_stream b)
 {
-    return same_settings(a, b) && same_work(a, b) && a.held == b.held && a.tail == b.tail && a.waiting == b.waiting;
+    return same_settings(a, b) && same_work(a, b) && a.held == b.held && a.tail == b.tail && a.waiting == b.waiting
+        && totals_are(a, b.balance.skipped, b.balance.inserted);
 }
 
 /* A stream with every field 0. */
 static kelpladder_stream zero(void)
 {
-    kelpladder_stream stream = {0, 0, 0, 0, 0, 0, 0, 0, 0, 0, 0, 0, 0, 0, 0};
+    kelpladder_stream stream = {0, 0, 0, 0, 0, 0, 0, 0, 0, 0, 0, 0, 0, 0, 0, {0, 0}};
     return stream;
 }
 
@@ -161,7 +167,7 @@ static void refuses_write(kelpladder_stream stream, size_t frames, size_t input_
 {
     kelpladder_wrote wrote = write_in(stream, voice, frames, input_length, stage_length, output_length, scratch_length);
     CHECK(wrote.refusal == refusal);
-    CHECK(wrote.outcome == 0);
+    CHECK(wrote.told.outcome == 0);
     CHECK(same(wrote.stream, stream));
 }
 
@@ -200,12 +206,12 @@ static void copies(void)
     const float samples[5] = {1.0f, -0.5f, (float)NAN, -2.0f, 0.25f};
     kelpladder_wrote wrote = write_all(fresh(2), samples, 5);
     kelpladder_available available = kelpladder_available_frames(wrote.stream);
-    CHECK(wrote.refusal == KELPLADDER_ACCEPTED && wrote.outcome == KELPLADDER_COPIED);
+    CHECK(wrote.refusal == KELPLADDER_ACCEPTED && wrote.told.outcome == KELPLADDER_COPIED);
     CHECK(wrote.stream.held == 0 && wrote.stream.waiting == 2 && wrote.stream.input_play_time == 0.0f);
     CHECK(output[0] == 32767 && output[1] == -16383 && output[2] == 0 && output[3] == -32767);
     CHECK(available.refusal == KELPLADDER_ACCEPTED && available.frames == 2 && same(available.stream, wrote.stream));
     wrote = write_all(fresh(2), samples, 1);
-    CHECK(wrote.refusal == KELPLADDER_ACCEPTED && wrote.outcome == KELPLADDER_EMPTY && same(wrote.stream, fresh(2)));
+    CHECK(wrote.refusal == KELPLADDER_ACCEPTED && wrote.told.outcome == KELPLADDER_EMPTY && same(wrote.stream, fresh(2)));
 }
 
 static void gives(void)
@@ -232,10 +238,10 @@ static void stretches(void)
     kelpladder_wrote wrote;
     speak(0, 4000, 62);
     wrote = write_all(with(2.0f, 1.0f), voice, REQUIRED - 1);
-    CHECK(wrote.outcome == KELPLADDER_WAITING && wrote.stream.held == REQUIRED - 1 && wrote.stream.waiting == 0);
+    CHECK(wrote.told.outcome == KELPLADDER_WAITING && wrote.stream.held == REQUIRED - 1 && wrote.stream.waiting == 0);
     CHECK(fabsf(wrote.stream.input_play_time - (REQUIRED - 1) / 16000.0f) < 1e-6f && wrote.stream.time_error == 0.0f);
     wrote = write_all(wrote.stream, voice + REQUIRED - 1, 1);
-    CHECK(wrote.outcome == KELPLADDER_STRETCHED && wrote.stream.prev_period == 62);
+    CHECK(wrote.told.outcome == KELPLADDER_STRETCHED && wrote.stream.prev_period == 62);
     CHECK(wrote.stream.held == REQUIRED - 124 && wrote.stream.waiting == 62 && wrote.stream.tail == 0);
 }
 
@@ -243,7 +249,7 @@ static void stretches(void)
 static void pitches(void)
 {
     kelpladder_wrote wrote = write_all(with(0.5f, 0.5f), voice, 112);
-    CHECK(wrote.outcome == KELPLADDER_COPIED && wrote.stream.waiting == 200 && wrote.stream.tail == 12);
+    CHECK(wrote.told.outcome == KELPLADDER_COPIED && wrote.stream.waiting == 200 && wrote.stream.tail == 12);
 }
 
 /* Speed 20, pitch 0.5: a period of 62 gives one frame, one of 34 none. */
@@ -253,15 +259,15 @@ static void stalls(void)
     size_t held;
     speak(0, 4000, 62);
     wrote = write_all(with(20.0f, 0.5f), voice, 4000);
-    CHECK(wrote.outcome == KELPLADDER_STRETCHED && wrote.stream.held < REQUIRED);
+    CHECK(wrote.told.outcome == KELPLADDER_STRETCHED && wrote.stream.held < REQUIRED);
     held = wrote.stream.held;
     speak(0, 4000, 34);
     wrote = write_all(wrote.stream, voice, 4000);
-    CHECK(wrote.refusal == KELPLADDER_ACCEPTED && wrote.outcome == KELPLADDER_STALLED && wrote.stream.held == held + 4000);
+    CHECK(wrote.refusal == KELPLADDER_ACCEPTED && wrote.told.outcome == KELPLADDER_STALLED && wrote.stream.held == held + 4000);
     wrote = write_all(wrote.stream, voice, 1000);
-    CHECK(wrote.outcome == KELPLADDER_STALLED && wrote.stream.held == held + 5000);
+    CHECK(wrote.told.outcome == KELPLADDER_STALLED && wrote.stream.held == held + 5000);
     wrote = flush_in(wrote.stream, AREA, AREA, AREA);
-    CHECK(wrote.outcome == KELPLADDER_STALLED && wrote.stream.held == 0 && wrote.stream.tail == 0);
+    CHECK(wrote.told.outcome == KELPLADDER_STALLED && wrote.stream.held == 0 && wrote.stream.tail == 0);
 }
 
 /* A flush at speed 2 gives half of what is held, and has its own refusals. */
@@ -270,7 +276,7 @@ static void flushes(void)
     kelpladder_wrote held, wrote;
     speak(0, 4000, 62);
     held = write_all(with(2.0f, 1.0f), voice, 200);
-    CHECK(held.outcome == KELPLADDER_WAITING);
+    CHECK(held.told.outcome == KELPLADDER_WAITING);
     wrote = flush_in(held.stream, 200 + 2 * REQUIRED - 1, AREA, AREA);
     CHECK(wrote.refusal == KELPLADDER_INPUT_FULL && same(wrote.stream, held.stream));
     wrote = flush_in(held.stream, AREA, 10, AREA);
@@ -278,8 +284,84 @@ static void flushes(void)
     wrote = flush_in(held.stream, AREA, AREA, 10);
     CHECK(wrote.refusal == KELPLADDER_OUTPUT_FULL && same(wrote.stream, held.stream));
     wrote = flush_in(held.stream, 200 + 2 * REQUIRED, AREA, AREA);
-    CHECK(wrote.refusal == KELPLADDER_ACCEPTED && wrote.outcome == KELPLADDER_STRETCHED && wrote.stream.waiting == 100);
+    CHECK(wrote.refusal == KELPLADDER_ACCEPTED && wrote.told.outcome == KELPLADDER_STRETCHED && wrote.stream.waiting == 100);
     CHECK(wrote.stream.held == 0 && wrote.stream.tail == 0 && wrote.stream.input_play_time == 0.0f && wrote.stream.time_error == 0.0f);
+}
+
+/* A stream at this speed and pitch with these totals. */
+static kelpladder_stream counting(float speed, float pitch, uint64_t skipped, uint64_t inserted)
+{
+    kelpladder_stream stream = with(speed, pitch);
+    stream.balance.skipped = skipped;
+    stream.balance.inserted = inserted;
+    return stream;
+}
+
+/* One step of period 62: a skip at speed 4 uses 82 frames and gives 20, an insert at speed 0.25 uses 20 and gives 82. */
+static void counts(void)
+{
+    kelpladder_wrote wrote;
+    float slice[1];
+    speak(0, 4000, 62);
+    CHECK(totals_are(fresh(2), 0, 0));
+    wrote = write_all(with(4.0f, 1.0f), voice, REQUIRED);
+    CHECK(wrote.stream.waiting == 20 && wrote.stream.held == REQUIRED - 82 && totals_are(wrote.stream, 62, 0));
+    CHECK(totals_are(kelpladder_read_f32(wrote.stream, 1, slice, 1, output, AREA).stream, 62, 0));
+    CHECK(totals_are(kelpladder_set_speed(wrote.stream, 0.5f).stream, 62, 0));
+    CHECK(totals_are(kelpladder_set_pitch(wrote.stream, 2.0f).stream, 62, 0));
+    CHECK(totals_are(kelpladder_set_volume(wrote.stream, 2.0f).stream, 62, 0));
+    wrote = write_all(counting(0.25f, 1.0f, 62, 0), voice, REQUIRED);
+    CHECK(wrote.stream.waiting == 82 && wrote.stream.held == REQUIRED - 20 && totals_are(wrote.stream, 62, 62));
+    wrote = write_all(counting(1.0f, 1.0f, 62, 124), voice, REQUIRED);
+    CHECK(wrote.told.outcome == KELPLADDER_COPIED && totals_are(wrote.stream, 62, 124));
+}
+
+/* The 7 skips of a flush on silence, of 20 frames each, count, though no frame is kept; a stall after frames counts nothing. */
+static void counts_flushes_and_stalls(void)
+{
+    kelpladder_wrote wrote = flush_in(counting(2.0f, 1.0f, 5, 6), AREA, AREA, AREA);
+    CHECK(wrote.told.outcome == KELPLADDER_STRETCHED && wrote.stream.waiting == 0 && totals_are(wrote.stream, 145, 6));
+    speak(0, 310, 62);
+    memset(voice + 310, 0, 300 * sizeof *voice);
+    wrote = write_all(counting(20.0f, 0.5f, 5, 6), voice, 610);
+    CHECK(wrote.told.outcome == KELPLADDER_STALLED && wrote.stream.tail == 5 && totals_are(wrote.stream, 5, 6));
+    wrote = flush_in(wrote.stream, AREA, AREA, AREA);
+    CHECK(wrote.told.outcome == KELPLADDER_STALLED && totals_are(wrote.stream, 5, 6));
+}
+
+/* A total may come to its end, and a call that would carry it further is refused, after 7. */
+static void refuses_full_totals(void)
+{
+    const uint64_t end = UINT64_MAX;
+    kelpladder_stream full = counting(2.0f, 1.0f, end - 61, 5);
+    kelpladder_wrote wrote;
+    speak(0, 4000, 62);
+    wrote = write_all(counting(2.0f, 1.0f, end - 62, end), voice, REQUIRED);
+    CHECK(wrote.refusal == KELPLADDER_ACCEPTED && totals_are(wrote.stream, end, end));
+    wrote = write_all(counting(0.5f, 1.0f, end, end - 62), voice, REQUIRED);
+    CHECK(wrote.refusal == KELPLADDER_ACCEPTED && totals_are(wrote.stream, end, end));
+    refuses_write(full, REQUIRED, AREA, 62, 62, REQUIRED, KELPLADDER_TOTAL_FULL);
+    refuses_write(full, REQUIRED, AREA, 62, 61, REQUIRED, KELPLADDER_OUTPUT_FULL);
+    refuses_write(counting(0.5f, 1.0f, 5, end - 61), REQUIRED, AREA, AREA, AREA, REQUIRED, KELPLADDER_TOTAL_FULL);
+    wrote = flush_in(counting(2.0f, 1.0f, end - 139, 5), AREA, AREA, AREA);
+    CHECK(wrote.refusal == KELPLADDER_TOTAL_FULL && wrote.told.outcome == 0 && same(wrote.stream, counting(2.0f, 1.0f, end - 139, 5)));
+    CHECK(totals_are(flush_in(counting(2.0f, 1.0f, end - 140, 5), AREA, AREA, AREA).stream, end, 5));
+}
+
+/* A call that counts nothing is accepted at any totals. */
+static void accepts_full_totals(void)
+{
+    const uint64_t end = UINT64_MAX;
+    kelpladder_wrote wrote = write_all(counting(1.0f, 1.0f, end, end), voice, REQUIRED);
+    CHECK(wrote.told.outcome == KELPLADDER_COPIED && totals_are(wrote.stream, end, end));
+    wrote = write_all(counting(2.0f, 1.0f, end, end), voice, REQUIRED - 1);
+    CHECK(wrote.told.outcome == KELPLADDER_WAITING && totals_are(wrote.stream, end, end));
+    speak(0, 310, 62);
+    memset(voice + 310, 0, 300 * sizeof *voice);
+    wrote = write_all(counting(20.0f, 0.5f, end, end), voice, 610);
+    CHECK(wrote.refusal == KELPLADDER_ACCEPTED && wrote.told.outcome == KELPLADDER_STALLED && totals_are(wrote.stream, end, end));
+    CHECK(kelpladder_set_speed(wrote.stream, 2.0f).refusal == KELPLADDER_ACCEPTED);
+    CHECK(kelpladder_available_frames(wrote.stream).refusal == KELPLADDER_ACCEPTED);
 }
 
 int main(void)
@@ -296,6 +378,10 @@ int main(void)
     pitches();
     stalls();
     flushes();
+    counts();
+    counts_flushes_and_stalls();
+    refuses_full_totals();
+    accepts_full_totals();
     printf("header: %u checks of the C interface hold\n", checks);
     return 0;
 }

@@ -33,7 +33,7 @@ impl Ours {
     fn accept(&mut self, answer: calls::Wrote) -> u32 {
         assert_eq!(answer.refusal, 0, "a write or flush was refused");
         self.stream = answer.stream;
-        answer.outcome
+        answer.told.outcome
     }
 }
 

@@ -1,7 +1,7 @@
-//! Runs at the borders of the refusals: each field of a stream at its ends and just past them, and areas that are exactly long enough
-//! or one sample too short. The refusal of the last call is known.
+//! Runs at the borders of the refusals: each field of a stream at its ends and just past them, areas that are exactly long enough or one
+//! sample too short, and totals that come to their end or pass it. The refusal of the last call is known.
 
-use crate::interface::{Setting, Stream};
+use crate::interface::{Balance, Setting, Stream};
 use crate::made_up;
 use crate::model::numbers::sample_period;
 use crate::model::search::max_required;
@@ -32,7 +32,7 @@ fn stream_in_order() -> Stream {
 }
 
 /// Fields at their ends.
-const AT_THE_ENDS: [(&str, Edit); 16] = [
+const AT_THE_ENDS: [(&str, Edit); 18] = [
     ("lowest speed", |s| s.speed = 0.05),
     ("highest speed", |s| s.speed = 20.0),
     ("lowest volume", |s| s.volume = 0.01),
@@ -49,6 +49,8 @@ const AT_THE_ENDS: [(&str, Edit); 16] = [
     ("play time NaN", |s| s.input_play_time = f32::NAN),
     ("time error infinite", |s| s.time_error = f32::NEG_INFINITY),
     ("waiting absurd", |s| s.waiting = usize::MAX),
+    ("skipped at its end", |s| s.balance.skipped = u64::MAX),
+    ("inserted at its end", |s| s.balance.inserted = u64::MAX),
 ];
 
 /// Fields just past their ends.
@@ -93,7 +95,17 @@ fn every_call() -> Vec<Call> {
     settings.into_iter().chain(others).chain([Call::Flush { areas }]).collect()
 }
 
-/// Every call on streams with one field at an end or past it. Absurd counts are met by 4 where an area has to hold them.
+/// The refusal of a call on a stream in order: absurd counts are met by 4 where an area has to hold them, and a total at its end by 12
+/// where a flush, whose local speed is 2, skips periods of silence.
+fn refusal_in_order(stream: &Stream, call: &Call) -> u32 {
+    match call {
+        Call::Write { .. } | Call::Read { .. } | Call::Flush { .. } if stream.waiting > 90_000 => 4,
+        Call::Flush { .. } if stream.balance.skipped == u64::MAX => 12,
+        _ => 0,
+    }
+}
+
+/// Every call on streams with one field at an end or past it.
 pub fn orders() -> Vec<Border> {
     let ends = AT_THE_ENDS.iter().map(|end| (end, 0)).chain(PAST_THE_ENDS.iter().map(|end| (end, 3)));
     let mut all = Vec::new();
@@ -101,8 +113,7 @@ pub fn orders() -> Vec<Border> {
         let mut stream = stream_in_order();
         edit(&mut stream);
         for call in every_call() {
-            let lent = matches!(call, Call::Write { .. } | Call::Read { .. } | Call::Flush { .. });
-            let refusal = if refusal == 0 && stream.waiting > 90_000 && lent { 4 } else { refusal };
+            let refusal = if refusal == 0 { refusal_in_order(&stream, &call) } else { refusal };
             all.push(Border { name: *name, calls: vec![Call::Made { stream, kept: Kept::default() }, call], refusal });
         }
     }
@@ -120,27 +131,37 @@ pub fn openings() -> Vec<Border> {
     low.chain(inside).chain(high).chain(channels).chain(others).collect()
 }
 
-/// What a call on a made-up stream needs: frames in the input, the stage and the output, and those that are there before.
+/// What a call on a made-up stream needs: frames in the input, the stage and the output, and those that are there before; and what it adds
+/// to the totals.
 struct Needs {
     counts: [usize; 3],
     before: [usize; 3],
+    counted: Balance,
 }
 
 /// What a call needs that adds these samples.
 fn needs(judge: &Model, stream: &Stream, kept: &Kept, added: &[i16]) -> Option<Needs> {
-    let (staged, made) = judge.needs(*stream, &kept.input, &kept.tail, added, 20_000)?;
-    let held = stream.held + added.len() / stream.channels as usize;
-    Some(Needs { counts: [held, staged, stream.waiting + made], before: [stream.held, stream.tail, stream.waiting] })
+    let needs = judge.needs(*stream, &kept.input, &kept.tail, added, 20_000)?;
+    let counts = [stream.held + added.len() / stream.channels as usize, needs.staged, stream.waiting + needs.made];
+    Some(Needs { counts, before: [stream.held, stream.tail, stream.waiting], counted: needs.counted })
 }
 
-/// The call in areas exactly long enough, and in the same with one of them a sample shorter.
-fn around(needs: &Needs, stream: Stream, kept: &Kept, call: impl Fn(Lengths) -> Call) -> Vec<Border> {
+/// Totals that a call brings to their end; and if it adds to one, those that it would carry one frame past it. Each with the refusal.
+fn full_totals(counted: Balance) -> Vec<(Balance, u32)> {
+    let last = Balance { skipped: u64::MAX - counted.skipped, inserted: u64::MAX - counted.inserted };
+    let (skips, inserts) = (counted.skipped > 0, counted.inserted > 0);
+    let past = Balance { skipped: last.skipped + u64::from(skips), inserted: last.inserted + u64::from(inserts) };
+    [(last, 0), (past, 12)].into_iter().take(1 + usize::from(skips || inserts)).collect()
+}
+
+/// The call in areas exactly long enough, where it meets this refusal, and in the same with one of them a sample shorter.
+fn around(needs: &Needs, stream: Stream, kept: &Kept, refusal: u32, call: &dyn Fn(Lengths) -> Call) -> Vec<Border> {
     let lengths = needs.counts.map(|count| count * stream.channels as usize);
     let scratch = max_required(stream.rate);
     let of = |[input, stage, output]: [usize; 3], scratch| Lengths { input, stage, output, scratch };
     let made = || Call::Made { stream, kept: kept.clone() };
     let mut all = vec![
-        Border { name: "areas just long enough", calls: vec![made(), call(of(lengths, scratch))], refusal: 0 },
+        Border { name: "areas just long enough", calls: vec![made(), call(of(lengths, scratch))], refusal },
         Border { name: "scratch one short", calls: vec![made(), call(of(lengths, scratch - 1))], refusal: 4 },
     ];
     let names = ["input one short", "stage one short", "output one short"];
@@ -153,7 +174,13 @@ fn around(needs: &Needs, stream: Stream, kept: &Kept, call: impl Fn(Lengths) -> 
     all
 }
 
-/// Writes and flushes on made-up streams, in areas exactly long enough and one sample short.
+/// The call on a stream with totals that it brings to their end or past it, in such areas.
+fn at_full_totals(needs: &Needs, stream: Stream, kept: &Kept, call: &dyn Fn(Lengths) -> Call) -> Vec<Border> {
+    let totals = full_totals(needs.counted).into_iter();
+    totals.flat_map(|(balance, refusal)| around(needs, Stream { balance, ..stream }, kept, refusal, call)).collect()
+}
+
+/// Writes and flushes on made-up streams, in areas exactly long enough and one sample short, with totals that come to their end or pass it.
 pub fn rooms(judge: &Model, seed: u64) -> Vec<Border> {
     let mut random = Random::new(seed);
     let rate = random.one_of(&[1_000, 2_345, 4_001, 8_000]);
@@ -166,7 +193,7 @@ pub fn rooms(judge: &Model, seed: u64) -> Vec<Border> {
     let silence = vec![0; 2 * max_required(rate) * channels];
     let write = needs(judge, &stream, &kept, &added);
     let flush = needs(judge, &stream, &kept, &silence);
-    let writes = write.map(|needs| around(&needs, stream, &kept, |areas| Call::Write { samples: samples.clone(), areas }));
-    let flushes = flush.map(|needs| around(&needs, stream, &kept, |areas| Call::Flush { areas }));
+    let writes = write.map(|needs| at_full_totals(&needs, stream, &kept, &|areas| Call::Write { samples: samples.clone(), areas }));
+    let flushes = flush.map(|needs| at_full_totals(&needs, stream, &kept, &|areas| Call::Flush { areas }));
     writes.into_iter().chain(flushes).flatten().collect()
 }

@@ -3,22 +3,25 @@
 
 use std::ops::RangeInclusive;
 
-use crate::interface::{Setting, Stream, COPIED, STALLED, STRETCHED, WAITING};
+use crate::balances::balances;
+use crate::interface::{Balance, Setting, Stream, COPIED, STALLED, STRETCHED, WAITING};
 use crate::model::numbers::sample_period;
 use crate::model::search::max_required;
 use crate::run::{Call, Kept, Lengths};
 
-/// A run with the refusal, the outcome and the frames of its last call, and the samples that it leaves in the output, if few.
+/// A run with the refusal, the outcome and the frames of its last call, and the samples that it leaves in the output, if few, or the totals
+/// that it leaves.
 pub struct Figure {
     pub name: &'static str,
     pub calls: Vec<Call>,
     pub wanted: (u32, u32, usize),
     pub output: Option<Vec<i16>>,
+    pub balance: Option<Balance>,
 }
 
 /// A figure.
-fn figure(name: &'static str, calls: Vec<Call>, wanted: (u32, u32, usize)) -> Figure {
-    Figure { name, calls, wanted, output: None }
+pub fn figure(name: &'static str, calls: Vec<Call>, wanted: (u32, u32, usize)) -> Figure {
+    Figure { name, calls, wanted, output: None, balance: None }
 }
 
 /// A figure with known samples, all copied in the last call.
@@ -27,32 +30,32 @@ fn copied(name: &'static str, calls: Vec<Call>, output: &[i16]) -> Figure {
 }
 
 /// Areas of a call.
-fn areas(input: usize, stage: usize, output: usize, scratch: usize) -> Lengths {
+pub fn areas(input: usize, stage: usize, output: usize, scratch: usize) -> Lengths {
     Lengths { input, stage, output, scratch }
 }
 
 /// Areas with much room.
-fn ample() -> Lengths {
+pub fn ample() -> Lengths {
     areas(300_000, 300_000, 300_000, 16_000)
 }
 
 /// An opening.
-fn open(rate: u32, channels: u32) -> Call {
+pub fn open(rate: u32, channels: u32) -> Call {
     Call::Open { rate, channels }
 }
 
 /// A write of silent samples.
-fn write(samples: usize, areas: Lengths) -> Call {
+pub fn write(samples: usize, areas: Lengths) -> Call {
     Call::Write { samples: vec![0.0; samples], areas }
 }
 
 /// A fresh mono stream with its settings, as a value.
-fn fresh(rate: u32) -> Stream {
+pub fn fresh(rate: u32) -> Stream {
     Stream { rate, channels: 1, speed: 1.0, pitch: 1.0, volume: 1.0, sample_period: sample_period(rate), ..Stream::default() }
 }
 
 /// A made-up stream that holds the input, with a play time.
-fn holding(mut stream: Stream, input: Vec<i16>, play: f32) -> Call {
+pub fn holding(mut stream: Stream, input: Vec<i16>, play: f32) -> Call {
     stream.held = input.len() / stream.channels as usize;
     stream.input_play_time = play;
     Call::Made { stream, kept: Kept { input, ..Kept::default() } }
@@ -66,7 +69,7 @@ fn play_for(rate: u32, held: usize, s: f32) -> Option<f32> {
 }
 
 /// A call without new samples on frames of a voice at a local speed, with one of so many frames held that can have it exactly.
-fn at_speed(stream: Stream, helds: RangeInclusive<usize>, period: usize, s: f32) -> Vec<Call> {
+pub fn at_speed(stream: Stream, helds: RangeInclusive<usize>, period: usize, s: f32) -> Vec<Call> {
     let mut tried = helds.map(|held| (held, play_for(stream.rate, held, s)));
     let (held, play) = tried.find(|(_, play)| play.is_some()).expect("frames that can have the local speed");
     let input = if period == 0 { vec![0; held] } else { pulses(held, period) };
@@ -74,7 +77,7 @@ fn at_speed(stream: Stream, helds: RangeInclusive<usize>, period: usize, s: f32)
 }
 
 /// A voice of a period, of one pulse in each.
-fn pulses(frames: usize, period: usize) -> Vec<i16> {
+pub fn pulses(frames: usize, period: usize) -> Vec<i16> {
     (0..frames).map(|at| if at % period == 0 { 9_000 } else { ((at % period) * 37) as i16 }).collect()
 }
 
@@ -239,7 +242,8 @@ fn absurd() -> Vec<Figure> {
 
 /// Every figure.
 pub fn figures() -> Vec<Figure> {
-    [samples(), refusals(), local_speeds(), steps(), conversions(), absurd(), tables(), longest()].into_iter().flatten().collect()
+    let all = [samples(), refusals(), local_speeds(), steps(), conversions(), balances(), absurd(), tables(), longest()];
+    all.into_iter().flatten().collect()
 }
 
 /// Openings of every rate.

@@ -14,18 +14,20 @@ const FIXED_RUNS: u64 = 5_000;
 /// Made-up streams whose calls are tried in areas just long enough and one sample short.
 const BORDER_SEEDS: u64 = 300;
 
-/// Plays a figure; its last answer has to be the one known, and the samples left in the output, where they are known.
+/// Plays a figure; its last answer has to be the one known, and the samples left in the output and the totals, where they are known.
 fn play_figure(bench: &mut Bench<'_>, figure: Figure) -> Result<(), Failure> {
     let answer = bench.play(&figure.calls)?;
-    if (answer.refusal, answer.outcome, answer.frames) != figure.wanted {
-        return Err(Failure { what: format!("{}: {answer:?} in place of {:?}", figure.name, figure.wanted), calls: figure.calls });
-    }
-    match figure.output {
-        Some(output) if output != bench.output => {
-            Err(Failure { what: format!("{}: {:?} in place of {output:?}", figure.name, bench.output), calls: figure.calls })
-        }
-        _ => Ok(()),
-    }
+    let answered = (answer.refusal, answer.outcome, answer.frames);
+    let what = if answered != figure.wanted {
+        format!("{answer:?} in place of {:?}", figure.wanted)
+    } else if figure.output.as_ref().is_some_and(|output| *output != bench.output) {
+        format!("{:?} in place of {:?}", bench.output, figure.output)
+    } else if figure.balance.is_some_and(|balance| balance != bench.balance) {
+        format!("{:?} in place of {:?}", bench.balance, figure.balance)
+    } else {
+        return Ok(());
+    };
+    Err(Failure { what: format!("{}: {what}", figure.name), calls: figure.calls })
 }
 
 /// Plays a run at a border; its last call has to meet the refusal known.

@@ -4,7 +4,7 @@
 #[cfg_attr(not(library), allow(dead_code))]
 pub mod calls;
 
-pub use calls::{Areas, Available, Changed, Gave, Opened, Stream, Wrote};
+pub use calls::{Areas, Available, Balance, Changed, Gave, Opened, Stream, Told, Wrote};
 
 /// Numbers of an accepted write or flush.
 pub const EMPTY: u32 = 0;
@@ -24,6 +24,9 @@ const FLOAT_NAMES: [&str; 6] = ["speed", "pitch", "volume", "sample_period", "in
 const WHOLE_NAMES: [&str; 9] =
     ["rate", "channels", "old_rate_position", "new_rate_position", "prev_period", "prev_min_diff", "held", "tail", "waiting"];
 
+/// The names of the totals, in the order of `totals`.
+const TOTAL_NAMES: [&str; 2] = ["skipped", "inserted"];
+
 impl Stream {
     /// The float fields.
     fn floats(&self) -> [f32; 6] {
@@ -37,6 +40,11 @@ impl Stream {
         [rate, channels, p, n, self.prev_period, self.prev_min_diff, self.held, self.tail, self.waiting]
     }
 
+    /// The totals.
+    fn totals(&self) -> [u64; 2] {
+        [self.balance.skipped, self.balance.inserted]
+    }
+
     /// The first field in which two streams differ, with both values. Floats are compared by bits, a NaN as a NaN.
     pub fn difference(&self, other: &Stream) -> Option<String> {
         for (name, (a, b)) in FLOAT_NAMES.iter().zip(self.floats().into_iter().zip(other.floats())) {
@@ -44,8 +52,10 @@ impl Stream {
                 return Some(format!("{name} {a:?} ({:08x}) in place of {b:?} ({:08x})", a.to_bits(), b.to_bits()));
             }
         }
-        let wholes = WHOLE_NAMES.iter().zip(self.wholes().into_iter().zip(other.wholes()));
-        wholes.filter(|(_, (a, b))| a != b).map(|(name, (a, b))| format!("{name} {a} in place of {b}")).next()
+        let wholes = |stream: &Stream| stream.wholes().map(|whole| whole as u64).into_iter().chain(stream.totals());
+        let names = WHOLE_NAMES.iter().chain(&TOTAL_NAMES);
+        let fields = names.zip(wholes(self).zip(wholes(other)));
+        fields.filter(|(_, (a, b))| a != b).map(|(name, (a, b))| format!("{name} {a} in place of {b}")).next()
     }
 }
 

@@ -1,6 +1,6 @@
 //! Made-up streams: in order with floats of any kind, out of order in one field, or with counts that no area holds.
 
-use crate::interface::Stream;
+use crate::interface::{Balance, Stream};
 use crate::model::numbers::sample_period;
 use crate::model::search::{max_period, max_required, min_period};
 use crate::model::Model;
@@ -64,6 +64,16 @@ fn time_error(random: &mut Random, stream: &Stream, s: f32) -> f32 {
     if random.once_in(4) { -error } else { random.beside(error) }
 }
 
+/// A total: 0, one that a stream could have, or so near its end that a call may pass it.
+fn total(random: &mut Random, rate: u32) -> u64 {
+    match random.below(8) {
+        0..=3 => 0,
+        4 | 5 => random.below(1 << 40) as u64,
+        6 => u64::MAX,
+        _ => u64::MAX - random.below(6 * max_period(rate)) as u64,
+    }
+}
+
 /// The number of frames held.
 fn held(random: &mut Random, rate: u32) -> usize {
     let required = max_required(rate);
@@ -93,6 +103,7 @@ pub fn in_order(random: &mut Random, judge: &Model, rate: u32, channels: u32, si
     stream.held = held(random, rate);
     stream.tail = random.one_of(&[0, 0, 1, 11, 12, 13, 40]);
     stream.waiting = random.one_of(&[0, 0, 1, 7, 100]);
+    stream.balance = Balance { skipped: total(random, rate), inserted: total(random, rate) };
     let period = random.between(min_period(rate), max_period(rate));
     let s = aimed_speed(random, period);
     stream.input_play_time = play_time(random, &stream, s);

@@ -1,19 +1,20 @@
 //! The original beside the subject. It is joined to this test as text, so its private fields can be set and compared.
 
-use crate::interface::{Setting, Stream, COPIED, EMPTY, STALLED, STRETCHED, WAITING};
+use crate::interface::{Balance, Setting, Stream, COPIED, EMPTY, STALLED, STRETCHED, WAITING};
 use crate::run::Kept;
 use crate::{SonicError, SonicStream};
 
-/// The original's stream.
+/// The original's stream, and the totals that it would have.
 pub struct Original {
     stream: SonicStream,
+    balance: Balance,
 }
 
 impl Original {
     /// Opens it; an error gives the number of the refusal and the number that was given.
     pub fn open(rate: u32, channels: u32) -> Result<Original, (u32, u32)> {
         match SonicStream::new(rate, channels) {
-            Ok(stream) => Ok(Original { stream }),
+            Ok(stream) => Ok(Original { stream, balance: Balance::default() }),
             Err(SonicError::SampleRateOutOfRange(given)) => Err((1, given)),
             Err(SonicError::ChannelsOutOfRange(given)) => Err((2, given)),
         }
@@ -35,6 +36,7 @@ impl Original {
         inside.input.clone_from(&kept.input);
         inside.pitch_buffer.clone_from(&kept.tail);
         inside.output.clone_from(&kept.output);
+        made.balance = stream.balance;
         made
     }
 
@@ -57,18 +59,13 @@ impl Original {
             held: inside.input_frames(),
             tail: inside.pitch_frames(),
             waiting: inside.output_frames(),
+            balance: self.balance,
         }
     }
 
     /// Its input, tail and output.
     pub fn samples(&self) -> [&[i16]; 3] {
         [&self.stream.input, &self.stream.pitch_buffer, &self.stream.output]
-    }
-
-    /// Its samples as kept parts.
-    fn kept(&self) -> Kept {
-        let [input, tail, output] = self.samples();
-        Kept { input: input.to_vec(), tail: tail.to_vec(), output: output.to_vec() }
     }
 
     /// Sets the speed, the pitch or the volume.
@@ -90,38 +87,56 @@ impl Original {
         self.stream.read_f32(most)
     }
 
-    /// Whether it copies when so many frames are added: asked of a second one that holds as many frames of silence in one channel
-    /// and always has too few for a stretch, so that only a copy takes frames from its input.
-    fn copies(&self, frames: usize) -> bool {
-        let held = self.stream.input_frames();
-        let mut other = Original::made(&self.value(), &Kept { input: vec![0; held], ..Kept::default() }).stream;
-        other.channels = 1;
+    /// Whether it copies when these samples are added, and otherwise a second one whose output is what its stretch gives. At first that
+    /// one always has too few frames for a stretch, so that only a copy takes frames from its input; it stretches at pitch 1.
+    fn stretched(&self, samples: &[f32]) -> (bool, SonicStream) {
+        let kept = Kept { input: self.stream.input.clone(), ..Kept::default() };
+        let mut other = Original::made(&self.value(), &kept).stream;
         other.max_required = usize::MAX;
-        other.write_f32(&vec![0.0; frames]);
-        held + frames > 0 && other.input.is_empty()
+        other.write_f32(samples);
+        let copies = other.input.is_empty();
+        (other.max_required, other.pitch) = (self.stream.max_required, 1.0);
+        other.process_stream_input();
+        (copies, other)
     }
 
-    /// Writes samples, and tells from what became of its input how that went.
-    pub fn write(&mut self, samples: &[f32]) -> u32 {
-        let frames = samples.len() / self.stream.channels;
-        let held = self.stream.input_frames() + frames;
-        let copies = self.copies(frames);
-        self.stream.write_f32(samples);
-        let left = self.stream.input_frames();
-        match (held, copies) {
-            (0, _) => EMPTY,
-            (_, true) => COPIED,
+    /// The totals after a stretch that has used so many frames and given others, or refusal 12. A skip uses more than it gives, an insert
+    /// gives more.
+    fn counted(&self, used: usize, given: usize) -> Result<Balance, u32> {
+        let more = |total: u64, frames: usize| total.checked_add(frames as u64).ok_or(12u32);
+        let skipped = more(self.balance.skipped, used.saturating_sub(given))?;
+        Ok(Balance { skipped, inserted: more(self.balance.inserted, given.saturating_sub(used))? })
+    }
+
+    /// How a call goes that adds these samples, told from what becomes of the input, and the totals after it; or refusal 12.
+    fn told(&self, samples: &[f32]) -> Result<(u32, Balance), u32> {
+        let held = self.stream.input_frames() + samples.len() / self.stream.channels;
+        let (copies, other) = self.stretched(samples);
+        let left = other.input_frames();
+        let outcome = match held {
+            0 => EMPTY,
+            _ if copies => COPIED,
             _ if held < self.stream.max_required => WAITING,
             _ if left == held => STALLED,
             _ => STRETCHED,
-        }
+        };
+        let balance = if outcome == STRETCHED { self.counted(held - left, other.output_frames())? } else { self.balance };
+        Ok((outcome, balance))
     }
 
-    /// Flushes; how that went is told by a second one to which the silence is written.
-    pub fn flush(&mut self) -> u32 {
-        let mut other = Original::made(&self.value(), &self.kept());
-        let outcome = other.write(&vec![0.0; 2 * self.stream.max_required * self.stream.channels]);
+    /// Writes samples: how that went, or refusal 12.
+    pub fn write(&mut self, samples: &[f32]) -> Result<u32, u32> {
+        let (outcome, balance) = self.told(samples)?;
+        self.stream.write_f32(samples);
+        self.balance = balance;
+        Ok(outcome)
+    }
+
+    /// Flushes: how that went with the silence that it adds, or refusal 12.
+    pub fn flush(&mut self) -> Result<u32, u32> {
+        let (outcome, balance) = self.told(&vec![0.0; 2 * self.stream.max_required * self.stream.channels])?;
         self.stream.flush();
-        outcome
+        self.balance = balance;
+        Ok(outcome)
     }
 }

@@ -1,7 +1,7 @@
 //! A run: calls with their arguments and the lengths of the areas lent. Runs have a text form, one call in each line, that `replay`
 //! reads: values that repeat are written once with a count, as in `0.0*246`.
 
-use crate::interface::{Setting, Stream};
+use crate::interface::{Balance, Setting, Stream};
 
 /// Samples kept between calls.
 #[derive(Clone, Debug, Default)]
@@ -59,7 +59,9 @@ impl std::fmt::Display for Lengths {
 fn made_text(s: &Stream, kept: &Kept) -> String {
     let floats = [s.speed, s.pitch, s.volume, s.sample_period, s.input_play_time, s.time_error];
     let wholes = [s.old_rate_position, s.new_rate_position, s.prev_period, s.prev_min_diff, s.held, s.tail, s.waiting];
-    let fields: Vec<String> = floats.iter().map(|v| format!("{v:?}")).chain(wholes.iter().map(usize::to_string)).collect();
+    let totals = [s.balance.skipped, s.balance.inserted];
+    let wholes = wholes.iter().map(usize::to_string).chain(totals.iter().map(u64::to_string));
+    let fields: Vec<String> = floats.iter().map(|v| format!("{v:?}")).chain(wholes).collect();
     let parts = [("input", &kept.input), ("tail", &kept.tail), ("output", &kept.output)];
     let parts: Vec<String> = parts.iter().map(|(name, values)| format!("{name}{}", samples(values))).collect();
     format!("made {} {} {} {}", s.rate, s.channels, fields.join(" "), parts.join(" "))
@@ -136,6 +138,7 @@ fn made(words: &mut Words<'_>) -> Result<Call, String> {
         held: value(words)?,
         tail: value(words)?,
         waiting: value(words)?,
+        balance: Balance { skipped: value(words)?, inserted: value(words)? },
     };
     expect(words, "input")?;
     let input = values(words)?;

@@ -5,7 +5,7 @@ use std::io::Write;
 use std::panic::{catch_unwind, AssertUnwindSafe};
 use std::sync::atomic::{AtomicBool, Ordering};
 
-use crate::interface::Subject;
+use crate::interface::{Balance, Subject};
 use crate::lending::Buffers;
 use crate::model::Model;
 use crate::model_with;
@@ -20,12 +20,14 @@ pub struct Failure {
     pub what: String,
 }
 
-/// What takes part in a comparison: the subject, the model that judges, the counts, the output that the last run left, and the areas.
+/// What takes part in a comparison: the subject, the model that judges, the counts, the output and the totals that the last run left, and
+/// the areas.
 pub struct Bench<'a> {
     subject: &'a mut dyn Subject,
     pub judge: Model,
     pub tally: Tally,
     pub output: Vec<i16>,
+    pub balance: Balance,
     buffers: Buffers,
 }
 
@@ -62,7 +64,8 @@ impl<'a> Bench<'a> {
 
     /// A comparison with a model of one's choice as the judge.
     pub fn judged_by(subject: &'a mut dyn Subject, judge: Model) -> Bench<'a> {
-        Bench { subject, judge, tally: Tally::default(), output: Vec::new(), buffers: Buffers::new() }
+        let (tally, output, balance, buffers) = (Tally::default(), Vec::new(), Balance::default(), Buffers::new());
+        Bench { subject, judge, tally, output, balance, buffers }
     }
 
     /// A run that has not begun.
@@ -88,7 +91,7 @@ impl<'a> Bench<'a> {
             Ok(())
         }));
         RUNNING.store(false, Ordering::Relaxed);
-        self.output = session.kept.output;
+        (self.balance, self.output) = (session.stream.balance, session.kept.output);
         self.tally.runs += 1;
         match ended {
             Ok(Ok(())) => Ok(last),

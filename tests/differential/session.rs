@@ -193,18 +193,20 @@ impl<'a> Session<'a> {
         self.settle(said, got, Original::flush)
     }
 
-    /// Compares what a write or a flush gave.
-    fn settle(&mut self, said: Wrote, got: Wrote, original: impl FnOnce(&mut Original) -> u32) -> Result<Answer, String> {
+    /// Compares what a write or a flush gave. The original tells refusal 12 from its own totals.
+    fn settle(&mut self, said: Wrote, got: Wrote, original: impl FnOnce(&mut Original) -> Result<u32, u32>) -> Result<Answer, String> {
+        let outcome = got.told.outcome;
         equal("refusal", got.refusal, said.refusal)?;
-        equal("outcome", got.outcome, said.outcome)?;
+        equal("outcome", outcome, said.told.outcome)?;
         let waiting = self.stream.waiting;
-        if got.refusal == 0 {
-            let outcome = original(self.original()?);
-            equal("outcome of the original", got.outcome, outcome)?;
+        if [0, 12].contains(&got.refusal) {
+            let told = original(self.original()?);
+            equal("refusal by the original", got.refusal, told.err().unwrap_or(0))?;
+            equal("outcome of the original", outcome, told.unwrap_or(0))?;
         }
         self.take(got.stream, said.stream, got.refusal)?;
         self.compare_kept(got.refusal)?;
-        Ok(Answer { refusal: got.refusal, outcome: got.outcome, frames: self.stream.waiting.wrapping_sub(waiting) })
+        Ok(Answer { refusal: got.refusal, outcome, frames: self.stream.waiting.wrapping_sub(waiting) })
     }
 
     /// Compares the kept parts of the areas: with the original's if the call was accepted, with those lent if it was refused.

@@ -2,7 +2,7 @@
 
 use std::time::{Duration, Instant};
 
-use crate::interface::{Setting, Stream, Subject};
+use crate::interface::{Balance, Setting, Stream, Subject};
 use crate::run::{Call, Kept, Lengths};
 use crate::runner::{Bench, Failure};
 
@@ -81,6 +81,8 @@ fn plainer_streams(stream: &Stream) -> Vec<Stream> {
         }
     }
     all.push(Stream { old_rate_position: 0, new_rate_position: 0, ..*stream });
+    all.push(Stream { balance: Balance { skipped: 0, ..stream.balance }, ..*stream });
+    all.push(Stream { balance: Balance { inserted: 0, ..stream.balance }, ..*stream });
     all.retain(|other| other.difference(stream).is_some());
     let floats: [fn(&mut Stream) -> &mut f32; 5] =
         [|s| &mut s.speed, |s| &mut s.pitch, |s| &mut s.volume, |s| &mut s.input_play_time, |s| &mut s.time_error];

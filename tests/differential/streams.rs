@@ -115,13 +115,13 @@ impl Scenario {
         self.next.push(Call::Open { rate: self.rate, channels: self.channels });
     }
 
-    /// A call of a kind that fits the run; a stream out of order is soon opened anew.
+    /// A call of a kind that fits the run; a stream out of order, or with a total at its end, is soon opened anew.
     fn choose(&mut self, session: &Session<'_>) -> Call {
         let crowded = session.stream.waiting > 4_000;
         if std::mem::take(&mut self.after_made) && self.random.once_in(2) {
             return self.write_of(session, 0);
         }
-        if session.last.refusal == 3 && self.mood != Mood::Refused && self.random.once_in(3) {
+        if [3, 12].contains(&session.last.refusal) && self.mood != Mood::Refused && self.random.once_in(3) {
             return Call::Open { rate: self.rate, channels: self.channels };
         }
         match self.random.below(100) {
@@ -228,7 +228,7 @@ impl Scenario {
         let slow = (stream.pitch / stream.speed).clamp(1.0, 400.0);
         let more = (1.0 / stream.pitch).clamp(1.0, 20.0);
         let required = max_required(self.rate.clamp(1_000, 500_000));
-        let wide = session.last.refusal >= 6 || self.random.once_in(30);
+        let wide = [6, 7].contains(&session.last.refusal) || self.random.once_in(30);
         let most = if wide { 12 } else { 1 } * (required + AMPLE / channels);
         let staged = ((held as f32 * slow * 1.3) as usize + 4 * required).min(most);
         let made = ((staged as f32 * more * 1.1) as usize + 100).min(3 * most);
@@ -249,8 +249,8 @@ impl Scenario {
             return None;
         }
         let added: Vec<i16> = samples[..frames * channels].iter().map(|&x| session.judge().sample_in(x)).collect();
-        let (staged, made) = session.judge().needs(*stream, &session.kept.input, &session.kept.tail, &added, AMPLE / channels)?;
-        let exact = [stream.held + frames, staged, stream.waiting + made].map(|count| count * channels);
+        let needs = session.judge().needs(*stream, &session.kept.input, &session.kept.tail, &added, AMPLE / channels)?;
+        let exact = [stream.held + frames, needs.staged, stream.waiting + needs.made].map(|count| count * channels);
         let [input, stage, output] = exact.map(|length| self.near(length, channels));
         let required = max_required(stream.rate);
         let scratch = if self.random.once_in(12) { required - 1 } else { required };

@@ -14,7 +14,7 @@ const OF_FLUSH: [u32; 3] = [COPIED, STRETCHED, STALLED];
 /// Outcomes that a write can have.
 const OF_WRITE: [u32; 5] = [EMPTY, COPIED, WAITING, STRETCHED, STALLED];
 /// The refusals that each call can meet.
-const REFUSALS: [&[u32]; 6] = [&[1, 2], &[3], &[3], &[3, 4, 5, 6, 7], &[3, 4], &[3, 4, 5, 6, 7]];
+const REFUSALS: [&[u32]; 6] = [&[1, 2], &[3], &[3], &[3, 4, 5, 6, 7, 12], &[3, 4], &[3, 4, 5, 6, 7, 12]];
 
 /// The counts.
 #[derive(Clone, Default)]
@@ -22,7 +22,7 @@ pub struct Tally {
     pub runs: u64,
     pub calls: u64,
     pub frames: u64,
-    refusals: [[u64; 8]; 6],
+    refusals: [[u64; 13]; 6],
     outcomes: [[u64; 5]; 6],
 }
 

@@ -13,16 +13,25 @@ struct Session {
     census: Census,
 }
 
+/// A call tried: the original's stream before it, with the frames added, and after it; what the stretch does, and the totals after it.
+struct Tried {
+    before: SonicStream,
+    added: SonicStream,
+    done: SonicStream,
+    stretched: Stretched,
+    totals: [u64; 2],
+}
+
 impl Session {
     fn new() -> Self {
-        Self { fields: [0; 15], original: None, lent: [0; 4], census: Census::new() }
+        Self { fields: [0; 17], original: None, lent: [0; 4], census: Census::new() }
     }
 
     fn open(&mut self, rate: u32, channels: u32) -> String {
         let (answer, fields, original) = match SonicStream::new(rate, channels) {
-            Ok(s) => (String::new(), fields_of(&s), Some(s)),
-            Err(SonicError::SampleRateOutOfRange(given)) => (format!(" refused 1 {given}"), [0; 15], None),
-            Err(SonicError::ChannelsOutOfRange(given)) => (format!(" refused 2 {given}"), [0; 15], None),
+            Ok(s) => (String::new(), fields_of(&s, [0; 2]), Some(s)),
+            Err(SonicError::SampleRateOutOfRange(given)) => (format!(" refused 1 {given}"), [0; 17], None),
+            Err(SonicError::ChannelsOutOfRange(given)) => (format!(" refused 2 {given}"), [0; 17], None),
         };
         (self.fields, self.original) = (fields, original);
         answer
@@ -64,39 +73,63 @@ impl Session {
 
     /// The original's stream, which an accepted call needs to be the stream that the fields speak of.
     fn stream(&mut self) -> &mut SonicStream {
+        let totals = self.totals();
         let s = self.original.as_mut().expect("no stream");
-        assert_eq!(fields_of(s), self.fields, "an accepted call on fields that the original does not have");
+        assert_eq!(fields_of(s, totals), self.fields, "an accepted call on fields that the original does not have");
         s
     }
 
-    /// A write or a flush: `add` puts its frames behind those held, `call` is the original's call.
-    fn work(&mut self, frames: usize, add: impl Fn(&mut SonicStream), call: impl Fn(&mut SonicStream)) -> String {
+    fn totals(&self) -> [u64; 2] {
+        [self.fields[SKIPPED], self.fields[INSERTED]]
+    }
+
+    /// The totals after a call that adds to them, or none if one of them would pass 64 bits.
+    fn totals_after(&self, counted: [u64; 2]) -> Option<[u64; 2]> {
+        let [skipped, inserted] = self.totals();
+        Some([skipped.checked_add(counted[0])?, inserted.checked_add(counted[1])?])
+    }
+
+    /// What a call does whose frames `add` puts behind those held, tried on copies; or its refusal.
+    fn tried(&mut self, frames: usize, add: impl Fn(&mut SonicStream)) -> Result<Tried, u32> {
         if let Some(number) = self.refusal(false) {
-            return format!(" refused {number}");
+            return Err(number);
         }
         let [input, stage, output, _] = self.lent;
         if !self.room(self.fields[HELD] + frames as u64, input) {
-            return " refused 5".to_string();
+            return Err(5);
         }
         let before = copy_of(self.stream());
         let mut added = copy_of(&before);
         add(&mut added);
-        let (outcome, made) = stretched(&added);
-        if !self.room((before.pitch_frames() + made) as u64, stage) {
-            return " refused 6".to_string();
+        let stretched = stretched(&added);
+        if !self.room((before.pitch_frames() + stretched.made) as u64, stage) {
+            return Err(6);
         }
         let mut done = copy_of(&added);
         done.process_stream_input();
+        let totals = self.totals_after(stretched.counted);
         if !self.room(done.output_frames() as u64, output) {
-            return " refused 7".to_string();
+            if totals.is_none() {
+                self.census.count("7 before 12");
+            }
+            return Err(7);
         }
+        Ok(Tried { before, added, done, stretched, totals: totals.ok_or(12u32)? })
+    }
+
+    /// A write or a flush: `add` puts its frames behind those held, `call` is the original's call.
+    fn work(&mut self, frames: usize, add: impl Fn(&mut SonicStream), call: impl Fn(&mut SonicStream)) -> String {
+        let Tried { before, added, done, stretched, totals } = match self.tried(frames, add) {
+            Ok(tried) => tried,
+            Err(number) => return format!(" refused {number}"),
+        };
         let s = self.stream();
         call(s);
         assert!(done.output.starts_with(&s.output) && done.prev_min_diff == s.prev_min_diff, "the original's call adds other frames");
-        self.fields = fields_of(s);
-        self.census.steps(&added);
-        self.census.rate(&before, &done, made);
-        format!(" {outcome}")
+        self.fields = fields_of(s, totals);
+        self.census.steps(&added, stretched.counted, totals);
+        self.census.rate(&before, &done, stretched.made);
+        format!(" {}", stretched.outcome)
     }
 
     fn write(&mut self, samples: &[f32]) -> String {
@@ -136,9 +169,10 @@ impl Session {
         if !in_order(&self.fields) {
             return " refused 3".to_string();
         }
+        let totals = self.totals();
         let s = self.stream();
         act(s);
-        self.fields = fields_of(s);
+        self.fields = fields_of(s, totals);
         String::new()
     }
 

@@ -6,13 +6,20 @@ use std::collections::BTreeMap;
 /// How often the runs touch each thing by name.
 struct Census(BTreeMap<String, usize>);
 
+/// Both totals at their end.
+const FULL: [u64; 2] = [u64::MAX; 2];
+
 /// What the runs have to touch.
-const TOUCHED: [&str; 43] = [
+const TOUCHED: [&str; 59] = [
     "write empty", "write copied", "write waiting", "write stretched", "write stalled", "flush copied", "flush stretched", "flush stalled",
     "open refused 1", "open refused 2", "speed refused 3", "pitch refused 3", "volume refused 3", "available refused 3",
     "read refused 3", "read refused 4",
-    "write refused 3", "write refused 4", "write refused 5", "write refused 6", "write refused 7",
-    "flush refused 3", "flush refused 4", "flush refused 5", "flush refused 6", "flush refused 7",
+    "write refused 3", "write refused 4", "write refused 5", "write refused 6", "write refused 7", "write refused 12",
+    "flush refused 3", "flush refused 4", "flush refused 5", "flush refused 6", "flush refused 7", "flush refused 12",
+    "7 before 12", "write counts skipped", "write counts inserted", "flush counts skipped", "flush counts inserted",
+    "write fills skipped", "write fills inserted", "flush fills skipped", "flush fills inserted",
+    "empty with full totals", "copied with full totals", "waiting with full totals", "stalled with full totals",
+    "step stall after frames with full totals",
     "step copying, s > 1", "step copying, s < 1", "step copying all that is left", "step skip, s < 2", "step skip, s >= 2", "step insert, s > 0.5",
     "step insert, s <= 0.5", "step insert of 1 frame", "step stall after frames", "previous period used",
     "search of samples", "search of averages, skip 1", "search twice, 1 channel", "search twice, more channels",
@@ -28,7 +35,7 @@ impl Census {
         *self.0.entry(name.to_string()).or_default() += 1;
     }
 
-    fn call(&mut self, line: &str, answer: &str, fields: &Fields) {
+    fn call(&mut self, line: &str, answer: &str, before: &Fields, fields: &Fields) {
         let kind = match line.as_bytes()[0] {
             b'o' => "open",
             b's' => "speed",
@@ -42,7 +49,10 @@ impl Census {
         let words: Vec<&str> = answer.split(' ').skip(1).collect();
         match words.first() {
             Some(&"refused") => self.count(&format!("{kind} refused {}", words[1])),
-            Some(word) if matches!(kind, "write" | "flush") => self.count(&format!("{kind} {word}")),
+            Some(word) if matches!(kind, "write" | "flush") => {
+                self.count(&format!("{kind} {word}"));
+                self.totals(kind, word, before, fields);
+            }
             _ => self.count(&format!("{kind} accepted")),
         }
         if kind == "open" && fields[RATE] != 0 {
@@ -51,9 +61,21 @@ impl Census {
         }
     }
 
-    /// The steps of a stretch, if it is due, in the order of `change_speed`.
-    fn steps(&mut self, added: &SonicStream) {
-        let (held, mut position) = (added.input_frames(), 0);
+    /// What an accepted write or flush adds to the totals, and how it goes when both are at their end.
+    fn totals(&mut self, kind: &str, word: &str, before: &Fields, after: &Fields) {
+        for (field, name) in [(SKIPPED, "skipped"), (INSERTED, "inserted")] {
+            if after[field] > before[field] {
+                self.count(&format!("{kind} {} {name}", if after[field] == u64::MAX { "fills" } else { "counts" }));
+            }
+        }
+        if [before[SKIPPED], before[INSERTED]] == FULL {
+            self.count(&format!("{word} with full totals"));
+        }
+    }
+
+    /// The steps of a stretch, if it is due, in the order of `change_speed`. Their periods are what it adds to the totals.
+    fn steps(&mut self, added: &SonicStream, counted: [u64; 2], totals: [u64; 2]) {
+        let (held, mut position, mut periods) = (added.input_frames(), 0, [0; 2]);
         let Some(speed) = due(added) else { return };
         let (mut s, mut whole) = (copy_of(added), copy_of(added));
         while position + s.max_required <= held {
@@ -66,18 +88,25 @@ impl Census {
                 }
                 continue;
             }
-            let (used, k) = self.step(&mut s, speed, position);
+            let (period, k) = self.step(&mut s, speed, position);
             if k == 0 {
-                self.count(if position > 0 { "step stall after frames" } else { "step stall" });
+                self.count(match position {
+                    0 => "step stall",
+                    _ if totals == FULL => "step stall after frames with full totals",
+                    _ => "step stall after frames",
+                });
+                periods = [0; 2];
                 break;
             }
-            position += used;
+            position += if speed > 1.0 { period + k } else { k };
+            periods[usize::from(speed < 1.0)] += period as u64;
         }
+        assert_eq!(periods, counted, "the periods are counted wrong");
         whole.change_speed(speed);
         assert!(whole.output == s.output && bits(whole.time_error) == bits(s.time_error), "the steps are counted wrong");
     }
 
-    /// A skip or an insert at a position: the frames used, and k.
+    /// A skip or an insert at a position: its period, and k.
     fn step(&mut self, s: &mut SonicStream, speed: f32, position: usize) -> (usize, usize) {
         let period = s.find_pitch_period(position, true) as usize;
         if period != s.prev_period as usize {
@@ -95,7 +124,7 @@ impl Census {
             if speed < 2.0 {
                 s.time_error += k as f32 * s.sample_period - (period + k) as f32 * s.input_play_time / s.input_frames() as f32;
             }
-            return (period + k, k);
+            return (period, k);
         }
         self.count(if speed > 0.5 { "step insert, s > 0.5" } else { "step insert, s <= 0.5" });
         let k = s.insert_pitch_period(speed, position, period);
@@ -105,7 +134,7 @@ impl Census {
         if speed > 0.5 {
             s.time_error += (period + k) as f32 * s.sample_period - k as f32 * s.input_play_time / s.input_frames() as f32;
         }
-        (k, k)
+        (period, k)
     }
 
     /// What the rate conversion of a call does to the tail and the positions.

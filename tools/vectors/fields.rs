@@ -1,13 +1,13 @@
 
 // ---- Answers to the calls of crates/vectors/stdin, by the functions above: this text is joined to the original's, which is otherwise
-// unchanged. The original has neither refusals nor outcomes: a refusal is decided by document 01's table with the original's own
-// counts, an outcome by the original's state before and after.
+// unchanged. The original has neither refusals nor outcomes nor totals: a refusal is decided by document 01's table with the original's
+// own counts, an outcome and what a call adds to the totals by the original's state before and after.
 
 /// The most samples of an area, of a write and of a read, as in crates/vectors/src/main.rt.
 const ROOM: usize = 32_768;
 
 /// A stream's fields in the order of the library's struct, floats as their bits.
-type Fields = [u64; 15];
+type Fields = [u64; 17];
 
 const RATE: usize = 0;
 const CHANNELS: usize = 1;
@@ -24,6 +24,8 @@ const PREV_MIN_DIFF: usize = 11;
 const HELD: usize = 12;
 const TAIL: usize = 13;
 const WAITING: usize = 14;
+const SKIPPED: usize = 15;
+const INSERTED: usize = 16;
 
 /// The bits of a float, those of one NaN for every NaN.
 fn bits(x: f32) -> u64 {
@@ -44,11 +46,12 @@ fn copy_of(s: &SonicStream) -> SonicStream {
     }
 }
 
-fn fields_of(s: &SonicStream) -> Fields {
+/// A stream's fields, with the totals of frames skipped and inserted.
+fn fields_of(s: &SonicStream, [skipped, inserted]: [u64; 2]) -> Fields {
     [
         s.sample_rate as u64, s.channels as u64, bits(s.speed), bits(s.pitch), bits(s.volume), bits(s.sample_period), bits(s.input_play_time),
         bits(s.time_error), s.old_rate_position as u64, s.new_rate_position as u64, s.prev_period as u64, s.prev_min_diff as u64,
-        s.input_frames() as u64, s.pitch_frames() as u64, s.output_frames() as u64,
+        s.input_frames() as u64, s.pitch_frames() as u64, s.output_frames() as u64, skipped, inserted,
     ]
 }
 
@@ -77,19 +80,28 @@ fn due(added: &SonicStream) -> Option<f32> {
     (f64::from(speed) > 1.00001 || f64::from(speed) < 0.99999).then_some(speed)
 }
 
-/// What a call does to a stream whose frames are added: its outcome, and the frames of its stretch or copy.
-fn stretched(added: &SonicStream) -> (&'static str, usize) {
+/// What a call does to a stream whose frames are added: its outcome, the frames of its stretch or copy, and the frames of periods that it
+/// skips and inserts.
+struct Stretched {
+    outcome: &'static str,
+    made: usize,
+    counted: [u64; 2],
+}
+
+fn stretched(added: &SonicStream) -> Stretched {
     let held = added.input_frames();
     if held == 0 {
-        return ("empty", 0);
+        return Stretched { outcome: "empty", made: 0, counted: [0; 2] };
     }
-    let Some(speed) = due(added) else { return ("copied", held) };
+    let Some(speed) = due(added) else { return Stretched { outcome: "copied", made: held, counted: [0; 2] } };
     let mut after = copy_of(added);
     after.change_speed(speed);
-    let outcome = match after.input_frames() {
-        _ if held < added.max_required => "waiting",
-        left if left == held => "stalled",
-        _ => "stretched",
+    let (used, made) = (held - after.input_frames(), after.output_frames() - added.output_frames());
+    let (outcome, counted) = match used {
+        _ if held < added.max_required => ("waiting", [0; 2]),
+        0 => ("stalled", [0; 2]),
+        _ if speed > 1.0 => ("stretched", [(used - made) as u64, 0]),
+        _ => ("stretched", [0, (made - used) as u64]),
     };
-    (outcome, after.output_frames() - added.output_frames())
+    Stretched { outcome, made, counted }
 }

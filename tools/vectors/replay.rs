@@ -23,11 +23,11 @@ impl Session {
     fn told(&self) -> String {
         let mut line = String::new();
         for (i, &value) in self.fields.iter().enumerate() {
-            if matches!(i, RATE | PLAY_TIME | HELD) {
+            if matches!(i, RATE | PLAY_TIME | HELD | SKIPPED) {
                 line.push_str(" |");
             }
             let _ = if (SPEED..=TIME_ERROR).contains(&i) { write!(line, " {:08x}", bits(float(value))) } else { write!(line, " {value}") };
-            if i >= HELD {
+            if (HELD..=WAITING).contains(&i) {
                 let _ = write!(line, " {:08x}", self.part(i));
             }
         }
@@ -37,6 +37,7 @@ impl Session {
     /// Follows a line, and answers what it prints.
     fn follow(&mut self, line: &str) -> Option<String> {
         let n: Vec<u64> = line.split(' ').skip(1).map(number).chain([0; 5]).collect();
+        let before = self.fields;
         let answer = match line.as_bytes()[0] {
             b'#' => return None,
             b'l' => {
@@ -56,7 +57,7 @@ impl Session {
             b'f' => self.flush(),
             _ => self.read(n[0], (n[1] as usize).min(ROOM)),
         };
-        self.census.call(line, &answer, &self.fields);
+        self.census.call(line, &answer, &before, &self.fields);
         Some(answer + &self.told())
     }
 }

@@ -33,6 +33,11 @@ impl Runs {
         self.line(format_args!("e {field} {value}"))
     }
 
+    /// Sets a total to so many frames below its end.
+    fn edit_total(&mut self, field: usize, below: u64) -> &mut Self {
+        self.line(format_args!("e {field} x{:x}", u64::MAX - below))
+    }
+
     fn edit_float(&mut self, field: usize, value: f32) -> &mut Self {
         self.line(format_args!("e {field} x{:08x}", value.to_bits()))
     }

@@ -58,7 +58,7 @@ fn skim(settings: &Settings, recording: &mut impl Read, track: &mut impl Write) 
     loop {
         let bytes = read_bytes(recording, FRAMES * frame_bytes)?;
         frames += bytes.len() / frame_bytes;
-        let outcome = stream.write_f32(&to_samples(&bytes));
+        let outcome = stream.write_f32(&to_samples(&bytes)).outcome;
         pass_on(&mut stream, track)?;
         if matches!(outcome, Outcome::Stalled | Outcome::Full) {
             return Ok(Some(frames));

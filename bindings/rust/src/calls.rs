@@ -1,6 +1,17 @@
 //! The calls of include/kelpladder.h. The functions below them take slices, so that a pointer always comes with its own length. The
 //! repository's tests and benchmarks use this file too, so nothing in it depends on the rest of the crate.
 
+/// The totals of a stream over all its accepted writes and flushes that did not stall. Over these calls, frames out of the stretch or
+/// copy, before the rate conversion, plus skipped equals frames used plus inserted; frames that a flush clears are not used.
+#[repr(C)]
+#[derive(Debug, Default, Clone, Copy, PartialEq, Eq, Hash)]
+pub struct Balance {
+    /// Frames of the periods that were skipped.
+    pub skipped: u64,
+    /// Frames of the periods that were inserted.
+    pub inserted: u64,
+}
+
 /// The stream's value, field by field as in the header. Its samples are in the areas.
 #[repr(C)]
 #[derive(Debug, Default, Clone, Copy)]
@@ -20,6 +31,7 @@ pub struct Stream {
     pub held: usize,
     pub tail: usize,
     pub waiting: usize,
+    pub balance: Balance,
 }
 
 /// An opening.
@@ -48,12 +60,19 @@ pub struct Available {
     pub stream: Stream,
 }
 
+/// What is told of an accepted write or flush; every field is 0 if refused.
+#[repr(C)]
+#[derive(Debug, Default, Clone, Copy)]
+pub struct Told {
+    pub outcome: u32,
+}
+
 /// A write or a flush.
 #[repr(C)]
 #[derive(Debug, Clone, Copy)]
 pub struct Wrote {
     pub refusal: u32,
-    pub outcome: u32,
+    pub told: Told,
     pub stream: Stream,
 }
 

@@ -7,7 +7,7 @@
 //! let mut stream = SonicStream::new(8_000, 1)?;
 //! stream.set_speed(2.0);
 //! let second: Vec<f32> = (0..8_000).map(|i| (i % 62) as f32 / 62.0 - 0.5).collect();
-//! if stream.write_f32(&second) == Outcome::Stalled {
+//! if stream.write_f32(&second).outcome == Outcome::Stalled {
 //!     eprintln!("this speed is too high for the voice");
 //! }
 //! stream.flush();
@@ -19,10 +19,11 @@
 //!
 //! Types, functions and their arguments are the same, and so is every sample. What differs:
 //!
-//! - [`write_f32`](SonicStream::write_f32) and [`flush`](SonicStream::flush) give an [`Outcome`], where libsonic-rs gives nothing. As a
-//!   statement, `stream.flush();`, a call compiles as before and without a warning: the outcome is not marked `must_use`, because code
-//!   that only swaps the module would then warn at every write. Where a call's value was used as `()`, as the last expression of a
-//!   function or in an arm of a match, it now needs a semicolon.
+//! - [`write_f32`](SonicStream::write_f32) and [`flush`](SonicStream::flush) give a [`Told`] with an [`Outcome`], where libsonic-rs gives
+//!   nothing. As a statement, `stream.flush();`, a call compiles as before and without a warning: what is told is not marked `must_use`,
+//!   because code that only swaps the module would then warn at every write. Where a call's value was used as `()`, as the last expression
+//!   of a function or in an arm of a match, it now needs a semicolon.
+//! - [`balance`](SonicStream::balance) is not in libsonic-rs: it gives the frames of the periods skipped and inserted so far.
 //! - A stream has a limit. Frames held, frames between two steps and frames waiting each have at most [`MAX_SAMPLES`] samples, and a
 //!   write or flush that would pass this answers [`Outcome::Full`] and changes nothing. In libsonic-rs they grow until memory ends.
 //! - The texts of [`SonicError`] are worded differently.
@@ -34,10 +35,13 @@ mod areas;
 mod calls;
 mod error;
 mod outcome;
+#[cfg(test)]
+mod tests;
 
 pub use areas::MAX_SAMPLES;
+pub use calls::Balance;
 pub use error::SonicError;
-pub use outcome::Outcome;
+pub use outcome::{Outcome, Told};
 
 use areas::OwnedAreas;
 use calls::{Areas, Stream, Wrote};
@@ -49,6 +53,7 @@ const BAD_RATE: u32 = 1;
 const INPUT_FULL: u32 = 5;
 const STAGE_FULL: u32 = 6;
 const OUTPUT_FULL: u32 = 7;
+const TOTAL_FULL: u32 = 12;
 
 /// A stream of frames whose speed, pitch and volume are changed. A frame is one sample per channel; frames are interleaved.
 pub struct SonicStream {
@@ -94,10 +99,10 @@ impl SonicStream {
     /// The outcome says how it went; it may be ignored. [`Outcome::Stalled`] and [`Outcome::Full`] mean that recorded frames do not
     /// get through. Room is made as needed. A write leaves room for the silence of a later [`flush`](Self::flush), and answers
     /// [`Outcome::Full`] if it cannot.
-    pub fn write_f32(&mut self, samples: &[f32]) -> Outcome {
+    pub fn write_f32(&mut self, samples: &[f32]) -> Told {
         let frames = samples.len() / self.channels();
         if !areas::leaves_room_to_flush(self.value, frames) {
-            return Outcome::Full;
+            return Told::FULL;
         }
         self.work(|value, areas| calls::write_f32(value, samples, areas))
     }
@@ -106,13 +111,18 @@ impl SonicStream {
     ///
     /// The outcome tells of the held frames and the silence together. Where speed over pitch is so high that the shortest period gives
     /// no frame (above 21 at 8,000 frames a second), the silence alone answers [`Outcome::Stalled`], and nothing is amiss.
-    pub fn flush(&mut self) -> Outcome {
+    pub fn flush(&mut self) -> Told {
         self.work(calls::flush)
     }
 
     /// The frames that wait to be read.
     pub fn available_frames(&self) -> usize {
         calls::available_frames(self.value).frames
+    }
+
+    /// The frames of the periods skipped and inserted, over all writes and flushes that were taken and did not stall. No call lowers them.
+    pub fn balance(&self) -> Balance {
+        self.value.balance
     }
 
     /// Takes the first waiting frames, at most `max_frames`, and gives their samples.
@@ -129,21 +139,22 @@ impl SonicStream {
 
     /// Makes a call; as long as it is refused for want of room, makes the area longer and calls again. A refused call has changed
     /// nothing that is kept.
-    fn work(&mut self, call: impl Fn(Stream, Areas<'_>) -> Wrote) -> Outcome {
+    fn work(&mut self, call: impl Fn(Stream, Areas<'_>) -> Wrote) -> Told {
         loop {
             let answer = call(self.value, self.areas.lend());
             let grown = match answer.refusal {
                 ACCEPTED => {
                     self.value = answer.stream;
-                    return Outcome::of_number(answer.outcome);
+                    return Told::of_answer(answer.told);
                 }
                 INPUT_FULL => areas::grow(&mut self.areas.input),
                 STAGE_FULL => areas::grow(&mut self.areas.stage),
                 OUTPUT_FULL => areas::grow(&mut self.areas.output),
+                TOTAL_FULL => false,
                 refusal => unreachable!("refusal {refusal}: the stream and its areas belong together"),
             };
             if !grown {
-                return Outcome::Full;
+                return Told::FULL;
             }
         }
     }

@@ -1,5 +1,7 @@
 //! How a write or a flush went.
 
+use crate::calls;
+
 /// How a write or a flush went.
 #[derive(Debug, Clone, Copy, PartialEq, Eq, Hash)]
 pub enum Outcome {
@@ -16,6 +18,8 @@ pub enum Outcome {
     Stalled,
     /// Not taken: more than [`MAX_SAMPLES`](crate::MAX_SAMPLES) samples would be held, be between two steps, or wait. The stream is as
     /// before the call. Frames that wait can be read and the call made again; a shorter write may fit; a flush clears what is held.
+    ///
+    /// Or a total of the [`balance`](crate::SonicStream::balance) would pass 64 bits, which no recording comes near.
     Full,
 }
 
@@ -29,5 +33,23 @@ impl Outcome {
             3 => Self::Stretched,
             _ => Self::Stalled,
         }
+    }
+}
+
+/// What is told of a write or a flush; it may be ignored.
+#[derive(Debug, Clone, Copy, PartialEq, Eq, Hash)]
+#[non_exhaustive]
+pub struct Told {
+    /// How it went.
+    pub outcome: Outcome,
+}
+
+impl Told {
+    /// What is told of a call that was not taken.
+    pub(crate) const FULL: Self = Self { outcome: Outcome::Full };
+
+    /// What the C interface tells of an accepted call.
+    pub(crate) fn of_answer(told: calls::Told) -> Self {
+        Self { outcome: Outcome::of_number(told.outcome) }
     }
 }

@@ -3,7 +3,7 @@
 
 use kelpladder::{Outcome, SonicError, SonicStream};
 
-/// As code for libsonic-rs is written: outcomes are ignored, and nothing warns.
+/// As code for libsonic-rs is written: what is told is ignored, and nothing warns.
 fn convert(samples: &[f32]) -> Result<Vec<f32>, SonicError> {
     let mut stream = SonicStream::new(8_000, 2)?;
     stream.set_speed(1.0);
@@ -35,12 +35,12 @@ fn openings_out_of_range_are_errors() {
 #[test]
 fn writes_and_flushes_say_how_they_went() {
     let mut stream = SonicStream::new(8_000, 1).expect("in range");
-    assert_eq!(stream.write_f32(&[]), Outcome::Empty);
-    assert_eq!(stream.write_f32(&[0.5; 100]), Outcome::Copied);
+    assert_eq!(stream.write_f32(&[]).outcome, Outcome::Empty);
+    assert_eq!(stream.write_f32(&[0.5; 100]).outcome, Outcome::Copied);
     stream.set_speed(2.0);
-    assert_eq!(stream.write_f32(&[0.5; 245]), Outcome::Waiting);
-    assert_eq!(stream.write_f32(&[0.5]), Outcome::Stretched);
-    assert_eq!(stream.flush(), Outcome::Stretched);
+    assert_eq!(stream.write_f32(&[0.5; 245]).outcome, Outcome::Waiting);
+    assert_eq!(stream.write_f32(&[0.5]).outcome, Outcome::Stretched);
+    assert_eq!(stream.flush().outcome, Outcome::Stretched);
 }
 
 #[test]

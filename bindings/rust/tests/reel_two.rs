@@ -20,7 +20,7 @@ fn skim() -> SonicStream {
 /// The outcomes of chunks of a voice of this period, one after the other.
 fn write_chunks(stream: &mut SonicStream, period: usize, count: usize) -> Vec<Outcome> {
     let samples = voice(0, count * CHUNK, 1, period, 0);
-    samples.chunks(CHUNK).map(|chunk| stream.write_f32(chunk)).collect()
+    samples.chunks(CHUNK).map(|chunk| stream.write_f32(chunk).outcome).collect()
 }
 
 fn all_are(outcomes: &[Outcome], outcome: Outcome) -> bool {
@@ -44,14 +44,14 @@ fn a_high_voice_stalls_and_every_later_write_says_so() {
     assert!(all_are(&write_chunks(&mut stream, 62, 5), Outcome::Stretched));
     assert!(all_are(&write_chunks(&mut stream, 34, 5), Outcome::Stalled));
     assert!(all_are(&write_chunks(&mut stream, 62, 5), Outcome::Stalled));
-    assert_eq!(stream.write_f32(&[]), Outcome::Stalled);
+    assert_eq!(stream.write_f32(&[]).outcome, Outcome::Stalled);
 }
 
 #[test]
 fn a_flush_ends_a_stall() {
     let mut stream = skim();
     assert!(all_are(&write_chunks(&mut stream, 34, 3), Outcome::Stalled));
-    assert_eq!(stream.flush(), Outcome::Stalled);
-    assert_eq!(stream.write_f32(&[]), Outcome::Empty);
+    assert_eq!(stream.flush().outcome, Outcome::Stalled);
+    assert_eq!(stream.write_f32(&[]).outcome, Outcome::Empty);
     assert!(all_are(&write_chunks(&mut stream, 62, 5), Outcome::Stretched));
 }

@@ -5,7 +5,14 @@ use super::numbers::{sample_period, PITCHES, SPEEDS, VOLUMES};
 use super::order::{CHANNELS, RATES};
 use super::search::max_required;
 use super::{Model, Room, Work};
-use crate::interface::{Areas, Available, Changed, Gave, Opened, Setting, Stream, Subject, Wrote, EMPTY, WAITING};
+use crate::interface::{Areas, Available, Balance, Changed, Gave, Opened, Setting, Stream, Subject, Told, Wrote, EMPTY, WAITING};
+
+/// What a call needs: frames in the stage, frames that it makes, and what it adds to the totals.
+pub struct Needs {
+    pub staged: usize,
+    pub made: usize,
+    pub counted: Balance,
+}
 
 /// A fresh stream.
 fn fresh(rate: u32, channels: u32) -> Stream {
@@ -29,6 +36,9 @@ impl Model {
 
     /// A stream with a setting changed.
     fn changed(&self, mut stream: Stream, setting: Setting) -> Stream {
+        if self.wrong(Edit::SettingClearsBalance) {
+            stream.balance = Balance::default();
+        }
         match setting {
             Setting::Speed(speed) => {
                 stream.speed = self.held_to(speed, SPEEDS);
@@ -76,13 +86,13 @@ impl Model {
         all
     }
 
-    /// Frames that a call needs in the stage, and makes, when it adds these samples and nothing limits it but a cap.
-    pub fn needs(&self, stream: Stream, input: &[i16], tail: &[i16], added: &[i16], cap: usize) -> Option<(usize, usize)> {
-        let mut grown = stream;
+    /// What a call needs that adds these samples, when nothing limits it but a cap.
+    pub fn needs(&self, stream: Stream, input: &[i16], tail: &[i16], added: &[i16], cap: usize) -> Option<Needs> {
+        let mut grown = Stream { balance: Balance::default(), ..stream };
         grown.input_play_time = self.play_time_grown(&stream, added.len() / stream.channels as usize);
         let room = Room { stage: stream.tail + cap, output: cap };
         let work = self.process(Work::new(grown, [input, added].concat(), tail.to_vec()), room).ok()?;
-        Some((work.staged, work.made.len() / work.channels()))
+        Some(Needs { staged: work.staged, made: work.made.len() / work.channels(), counted: work.stream.balance })
     }
 
     /// The frames that a flush makes: those of its answer, before trimming counts for 7.
@@ -94,6 +104,9 @@ impl Model {
         }
         let mut work = self.add(stream, &silence, areas)?;
         self.trim_and_clear(&mut work, expected);
+        if self.wrong(Edit::FlushCountsNothing) {
+            work.stream.balance = stream.balance;
+        }
         Ok(work)
     }
 
@@ -144,7 +157,7 @@ impl Subject for Model {
         }
         let added = self.samples_in(samples, stream.channels as usize);
         if added.is_empty() && self.wrong(Edit::EmptyWriteIgnored) {
-            return Wrote { refusal: 0, outcome: if stream.held == 0 { EMPTY } else { WAITING }, stream };
+            return Wrote { refusal: 0, told: Told { outcome: if stream.held == 0 { EMPTY } else { WAITING } }, stream };
         }
         let mut entering = stream;
         if self.wrong(Edit::PlayTimeOfPartialFrame) && samples.len() % stream.channels as usize > 0 {
@@ -152,7 +165,7 @@ impl Subject for Model {
         }
         match self.add(entering, &added, &areas) {
             Ok(_) if self.wrong(Edit::RefusesAlways) => self.refused(7, stream, areas),
-            Ok(work) if self.wrong(Edit::StreamAsItCame) => Wrote { refusal: 0, outcome: work.outcome, stream },
+            Ok(work) if self.wrong(Edit::StreamAsItCame) => Wrote { refusal: 0, told: Told { outcome: work.outcome }, stream },
             Ok(work) => self.commit(work, areas),
             Err(refusal) => self.refused(refusal, stream, areas),
         }
@@ -176,6 +189,9 @@ impl Subject for Model {
         }
         output.copy_within(frames * channels..stream.waiting * channels, 0);
         stream.waiting -= frames;
+        if self.wrong(Edit::ReadClearsBalance) {
+            stream.balance = Balance::default();
+        }
         Gave { refusal: 0, frames, stream }
     }
 
@@ -184,7 +200,7 @@ impl Subject for Model {
             return self.refused(refusal, stream, areas);
         }
         if stream.held == 0 && stream.tail == 0 && self.wrong(Edit::EmptyFlushIgnored) {
-            return Wrote { refusal: 0, outcome: EMPTY, stream };
+            return Wrote { refusal: 0, told: Told { outcome: EMPTY }, stream };
         }
         match self.flush_work(stream, &areas) {
             Ok(work) => self.commit(work, areas),

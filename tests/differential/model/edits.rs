@@ -1,5 +1,5 @@
 //! The wrong edits, numbered from 1: each stands at one place of the model. They are in the order of document 01's parts; "Contracts"
-//! are the wrong programs that it says each contract has to rule out.
+//! are the wrong programs that it says each contract has to rule out, "Balance" is request C-16.
 
 /// Makes the edits and the table of them from one list.
 macro_rules! edits {
@@ -143,4 +143,25 @@ edits! {
     RefusesAlways, "Contracts", "every write is refused";
     StreamAsItCame, "Contracts", "a write hands the stream back as it came";
     InventedFrame, "Contracts", "a frame more than was made";
+    SkipCountsK, "Balance", "a skip counts k";
+    SkipCountsUsed, "Balance", "a skip counts the frames used";
+    InsertCountsK, "Balance", "an insert counts k";
+    InsertCountsMade, "Balance", "an insert counts the frames made";
+    InsertCountsAsSkip, "Balance", "an insert counts as skipped";
+    CopyingCounts, "Balance", "a copying step counts as skipped";
+    CopyCounts, "Balance", "a copy counts as inserted";
+    StallCounts, "Balance", "a stalled call counts its steps";
+    StallRefused, "Balance", "a stalled call meets 12";
+    TotalWraps, "Balance", "a total wraps in place of 12";
+    TotalSaturates, "Balance", "a total stays at its end in place of 12";
+    LastTotalRefused, "Balance", "12 where a total comes to 2^64 - 1";
+    SkippedRefusedAlone, "Balance", "12 does not look at the frames inserted";
+    TotalBeforeOutput, "Balance", "12 told before 7";
+    FullTotalOverwritesTail, "Balance", "refusal 12 writes over the tail";
+    FullTotalOutOfOrder, "Balance", "3 refuses a total of 2^64 - 1";
+    FlushClearsBalance, "Balance", "a flush clears the totals";
+    FlushCountsNothing, "Balance", "a flush counts none of its steps";
+    TrimmedCountedOff, "Balance", "a flush counts off the frames that it trims away";
+    SettingClearsBalance, "Balance", "a setting clears the totals";
+    ReadClearsBalance, "Balance", "a read clears the totals";
 }

@@ -1,6 +1,7 @@
-//! The module of document 01 in plain Rust, written from the document alone. It says which calls are refused and how the accepted
-//! ones go. A model may carry one wrong edit, by its number: such a model has to be found out by the comparison.
+//! The module of document 01 in plain Rust, written from the document and request C-16 alone. It says which calls are refused and how the
+//! accepted ones go. A model may carry one wrong edit, by its number: such a model has to be found out by the comparison.
 
+pub mod balance;
 pub mod calls;
 pub mod edits;
 pub mod numbers;
@@ -12,7 +13,7 @@ pub mod write;
 
 use std::cell::Cell;
 
-use crate::interface::{Stream, EMPTY};
+use crate::interface::{Balance, Stream, EMPTY};
 use edits::Edit;
 
 /// What a run may meet inside a call.
@@ -68,20 +69,22 @@ pub struct Room {
     pub output: usize,
 }
 
-/// A call under way: the stream, what is held, the tail, what was made, the frames that were in the stage, and the outcome.
+/// A call under way: the stream, what is held, the tail, what was made, the frames that were in the stage, the frames of periods that its
+/// steps have skipped and inserted, and the outcome.
 pub struct Work {
     pub stream: Stream,
     pub input: Vec<i16>,
     pub tail: Vec<i16>,
     pub made: Vec<i16>,
     pub staged: usize,
+    pub counted: Balance,
     pub outcome: u32,
 }
 
 impl Work {
     /// A call that starts with a stream, its held samples with those added, and its tail.
     pub fn new(stream: Stream, input: Vec<i16>, tail: Vec<i16>) -> Work {
-        Work { stream, input, tail, made: Vec::new(), staged: stream.tail, outcome: EMPTY }
+        Work { stream, input, tail, made: Vec::new(), staged: stream.tail, counted: Balance::default(), outcome: EMPTY }
     }
 
     /// The channels.

@@ -1,5 +1,6 @@
 //! The stretch steps of document 01.
 
+use super::balance::Step;
 use super::edits::Edit;
 use super::search::{max_period, max_required};
 use super::{Event, Model, Work};
@@ -39,6 +40,9 @@ impl Model {
         let channels = work.channels();
         frames.extend_from_slice(&work.input[position * channels..(position + count) * channels]);
         work.stream.time_error = self.error_copied(work.stream.time_error, s, period, count);
+        if self.wrong(Edit::CopyingCounts) {
+            work.counted.skipped += count as u64;
+        }
         count
     }
 
@@ -55,6 +59,7 @@ impl Model {
         self.fade(frames, &work.input, work.channels(), Fade { down, up, k });
         let held = self.frames_for_error(work, position);
         work.stream.time_error = self.error_skipped(&work.stream, s, period, k, held);
+        self.count_skip(work, Step { period, k });
         Some(period + k)
     }
 
@@ -77,6 +82,7 @@ impl Model {
         }
         let held = self.frames_for_error(work, position);
         work.stream.time_error = self.error_inserted(&work.stream, s, period, k, held);
+        self.count_insert(work, Step { period, k });
         Some(k)
     }
 

@@ -3,10 +3,10 @@
 use super::edits::Edit;
 use super::search::max_required;
 use super::{Event, Model, Room, Work};
-use crate::interface::{Areas, Stream, Wrote, COPIED, STALLED, STRETCHED};
+use crate::interface::{Areas, Balance, Stream, Told, Wrote, COPIED, STALLED, STRETCHED};
 
 impl Model {
-    /// What follows once the frames are in the input. Refusals 6 and 7.
+    /// What follows once the frames are in the input. Refusals 6, 7 and 12.
     pub fn process(&self, mut work: Work, room: Room) -> Result<Work, u32> {
         let held = work.held();
         if held == 0 {
@@ -26,7 +26,11 @@ impl Model {
         if early {
             self.scale(&mut frames, work.stream.volume);
         }
+        if self.wrong(Edit::TotalBeforeOutput) {
+            self.balance_after(&work)?;
+        }
         work.made = self.convert(&mut work, frames, room.output)?;
+        work.stream.balance = self.balance_after(&work)?;
         if !early {
             self.scale(&mut work.made, work.stream.volume);
         }
@@ -45,10 +49,13 @@ impl Model {
             work.stream.prev_period = 0;
             work.stream.prev_min_diff = 0;
         }
+        if self.wrong(Edit::CopyCounts) {
+            work.counted.inserted += work.held() as u64;
+        }
         std::mem::take(&mut work.input)
     }
 
-    /// Adds samples to what is held and processes it. Refusals 5 to 7.
+    /// Adds samples to what is held and processes it. Refusals 5 to 7 and 12.
     pub fn add(&self, stream: Stream, added: &[i16], areas: &Areas<'_>) -> Result<Work, u32> {
         let channels = stream.channels as usize;
         let frames = added.len() / channels;
@@ -105,7 +112,7 @@ impl Model {
         let invented = self.wrong(Edit::InventedFrame) && work.stream.waiting < areas.output.len() / channels;
         work.stream.waiting += usize::from(invented);
         let outcome = if self.wrong(Edit::OneFixedOutcome) { STRETCHED } else { work.outcome };
-        Wrote { refusal: 0, outcome, stream: work.stream }
+        Wrote { refusal: 0, told: Told { outcome }, stream: work.stream }
     }
 
     /// A refused write or flush.
@@ -116,10 +123,13 @@ impl Model {
         if self.wrong(Edit::RefusalOverwritesTail) && refusal == 7 && stream.tail > 0 {
             areas.stage[0] = areas.stage[0].wrapping_add(1);
         }
+        if self.wrong(Edit::FullTotalOverwritesTail) && refusal == 12 && stream.tail > 0 {
+            areas.stage[0] = areas.stage[0].wrapping_add(1);
+        }
         if self.wrong(Edit::RefusalWritesOverHeld) && refusal == 6 && stream.held > 0 {
             areas.input[0] = areas.input[0].wrapping_add(1);
         }
-        Wrote { refusal, outcome: 0, stream }
+        Wrote { refusal, told: Told::default(), stream }
     }
 
     /// The end of a flush: at most so many of the frames made are kept, and what is held is cleared.
@@ -128,6 +138,10 @@ impl Model {
         let most = expected.saturating_sub(waiting).saturating_mul(work.channels());
         if work.made.len() > most {
             self.saw(Event::Trimmed);
+            if self.wrong(Edit::TrimmedCountedOff) {
+                let trimmed = (work.made.len() - most) / work.channels();
+                work.stream.balance.inserted = work.stream.balance.inserted.saturating_sub(trimmed as u64);
+            }
             work.made.truncate(most);
         }
         if !(self.wrong(Edit::FlushKeepsStalledInput) && work.outcome == STALLED) {
@@ -145,6 +159,9 @@ impl Model {
         if self.wrong(Edit::FlushClearsRecord) {
             work.stream.prev_period = 0;
             work.stream.prev_min_diff = 0;
+        }
+        if self.wrong(Edit::FlushClearsBalance) {
+            work.stream.balance = Balance::default();
         }
     }
 }
