@@ -2,8 +2,10 @@
 ghost use Prim.Native.Nat.{_≤_, _<_};
 ghost use lib.ListN.{length};
 
-// Digits join a number while it is at most this, so that no product passes 64 bits.
-const MOST: u64 = 1_000_000_000_000_000_000;
+// Digits join a number while it is at most this, so that it does not pass 64 bits.
+const MOST_DECIMAL: u64 = 1_000_000_000_000_000_000;
+
+const MOST_HEXADECIMAL: u64 = 0x0fff_ffff_ffff_ffff;
 
 const NO_DIGIT: u64 = 16;
 
@@ -37,13 +39,16 @@ fn digit(byte: u8) -> u64
 
 // A number with one digit more.
 fn joined(value: u64, digit: u64, hexadecimal: bool) -> u64
-    requires { ⌜ digit ≤ 16 ⌝ }
+    requires { ⌜ digit < 16 ⌝ }
 {
-    if value > MOST {
-        return value;
-    }
     if hexadecimal {
+        if value > MOST_HEXADECIMAL {
+            return value;
+        }
         return value * 16 + digit;
+    }
+    if value > MOST_DECIMAL {
+        return value;
     }
     value * 10 + digit
 }
