@@ -16,8 +16,8 @@ use Rattle.period.specs.Rates.{maxRequired}
 use Rattle.stream.specs.declared.SonicStream.{SonicStream}
 use Rattle.stream.specs.State.{State}
 use Rattle.stream.specs.Stream.{stateOf, streamOf}
-use Rattle.stream.specs.Refusals.{refusal}
 use Rattle.process.specs.Process.{Made, wholeFrames, joined, process, writeWork, flushWork, expected, cleared}
+use Rattle.adding.specs.Calls.{refusalOf}
 use Rattle.adding.proofs.Room.{Room, room-of}
 use Rattle.runs.specs.Ledger.{write, flush, Ledger, entry}
 use Rattle.runs.specs.Run.{Moment, Lent}
@@ -59,7 +59,7 @@ module _ {m : Moment} {l : Ledger} (h : Tracks m l) (a : Areas) (g : Lent m a) w
 
     work-fits : (t : State) (frames : List Frame) (added : ℕ) → added ≡ length fs
         → length (t .input) ≤ length (work .state .input) → length (t .tail) ≤ length (work .state .tail) → length frames ≤ length (work .frames)
-        → Room s a added (work .staged) (length (work .frames))
+        → Room s a added work
         → Fits t frames
     unfolding joined stateOf streamOf
     work-fits t frames added e input tail output r =
@@ -85,14 +85,14 @@ module _ {m : Moment} {l : Ledger} (h : Tracks m l) (a : Areas) (g : Lent m a) w
 
   pub accepts-write : (samples : List Float)
       → (let w : Made = writeWork samples seen in
-      refusal s a (length (wholeFrames ch samples)) (w .staged) (length (w .frames)) ≡ 0
-      → Accepts l (h .waiting) a (write samples) (w .outcome) (w .state) (w .frames))
+      refusalOf s a (length (wholeFrames ch samples)) w ≡ 0
+      → Accepts l (h .waiting) a (write samples) (w .told) (w .state) (w .frames))
   unfolding writeWork entry stateOf streamOf
   accepts-write samples e =
       let fs : List Frame = map (map sampleIn) (wholeFrames ch samples) in
       let w : Made = work fs in
       let added : ℕ = length (wholeFrames ch samples) in
-      let r : Room s a added (w .staged) (length (w .frames)) = room-of s a added (w .staged) (length (w .frames)) e in
+      let r : Room s a added w = room-of s a added w e in
       let shown : seen ≡ l .state = state-shown (r .held-fits) (r .tail-fits) in
       let f : Fits fs (w .state) (w .frames) =
       work-fits fs (w .state) (w .frames) added (sym (length-map (wholeFrames ch samples) (map sampleIn))) (le-refl _) (le-refl _) (le-refl _) r in
@@ -100,7 +100,7 @@ module _ {m : Moment} {l : Ledger} (h : Tracks m l) (a : Areas) (g : Lent m a) w
         entered =
             ap (λ (t : State).
             let n : Made = writeWork samples t in
-            record { state = n .state; made = l .made ++ n .frames; outcomes = l .outcomes ++ (n .outcome ∷ []) }) (sym shown);
+            record { state = n .state; made = l .made ++ n .frames; outcomes = l .outcomes ++ (n .told .outcome ∷ []) }) (sym shown);
         channels-is = work-channels fs;
         input-fits = f .input;
         tail-fits = f .tail;
@@ -110,15 +110,15 @@ module _ {m : Moment} {l : Ledger} (h : Tracks m l) (a : Areas) (g : Lent m a) w
 
   pub accepts-flush :
       (let w : Made = flushWork seen in
-      refusal s a (2 * maxRequired (l .state .rate)) (w .staged) (length (w .frames)) ≡ 0
-      → Accepts l (h .waiting) a flush (w .outcome) (cleared (w .state)) (take (expected seen) (w .frames)))
+      refusalOf s a (2 * maxRequired (l .state .rate)) w ≡ 0
+      → Accepts l (h .waiting) a flush (w .told) (cleared (w .state)) (take (expected seen) (w .frames)))
   unfolding flushWork entry stateOf streamOf cleared
   accepts-flush e =
       let added : ℕ = 2 * maxRequired (l .state .rate) in
       let fs : List Frame = replicate added (replicate ch (pos 0)) in
       let w : Made = work fs in
       let frames : List Frame = take (expected seen) (w .frames) in
-      let r : Room s a added (w .staged) (length (w .frames)) = room-of s a added (w .staged) (length (w .frames)) e in
+      let r : Room s a added w = room-of s a added w e in
       let shown : seen ≡ l .state = state-shown (r .held-fits) (r .tail-fits) in
       let f : Fits fs (cleared (w .state)) frames =
       work-fits fs (cleared (w .state)) frames added (sym (length-replicate added (replicate ch (pos 0)))) (omega arith) (omega arith)
@@ -127,7 +127,7 @@ module _ {m : Moment} {l : Ledger} (h : Tracks m l) (a : Areas) (g : Lent m a) w
         entered =
             ap (λ (t : State).
             let n : Made = flushWork t in
-            record { state = cleared (n .state); made = l .made ++ take (expected t) (n .frames); outcomes = l .outcomes ++ (n .outcome ∷ []) }) (sym shown);
+            record { state = cleared (n .state); made = l .made ++ take (expected t) (n .frames); outcomes = l .outcomes ++ (n .told .outcome ∷ []) }) (sym shown);
         channels-is = work-channels fs;
         input-fits = f .input;
         tail-fits = f .tail;

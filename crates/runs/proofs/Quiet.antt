@@ -22,7 +22,7 @@ use Rattle.stream.specs.Settings.{withSetting}
 use Rattle.fill.specs.declared.Outcome.{Outcome}
 use Rattle.fill.specs.declared.Outcome.the-variants.{Empty, Waiting, Stretched, Stalled}
 use Rattle.fill.specs.Taking.{Taken, removed, nothing, copied, stepsAt, stretched, takenAt, speedAt, taken}
-use Rattle.process.specs.Process.{Made, wholeFrames, joined, finished}
+use Rattle.process.specs.Process.{Made, wholeFrames, joined, counting, finished}
 use Rattle.process.specs.Process.{process, writeWork, flushWork, expected, cleared}
 use Rattle.runs.specs.Ledger.{Call, setting, write, flush, read, Ledger, entry}
 use Rattle.runs.specs.Demand.{CopiedOrEmpty}
@@ -39,14 +39,14 @@ none-of-length : (fs : List Frame) → length fs ≡ 0 → fs ≡ []
 none-of-length [] e = refl
 none-of-length (f ∷ fs) e = absurd (omega arith)
 
-stretched-loud : (x : Float) (s : State) → CopiedOrEmpty (stretched x s .outcome) → ⊥
+stretched-loud : (x : Float) (s : State) → CopiedOrEmpty (stretched x s .told .outcome) → ⊥
 unfolding stretched
 stretched-loud x s = cond-cases (λ (o : Outcome). CopiedOrEmpty o → ⊥) (stalled (stepsAt x s)) Stalled Stretched (λ e q. q) (λ e q. q)
 
-taken-copies : (s : State) → CopiedOrEmpty (taken s .outcome) → Copies s (taken s)
+taken-copies : (s : State) → CopiedOrEmpty (taken s .told .outcome) → Copies s (taken s)
 unfolding taken takenAt nothing copied removed
 taken-copies s =
-    let P : Taken → Type 0 = λ t. CopiedOrEmpty (t .outcome) → Copies s t in
+    let P : Taken → Type 0 = λ t. CopiedOrEmpty (t .told .outcome) → Copies s t in
     let x : Float = speedAt s in
     let few = ltb (length (s .input)) (maxRequired (s .rate)) in
     cond-cases P (eqb (length (s .input)) 0) (nothing Empty s) (takenAt x s)
@@ -65,10 +65,10 @@ passageOf s made = record { state = bare s; made = made }
 abbrev pub passageIn : Ledger → Passage
 passageIn l = passageOf (l .state) (l .made)
 
-process-passes : (s : State) (made : List Frame) (cut : List Frame → List Frame) → CopiedOrEmpty (process s .outcome)
+process-passes : (s : State) (made : List Frame) (cut : List Frame → List Frame) → CopiedOrEmpty (process s .told .outcome)
     → (passageOf (process s .state) (made ++ cut (process s .frames)) ≡ passed cut (passageOf s made) (s .input))
     × (process s .state .input ≡ [])
-unfolding process finished bare passed
+unfolding process finished counting bare passed
 process-passes s made cut q =
     let t : Taken = taken s in
     let c : Copies s t = taken-copies s q in
@@ -86,8 +86,8 @@ pub record NothingHeld (rate channels : ℕ) (l : Ledger) : Type 0 where
 
 abbrev pub QuietCall : Ledger → Call → Type 0
 QuietCall l (setting v) = Unit {0}
-QuietCall l (write samples) = CopiedOrEmpty (writeWork samples (l .state) .outcome)
-QuietCall l flush = CopiedOrEmpty (flushWork (l .state) .outcome)
+QuietCall l (write samples) = CopiedOrEmpty (writeWork samples (l .state) .told .outcome)
+QuietCall l flush = CopiedOrEmpty (flushWork (l .state) .told .outcome)
 QuietCall l (read most) = Unit {0}
 
 -- after a setting

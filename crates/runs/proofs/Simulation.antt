@@ -12,10 +12,10 @@ use Rattle.stream.specs.declared.SonicStream.{SonicStream}
 use Rattle.stream.specs.declared.Opened.{Opened}
 use Rattle.stream.specs.State.{State}
 use Rattle.stream.specs.Stream.{stateOf, streamOf, zeroStream}
-use Rattle.stream.specs.Refusals.{badRate, badChannels, rateBad, channelsBad, inOrder, refusal, readRefusal}
+use Rattle.stream.specs.Refusals.{badRate, badChannels, rateBad, channelsBad, inOrder, readRefusal}
 use Rattle.stream.specs.Settings.{fresh, openCall, setCall}
 use Rattle.process.specs.Process.{Made, wholeFrames, writeWork, flushWork, expected, cleared}
-use Rattle.adding.specs.Calls.{writeCall, flushCall, CallEnsures}
+use Rattle.adding.specs.Calls.{refusalOf, writeCall, flushCall, CallEnsures}
 use Rattle.read.specs.Reading.{readCount, readCall, ReadEnsures}
 use Rattle.stream.proofs.Passing.{read-room}
 use Rattle.runs.specs.Ledger.{write, flush, Ledger, begun, posted, ledgerFrom, ledger}
@@ -35,16 +35,16 @@ event-tracks {m} {l} h (write-went samples a r b) p =
     let w : Made = writeWork samples (stateOf s (a .input) (a .stage)) in
     let e : CallEnsures (s .channels) (writeCall s samples a) r b =
     subst (λ (x : SonicStream). CallEnsures (x .channels) (writeCall x samples a) r b) (h .stream) (p .2) in
-    call-tracks h (write samples) a b (w .outcome) (w .state) (w .frames) r
-    (refusal s a (length (wholeFrames (s .channels) samples)) (w .staged) (length (w .frames))) (p .0) (p .1) e (accepts-write h a (p .0) samples)
+    call-tracks h (write samples) a b (w .told) (w .state) (w .frames) r
+    (refusalOf s a (length (wholeFrames (s .channels) samples)) w) (p .0) (p .1) e (accepts-write h a (p .0) samples)
 event-tracks {m} {l} h (flush-went a r b) p =
     let s : SonicStream = streamOf (l .state) (h .waiting) in
     let entering : State = stateOf s (a .input) (a .stage) in
     let w : Made = flushWork entering in
     let e : CallEnsures (s .channels) (flushCall s a) r b =
     subst (λ (x : SonicStream). CallEnsures (x .channels) (flushCall x a) r b) (h .stream) (p .2) in
-    call-tracks h flush a b (w .outcome) (cleared (w .state)) (take (expected entering) (w .frames)) r
-    (refusal s a (2 * maxRequired (s .rate)) (w .staged) (length (w .frames))) (p .0) (p .1) e (accepts-flush h a (p .0))
+    call-tracks h flush a b (w .told) (cleared (w .state)) (take (expected entering) (w .frames)) r
+    (refusalOf s a (2 * maxRequired (s .rate)) w) (p .0) (p .1) e (accepts-flush h a (p .0))
 event-tracks {m} {l} h (read-went most a r b) p =
     let s : SonicStream = streamOf (l .state) (h .waiting) in
     let e : ReadEnsures (s .channels) (readCall s most (a .slice) (a .output)) r (a .slice) (b .slice) (b .output) =

@@ -11,6 +11,7 @@ use Rattle.floats.specs.Write.{sampleOut}
 use Rattle.stream.specs.declared.SonicStream.{SonicStream}
 use Rattle.stream.specs.State.{State}
 use Rattle.stream.specs.Stream.{streamOf}
+use Rattle.fill.specs.declared.Told.{Told}
 use Rattle.fill.specs.declared.Outcome.{Outcome}
 use Rattle.adding.specs.declared.Wrote.{Wrote}
 use Rattle.adding.specs.Calls.{refusedCall, acceptedCall, callBy, CallEnsures}
@@ -31,8 +32,8 @@ pub record Tracks (m : Moment) (l : Ledger) : Type 0 where
   pub outcomes : m .outcomes ≡ l .outcomes
 
 -- an accepted call's entry in the ledger, and room for what it keeps
-pub record Accepts (l : Ledger) (waiting : ℕ) (a : Areas) (c : Call) (o : Outcome) (t : State) (frames : List Frame) : Type 0 where
-  pub entered : entry l c ≡ record { state = t; made = l .made ++ frames; outcomes = l .outcomes ++ (o ∷ []) }
+pub record Accepts (l : Ledger) (waiting : ℕ) (a : Areas) (c : Call) (told : Told) (t : State) (frames : List Frame) : Type 0 where
+  pub entered : entry l c ≡ record { state = t; made = l .made ++ frames; outcomes = l .outcomes ++ (told .outcome ∷ []) }
   pub channels-is : t .channels ≡ l .state .channels
   pub input-fits : length (t .input) * l .state .channels ≤ length (a .input)
   pub tail-fits : length (t .tail) * l .state .channels ≤ length (a .stage)
@@ -69,19 +70,19 @@ module _ {m : Moment} {l : Ledger} (h : Tracks m l) where
         outcomes = append-nil (m .outcomes) ∙ h .outcomes;
       }
 
-  module _ (c : Call) (a b : Areas) (o : Outcome) (t : State) (frames : List Frame) where
+  module _ (c : Call) (a b : Areas) (told : Told) (t : State) (frames : List Frame) where
     abbrev waits : ℕ
     waits = h .waiting + length frames
 
     abbrev done : Wrote
-    done = Wrote.Done o (streamOf t waits)
+    done = Wrote.Done told (streamOf t waits)
 
-    accepted-tracks : Lent m a → SameLengths a b → CallEnsures ch (acceptedCall s a o t frames) done b
-        → Accepts l (h .waiting) a c o t frames → Tracks (afterCall m done b) (entry l c)
+    accepted-tracks : Lent m a → SameLengths a b → CallEnsures ch (acceptedCall s a told t frames) done b
+        → Accepts l (h .waiting) a c told t frames → Tracks (afterCall m done b) (entry l c)
     unfolding afterCall acceptedCall streamOf
     accepted-tracks g same ensured f =
-        let e : CallEnsures (t .channels) (acceptedCall s a o t frames) done b =
-        subst (λ (k : ℕ). CallEnsures k (acceptedCall s a o t frames) done b) (sym (f .channels-is)) ensured in
+        let e : CallEnsures (t .channels) (acceptedCall s a told t frames) done b =
+        subst (λ (k : ℕ). CallEnsures k (acceptedCall s a told t frames) done b) (sym (f .channels-is)) ensured in
         let in-fits : length (t .input) * t .channels ≤ length (b .input) = rw (f .channels-is) (omega (arith, f .input-fits, same .input)) in
         let tail-fits : length (t .tail) * t .channels ≤ length (b .stage) = rw (f .channels-is) (omega (arith, f .tail-fits, same .stage)) in
         let out-fits : waits * t .channels ≤ length (b .output) = rw (f .channels-is) (omega (arith, f .output-fits, same .output)) in
@@ -90,7 +91,7 @@ module _ {m : Moment} {l : Ledger} (h : Tracks m l) where
         frames-shown ch (h .waiting) (m .output) (a .output) (g .output) (h .output-length) (f .waiting-fits) in
         let now : framesOf (t .channels) waits (leave (waits * t .channels) (b .output) (m .output)) ≡ before ++ frames =
         frames-left (t .channels) waits (m .output) (b .output) out-fits ∙ e .output ∙ ap (λ (r : List Frame). r ++ frames) seen in
-        let tracks : Tracks (afterCall m done b) (record { state = t; made = l .made ++ frames; outcomes = l .outcomes ++ (o ∷ []) }) =
+        let tracks : Tracks (afterCall m done b) (record { state = t; made = l .made ++ frames; outcomes = l .outcomes ++ (told .outcome ∷ []) }) =
         record {
           waiting = waits;
           stream = refl;
@@ -105,7 +106,7 @@ module _ {m : Moment} {l : Ledger} (h : Tracks m l) where
               ∙ sym (append-assoc (m .given) (values before) (values frames))
               ∙ ap (λ (r : List (List Float)). r ++ values frames) (h .made)
               ∙ sym (map-append (map sampleOut) (l .made) frames);
-          outcomes = ap (λ (r : List Outcome). r ++ (o ∷ [])) (h .outcomes);
+          outcomes = ap (λ (r : List Outcome). r ++ (told .outcome ∷ [])) (h .outcomes);
         }
         in
         subst (λ (x : Ledger). Tracks (afterCall m done b) x) (sym (f .entered)) tracks
@@ -116,13 +117,13 @@ module _ {m : Moment} {l : Ledger} (h : Tracks m l) where
 
     -- a write or a flush, by the number of its refusal
     pub call-tracks : (r : Wrote) (number : ℕ) → Lent m a → SameLengths a b
-        → CallEnsures ch (callBy number s a (acceptedCall s a o t frames)) r b
-        → (number ≡ 0 → Accepts l (h .waiting) a c o t frames)
+        → CallEnsures ch (callBy number s a (acceptedCall s a told t frames)) r b
+        → (number ≡ 0 → Accepts l (h .waiting) a c told t frames)
         → AnswerTracks r
     unfolding posted acceptedCall refusedCall streamOf
     call-tracks r zero g same e f =
         let q : r ≡ done = e .answer in
-        subst AnswerTracks (sym q) (accepted-tracks g same (subst (λ (y : Wrote). CallEnsures ch (acceptedCall s a o t frames) y b) q e) (f refl))
+        subst AnswerTracks (sym q) (accepted-tracks g same (subst (λ (y : Wrote). CallEnsures ch (acceptedCall s a told t frames) y b) q e) (f refl))
     call-tracks r (suc k) g same e f =
         let q : r ≡ Wrote.Refused (suc k) s = e .answer in
         subst AnswerTracks (sym q) (refused-tracks a b (suc k) g same (subst (λ (y : Wrote). CallEnsures ch (refusedCall (suc k) s a) y b) q e))

@@ -22,11 +22,12 @@ use Rattle.stretch.specs.declared.Stretch.{Stretch}
 use Rattle.stretch.specs.Speed.{answerFor}
 use Rattle.stream.specs.declared.Setting.{Setting}
 use Rattle.stream.specs.declared.Setting.the-variants.{Speed, Pitch, Volume}
-use Rattle.stream.specs.State.{State, withSettings, withInput}
+use Rattle.stream.specs.Balance.{none}
+use Rattle.stream.specs.State.{State, withSettings, withInput, withBalance}
 use Rattle.stream.specs.Settings.{withSetting}
 use Rattle.fill.specs.declared.Outcome.the-variants.{Empty, Waiting}
 use Rattle.fill.specs.Taking.{Taken, removed, nothing, copied, callAt, placeOf, stepsAt, stepped, stretched, takenAt, speedAt, taken}
-use Rattle.process.specs.Process.{finished, process}
+use Rattle.process.specs.Process.{counting, finished, process}
 
 -- what holds of both holds of the one chosen
 pub cond-cases : {A : Type 0} (P : A → Type 0) (b : Bool) (x y : A) → (b ≡ true → P x) → (b ≡ false → P y) → P (cond b x y)
@@ -45,9 +46,9 @@ setting-cases P s f (Volume x) = f _ _ _ _
 
 -- ---- copied or stretched frames
 
--- all of a state but its input, period record, play time and time error
+-- all of a state but its input, period record, play time, time error and totals
 unfoldable pub bare : State → State
-bare s = withInput s [] (record { period = 0; «min_diff» = 0 }) zero zero
+bare s = withBalance (withInput s [] (record { period = 0; «min_diff» = 0 }) zero zero) none
 
 pub record Leaves (s t : State) : Type 0 where
   pub rest : bare t ≡ bare s
@@ -96,19 +97,19 @@ adjustRate-rest rate pitch at tail fs =
 
 module _ (s : State) where
   pub process-rate : process s .state .rate ≡ s .rate
-  unfolding process finished bare
+  unfolding process finished counting bare
   process-rate = ap (λ (t : State). t .rate) (taken-leaves s .rest)
 
   pub process-channels : process s .state .channels ≡ s .channels
-  unfolding process finished bare
+  unfolding process finished counting bare
   process-channels = ap (λ (t : State). t .channels) (taken-leaves s .rest)
 
   pub process-input : length (process s .state .input) ≤ length (s .input)
-  unfolding process finished
+  unfolding process finished counting
   process-input = taken-leaves s .input
 
   pub process-tail : length (process s .state .tail) ≤ length (s .tail) + process s .staged
-  unfolding process finished bare
+  unfolding process finished counting bare
   process-tail =
       let t : Taken = taken s in
       let e : t .state .tail ≡ s .tail = ap (λ (x : State). x .tail) (taken-leaves s .rest) in
