@@ -1,6 +1,7 @@
--- An accepted write or flush: the areas that it is lent show the ledger's state, so its work is the ledger's, and what it keeps fits.
+-- An accepted write or flush: the areas that it is lent show the ledger's state, so its work is the ledger's, it is ready for its steps, and
+-- what it keeps fits.
 -- Assumes nothing.
-use mathlib.Core.Path.{_≡_, sym, ap, _∙_}
+use mathlib.Core.Path.{_≡_, sym, ap, _∙_, subst}
 use mathlib.Core.List.{List, _∷_, [], _++_, map}
 use Prim.Native.Nat.{ℕ, _+_, _*_, _≤_}
 use native.Mathlib.Nat.{le-refl, le-trans, mul-le-mul-right}
@@ -11,12 +12,16 @@ use lib.ListN.{length, take, replicate, length-append, length-map, length-take, 
 use Rattle.frames.specs.Areas.{Areas}
 use Rattle.frames.specs.Framing.{Frame, framesOf}
 use Rattle.frames.proofs.Framing.{length-framesOf}
+use Rattle.frames.proofs.Room.{count-le}
 use Rattle.floats.specs.Write.{sampleIn}
-use Rattle.period.specs.Rates.{maxRequired}
+use Rattle.period.specs.Rates.{InLimits, maxRequired}
 use Rattle.stream.specs.declared.SonicStream.{SonicStream}
 use Rattle.stream.specs.State.{State}
 use Rattle.stream.specs.Stream.{stateOf, streamOf}
+use Rattle.stream.proofs.InOrder.{limits-of, ready-of}
+use Rattle.stream.proofs.AreaTests.{areas-of}
 use Rattle.process.specs.Process.{Made, wholeFrames, joined, process, writeWork, flushWork, expected, cleared}
+use Rattle.process.proofs.Claims.{Held}
 use Rattle.adding.specs.Calls.{refusalOf}
 use Rattle.adding.proofs.Room.{Room, room-of}
 use Rattle.runs.specs.Ledger.{write, flush, Ledger, entry}
@@ -53,6 +58,7 @@ module _ {m : Moment} {l : Ledger} (h : Tracks m l) (a : Areas) (g : Lent m a) w
     work = process (joined fs seen)
 
     pub record Fits (t : State) (frames : List Frame) : Type 0 where
+      pub held : Held (joined fs seen)
       pub input : length (t .input) * ch ≤ length (a .input)
       pub tail : length (t .tail) * ch ≤ length (a .stage)
       pub output : (h .waiting + length frames) * ch ≤ length (a .output)
@@ -64,16 +70,23 @@ module _ {m : Moment} {l : Ledger} (h : Tracks m l) (a : Areas) (g : Lent m a) w
     unfolding joined stateOf streamOf
     work-fits t frames added e input tail output r =
         let from : State = joined fs seen in
+        let limits : InLimits (l .state .rate) ch = limits-of s (r .accepted .in-order) in
         let in-less : length (work .state .input) ≤ length (from .input) = process-input from in
         let in-held : length (from .input) ≡ length (l .state .input) + length fs =
         length-append (framesOf ch (length (l .state .input)) (a .input)) fs
         ∙ ap (λ (n : ℕ). n + length fs) (length-framesOf ch (length (l .state .input)) (a .input)) in
         let tail-less : length (work .state .tail) ≤ length (from .tail) + work .staged = process-tail from in
         let tail-held : length (from .tail) ≡ length (l .state .tail) = length-framesOf ch (length (l .state .tail)) (a .stage) in
+        let some : length (l .state .input) + added ≤ (length (l .state .input) + added) * ch = count-le ch (length (l .state .input) + added) (limits .channels-low) in
         let in-most : length (t .input) ≤ length (l .state .input) + added = omega arith in
         let tail-most : length (t .tail) ≤ length (l .state .tail) + work .staged = omega arith in
         let out-most : h .waiting + length frames ≤ h .waiting + length (work .frames) = omega arith in
         record {
+          held = record {
+            limits = limits;
+            few = omega (arith, in-held, some, r .accepted .fits, areas-of s a (r .accepted .areas-good) .input-short);
+            prev = ready-of s (r .accepted .in-order) .prev .period-in;
+          };
           input = le-trans (mul-le-mul-right ch in-most) (r .accepted .fits);
           tail = le-trans (mul-le-mul-right ch tail-most) (r .stage);
           output = le-trans (mul-le-mul-right ch out-most) (r .output);
@@ -101,6 +114,7 @@ module _ {m : Moment} {l : Ledger} (h : Tracks m l) (a : Areas) (g : Lent m a) w
             ap (λ (t : State).
             let n : Made = writeWork samples t in
             record { state = n .state; made = l .made ++ n .frames; outcomes = l .outcomes ++ (n .told .outcome ∷ []) }) (sym shown);
+        held = subst (λ (t : State). Held (joined fs t)) shown (f .held);
         channels-is = work-channels fs;
         input-fits = f .input;
         tail-fits = f .tail;
@@ -128,6 +142,7 @@ module _ {m : Moment} {l : Ledger} (h : Tracks m l) (a : Areas) (g : Lent m a) w
             ap (λ (t : State).
             let n : Made = flushWork t in
             record { state = cleared (n .state); made = l .made ++ take (expected t) (n .frames); outcomes = l .outcomes ++ (n .told .outcome ∷ []) }) (sym shown);
+        held = subst (λ (t : State). Held (joined fs t)) shown (f .held);
         channels-is = work-channels fs;
         input-fits = f .input;
         tail-fits = f .tail;

@@ -3,19 +3,23 @@ use mathlib.Core.Path.{_≡_, refl, sym, ap, _∙_, subst}
 use mathlib.Core.List.{List, [], _∷_, _++_, map, append-assoc, append-nil, map-append}
 use Prim.Native.Nat.{ℕ, zero, suc, _+_, _*_, _≤_}
 use native.Mathlib.Omega.{arith}
+use lib.IntN.{pos}
 use lib.Ieee.{Float}
-use lib.ListN.{length}
+use lib.ListN.{length, replicate}
 use Rattle.frames.specs.Areas.{Areas}
 use Rattle.frames.specs.Framing.{Frame, framesOf}
-use Rattle.floats.specs.Write.{sampleOut}
+use Rattle.floats.specs.Write.{sampleIn, sampleOut}
+use Rattle.period.specs.Rates.{maxRequired}
 use Rattle.stream.specs.declared.SonicStream.{SonicStream}
 use Rattle.stream.specs.State.{State}
 use Rattle.stream.specs.Stream.{streamOf}
 use Rattle.fill.specs.declared.Told.{Told}
 use Rattle.fill.specs.declared.Outcome.{Outcome}
+use Rattle.process.specs.Process.{wholeFrames, joined}
+use Rattle.process.proofs.Claims.{Held}
 use Rattle.adding.specs.declared.Wrote.{Wrote}
 use Rattle.adding.specs.Calls.{refusedCall, acceptedCall, callBy, CallEnsures}
-use Rattle.runs.specs.Ledger.{Call, Ledger, entry, posted}
+use Rattle.runs.specs.Ledger.{Call, setting, write, flush, read, Ledger, entry, posted}
 use Rattle.runs.specs.Run.{Moment, Lent, SameLengths, leave, afterCall, values, callAccepted}
 use Rattle.runs.proofs.KeptParts.{frames-shown, frames-kept, frames-left, length-left}
 
@@ -31,9 +35,17 @@ pub record Tracks (m : Moment) (l : Ledger) : Type 0 where
   pub made : m .given ++ values (framesOf (l .state .channels) waiting (m .output)) ≡ values (l .made)
   pub outcomes : m .outcomes ≡ l .outcomes
 
--- an accepted call's entry in the ledger, and room for what it keeps
+-- what the laws of stretch steps ask of a write or a flush: of the state with the frames that it adds
+abbrev pub HeldCall : Ledger → Call → Type 0
+HeldCall l (setting v) = Unit {0}
+HeldCall l (write samples) = Held (joined (map (map sampleIn) (wholeFrames (l .state .channels) samples)) (l .state))
+HeldCall l flush = Held (joined (replicate (2 * maxRequired (l .state .rate)) (replicate (l .state .channels) (pos 0))) (l .state))
+HeldCall l (read most) = Unit {0}
+
+-- an accepted call's entry in the ledger, what its work asks for, and room for what it keeps
 pub record Accepts (l : Ledger) (waiting : ℕ) (a : Areas) (c : Call) (told : Told) (t : State) (frames : List Frame) : Type 0 where
   pub entered : entry l c ≡ record { state = t; made = l .made ++ frames; outcomes = l .outcomes ++ (told .outcome ∷ []) }
+  pub held : HeldCall l c
   pub channels-is : t .channels ≡ l .state .channels
   pub input-fits : length (t .input) * l .state .channels ≤ length (a .input)
   pub tail-fits : length (t .tail) * l .state .channels ≤ length (a .stage)
