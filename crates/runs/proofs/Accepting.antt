@@ -77,7 +77,8 @@ module _ {m : Moment} {l : Ledger} (h : Tracks m l) (a : Areas) (g : Lent m a) w
         ∙ ap (λ (n : ℕ). n + length fs) (length-framesOf ch (length (l .state .input)) (a .input)) in
         let tail-less : length (work .state .tail) ≤ length (from .tail) + work .staged = process-tail from in
         let tail-held : length (from .tail) ≡ length (l .state .tail) = length-framesOf ch (length (l .state .tail)) (a .stage) in
-        let some : length (l .state .input) + added ≤ (length (l .state .input) + added) * ch = count-le ch (length (l .state .input) + added) (limits .channels-low) in
+        let all : ℕ = length (l .state .input) + added in
+        let some : all ≤ all * ch = count-le ch all (limits .channels-low) in
         let in-most : length (t .input) ≤ length (l .state .input) + added = omega arith in
         let tail-most : length (t .tail) ≤ length (l .state .tail) + work .staged = omega arith in
         let out-most : h .waiting + length frames ≤ h .waiting + length (work .frames) = omega arith in
@@ -141,7 +142,8 @@ module _ {m : Moment} {l : Ledger} (h : Tracks m l) (a : Areas) (g : Lent m a) w
         entered =
             ap (λ (t : State).
             let n : Made = flushWork t in
-            record { state = cleared (n .state); made = l .made ++ take (expected t) (n .frames); outcomes = l .outcomes ++ (n .told .outcome ∷ []) }) (sym shown);
+            record { state = cleared (n .state); made = l .made ++ take (expected t) (n .frames); outcomes = l .outcomes ++ (n .told .outcome ∷ []) })
+            (sym shown);
         held = subst (λ (t : State). Held (joined fs t)) shown (f .held);
         channels-is = work-channels fs;
         input-fits = f .input;

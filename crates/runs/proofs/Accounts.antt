@@ -185,7 +185,8 @@ module _ (rate channels : ℕ) where
   entry-accounts : (l : Ledger) (c : Call) → Of l → HeldCall l c → Tells NotStalled l c
       → Accounts (l .state) (entry l c .state) (addedBy c) (stepsOf l c) (clearedBy l c)
   unfolding entry writeWork flushWork stepsOf clearedBy framesIn silentIn
-  entry-accounts l (setting v) o h q = setting-cases (λ (s : State). Accounts (l .state) s 0 [] 0) (l .state) (λ speed pitch volume at. still refl refl) v
+  entry-accounts l (setting v) o h q =
+      setting-cases (λ (s : State). Accounts (l .state) s 0 [] 0) (l .state) (λ speed pitch volume at. still refl refl) v
   entry-accounts l (write samples) o h q =
       let whole : ℕ → List (List Float) = λ k. wholeFrames k samples in
       let number = length-map (whole (l .state .channels)) (map sampleIn) ∙ ap (λ (k : ℕ). length (whole k)) (o .channels-is) in

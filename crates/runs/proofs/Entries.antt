@@ -1,4 +1,5 @@
--- The ledger as its accepted settings, writes and flushes; where all answer 'copied' or 'empty', as their joined frames. Assumes nothing.
+-- The ledger as its accepted settings, writes and flushes, with what is said of each; where all answer 'copied' or 'empty', as their joined frames.
+-- Assumes nothing.
 use mathlib.Core.Path.{_≡_, refl, sym, ap, _∙_}
 use mathlib.Core.Bool.{Bool, true, false, cond}
 use mathlib.Core.List.{List, [], _∷_, _++_, map, map-append}
