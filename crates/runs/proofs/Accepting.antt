@@ -1,6 +1,7 @@
--- An accepted write or flush: the areas that it is lent show the ledger's state, so its work is the ledger's, and what it keeps fits.
+-- An accepted write or flush: the areas that it is lent show the ledger's state, so its work is the ledger's, it is ready for its steps, and
+-- what it keeps fits.
 -- Assumes nothing.
-use mathlib.Core.Path.{_≡_, sym, ap, _∙_}
+use mathlib.Core.Path.{_≡_, sym, ap, _∙_, subst}
 use mathlib.Core.List.{List, _∷_, [], _++_, map}
 use Prim.Native.Nat.{ℕ, _+_, _*_, _≤_}
 use native.Mathlib.Nat.{le-refl, le-trans, mul-le-mul-right}
@@ -11,13 +12,17 @@ use lib.ListN.{length, take, replicate, length-append, length-map, length-take, 
 use Rattle.frames.specs.Areas.{Areas}
 use Rattle.frames.specs.Framing.{Frame, framesOf}
 use Rattle.frames.proofs.Framing.{length-framesOf}
+use Rattle.frames.proofs.Room.{count-le}
 use Rattle.floats.specs.Write.{sampleIn}
-use Rattle.period.specs.Rates.{maxRequired}
+use Rattle.period.specs.Rates.{InLimits, maxRequired}
 use Rattle.stream.specs.declared.SonicStream.{SonicStream}
 use Rattle.stream.specs.State.{State}
 use Rattle.stream.specs.Stream.{stateOf, streamOf}
-use Rattle.stream.specs.Refusals.{refusal}
+use Rattle.stream.proofs.InOrder.{limits-of, ready-of}
+use Rattle.stream.proofs.AreaTests.{areas-of}
 use Rattle.process.specs.Process.{Made, wholeFrames, joined, process, writeWork, flushWork, expected, cleared}
+use Rattle.process.proofs.Claims.{Held}
+use Rattle.adding.specs.Calls.{refusalOf}
 use Rattle.adding.proofs.Room.{Room, room-of}
 use Rattle.runs.specs.Ledger.{write, flush, Ledger, entry}
 use Rattle.runs.specs.Run.{Moment, Lent}
@@ -53,27 +58,36 @@ module _ {m : Moment} {l : Ledger} (h : Tracks m l) (a : Areas) (g : Lent m a) w
     work = process (joined fs seen)
 
     pub record Fits (t : State) (frames : List Frame) : Type 0 where
+      pub held : Held (joined fs seen)
       pub input : length (t .input) * ch ≤ length (a .input)
       pub tail : length (t .tail) * ch ≤ length (a .stage)
       pub output : (h .waiting + length frames) * ch ≤ length (a .output)
 
     work-fits : (t : State) (frames : List Frame) (added : ℕ) → added ≡ length fs
         → length (t .input) ≤ length (work .state .input) → length (t .tail) ≤ length (work .state .tail) → length frames ≤ length (work .frames)
-        → Room s a added (work .staged) (length (work .frames))
+        → Room s a added work
         → Fits t frames
     unfolding joined stateOf streamOf
     work-fits t frames added e input tail output r =
         let from : State = joined fs seen in
+        let limits : InLimits (l .state .rate) ch = limits-of s (r .accepted .in-order) in
         let in-less : length (work .state .input) ≤ length (from .input) = process-input from in
         let in-held : length (from .input) ≡ length (l .state .input) + length fs =
         length-append (framesOf ch (length (l .state .input)) (a .input)) fs
         ∙ ap (λ (n : ℕ). n + length fs) (length-framesOf ch (length (l .state .input)) (a .input)) in
         let tail-less : length (work .state .tail) ≤ length (from .tail) + work .staged = process-tail from in
         let tail-held : length (from .tail) ≡ length (l .state .tail) = length-framesOf ch (length (l .state .tail)) (a .stage) in
+        let all : ℕ = length (l .state .input) + added in
+        let some : all ≤ all * ch = count-le ch all (limits .channels-low) in
         let in-most : length (t .input) ≤ length (l .state .input) + added = omega arith in
         let tail-most : length (t .tail) ≤ length (l .state .tail) + work .staged = omega arith in
         let out-most : h .waiting + length frames ≤ h .waiting + length (work .frames) = omega arith in
         record {
+          held = record {
+            limits = limits;
+            few = omega (arith, in-held, some, r .accepted .fits, areas-of s a (r .accepted .areas-good) .input-short);
+            prev = ready-of s (r .accepted .in-order) .prev .period-in;
+          };
           input = le-trans (mul-le-mul-right ch in-most) (r .accepted .fits);
           tail = le-trans (mul-le-mul-right ch tail-most) (r .stage);
           output = le-trans (mul-le-mul-right ch out-most) (r .output);
@@ -85,14 +99,14 @@ module _ {m : Moment} {l : Ledger} (h : Tracks m l) (a : Areas) (g : Lent m a) w
 
   pub accepts-write : (samples : List Float)
       → (let w : Made = writeWork samples seen in
-      refusal s a (length (wholeFrames ch samples)) (w .staged) (length (w .frames)) ≡ 0
-      → Accepts l (h .waiting) a (write samples) (w .outcome) (w .state) (w .frames))
+      refusalOf s a (length (wholeFrames ch samples)) w ≡ 0
+      → Accepts l (h .waiting) a (write samples) (w .told) (w .state) (w .frames))
   unfolding writeWork entry stateOf streamOf
   accepts-write samples e =
       let fs : List Frame = map (map sampleIn) (wholeFrames ch samples) in
       let w : Made = work fs in
       let added : ℕ = length (wholeFrames ch samples) in
-      let r : Room s a added (w .staged) (length (w .frames)) = room-of s a added (w .staged) (length (w .frames)) e in
+      let r : Room s a added w = room-of s a added w e in
       let shown : seen ≡ l .state = state-shown (r .held-fits) (r .tail-fits) in
       let f : Fits fs (w .state) (w .frames) =
       work-fits fs (w .state) (w .frames) added (sym (length-map (wholeFrames ch samples) (map sampleIn))) (le-refl _) (le-refl _) (le-refl _) r in
@@ -100,7 +114,8 @@ module _ {m : Moment} {l : Ledger} (h : Tracks m l) (a : Areas) (g : Lent m a) w
         entered =
             ap (λ (t : State).
             let n : Made = writeWork samples t in
-            record { state = n .state; made = l .made ++ n .frames; outcomes = l .outcomes ++ (n .outcome ∷ []) }) (sym shown);
+            record { state = n .state; made = l .made ++ n .frames; outcomes = l .outcomes ++ (n .told .outcome ∷ []) }) (sym shown);
+        held = subst (λ (t : State). Held (joined fs t)) shown (f .held);
         channels-is = work-channels fs;
         input-fits = f .input;
         tail-fits = f .tail;
@@ -110,15 +125,15 @@ module _ {m : Moment} {l : Ledger} (h : Tracks m l) (a : Areas) (g : Lent m a) w
 
   pub accepts-flush :
       (let w : Made = flushWork seen in
-      refusal s a (2 * maxRequired (l .state .rate)) (w .staged) (length (w .frames)) ≡ 0
-      → Accepts l (h .waiting) a flush (w .outcome) (cleared (w .state)) (take (expected seen) (w .frames)))
+      refusalOf s a (2 * maxRequired (l .state .rate)) w ≡ 0
+      → Accepts l (h .waiting) a flush (w .told) (cleared (w .state)) (take (expected seen) (w .frames)))
   unfolding flushWork entry stateOf streamOf cleared
   accepts-flush e =
       let added : ℕ = 2 * maxRequired (l .state .rate) in
       let fs : List Frame = replicate added (replicate ch (pos 0)) in
       let w : Made = work fs in
       let frames : List Frame = take (expected seen) (w .frames) in
-      let r : Room s a added (w .staged) (length (w .frames)) = room-of s a added (w .staged) (length (w .frames)) e in
+      let r : Room s a added w = room-of s a added w e in
       let shown : seen ≡ l .state = state-shown (r .held-fits) (r .tail-fits) in
       let f : Fits fs (cleared (w .state)) frames =
       work-fits fs (cleared (w .state)) frames added (sym (length-replicate added (replicate ch (pos 0)))) (omega arith) (omega arith)
@@ -127,7 +142,9 @@ module _ {m : Moment} {l : Ledger} (h : Tracks m l) (a : Areas) (g : Lent m a) w
         entered =
             ap (λ (t : State).
             let n : Made = flushWork t in
-            record { state = cleared (n .state); made = l .made ++ take (expected t) (n .frames); outcomes = l .outcomes ++ (n .outcome ∷ []) }) (sym shown);
+            record { state = cleared (n .state); made = l .made ++ take (expected t) (n .frames); outcomes = l .outcomes ++ (n .told .outcome ∷ []) })
+            (sym shown);
+        held = subst (λ (t : State). Held (joined fs t)) shown (f .held);
         channels-is = work-channels fs;
         input-fits = f .input;
         tail-fits = f .tail;

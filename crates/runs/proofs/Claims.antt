@@ -26,7 +26,7 @@ use Rattle.runs.specs.Demand.{LedgerClaim, SameCallsClaim, SameFramesCla
 use Rattle.runs.proofs.Simulation.{opened-as, run-is-ledger}
 use Rattle.runs.proofs.Passage.{Passage}
 use Rattle.runs.proofs.Quiet.{passageIn, NothingHeld}
-use Rattle.runs.proofs.Entries.{entries, ledger-entries, QuietCalls, entries-quiet, passedJoined, entries-pass}
+use Rattle.runs.proofs.Entries.{entries, ledger-entries, QuietCalls, entries-tell, passedJoined, entries-pass}
 use Rattle.runs.proofs.Counting.{FramesCounted, Untouched, calls-counted, counted-is}
 
 -- ---- the ledger
@@ -41,14 +41,14 @@ module _ {rate channels : ℕ} (a : RunOf rate channels) where
   abbrev book : Ledger
   book = entries (begun rate channels) (acceptedOf a)
 
-  ledger-is-book : ledgerOf a ≡ book
+  pub ledger-is-book : ledgerOf a ≡ book
   unfolding ledger
   ledger-is-book = ledger-entries (begun rate channels) (map fed (a .events))
 
   total-is-book : total (last a) ≡ values (book .made)
   total-is-book = ledger-claim rate channels a .0 ∙ ap (λ (l : Ledger). values (l .made)) ledger-is-book
 
-  outcomes-are-book : last a .outcomes ≡ book .outcomes
+  pub outcomes-are-book : last a .outcomes ≡ book .outcomes
   outcomes-are-book = ledger-claim rate channels a .1 ∙ ap (λ (l : Ledger). l .outcomes) ledger-is-book
 
 pub same-calls : SameCallsClaim
@@ -75,7 +75,7 @@ module _ (rate channels : ℕ) where
 
 module _ {rate channels : ℕ} (a : RunOf rate channels) (q : All CopiedOrEmpty (last a .outcomes)) where
   quiet-calls : QuietCalls (begun rate channels) (acceptedOf a)
-  quiet-calls = entries-quiet (begun rate channels) (acceptedOf a) (subst (All CopiedOrEmpty) (outcomes-are-book a) q) .0
+  quiet-calls = entries-tell CopiedOrEmpty (begun rate channels) (acceptedOf a) (subst (All CopiedOrEmpty) (outcomes-are-book a) q) .0
 
   made-joined : book a .made ≡ madeOf rate channels (joinedFrames channels (acceptedOf a))
   made-joined = ap (λ (x : Passage). x .made) (entries-pass (begun rate channels) (acceptedOf a) (begun-calm rate channels) quiet-calls)

@@ -1,4 +1,5 @@
--- The ledger as its accepted settings, writes and flushes; where all answer 'copied' or 'empty', as their joined frames. Assumes nothing.
+-- The ledger as its accepted settings, writes and flushes, with what is said of each; where all answer 'copied' or 'empty', as their joined frames.
+-- Assumes nothing.
 use mathlib.Core.Path.{_≡_, refl, sym, ap, _∙_}
 use mathlib.Core.Bool.{Bool, true, false, cond}
 use mathlib.Core.List.{List, [], _∷_, _++_, map, map-append}
@@ -8,10 +9,10 @@ use Rattle.floats.specs.Write.{sampleIn}
 use Rattle.fill.specs.declared.Outcome.{Outcome}
 use Rattle.process.specs.Process.{wholeFrames}
 use Rattle.runs.specs.Ledger.{Call, setting, write, flush, read, Fed, Ledger, entry, posted, ledgerFrom}
-use Rattle.runs.specs.Demand.{unlessRead, acceptedIn, All, CopiedOrEmpty, Mark, at-setting, at-flush, Segment, Joined, marked, joinedFrames}
+use Rattle.runs.specs.Demand.{unlessRead, acceptedIn, All, Mark, at-setting, at-flush, Segment, Joined, marked, joinedFrames}
 use Rattle.runs.proofs.Work.{bare}
 use Rattle.runs.proofs.Passage.{Passage, passed, all, passed-none, passed-append}
-use Rattle.runs.proofs.Quiet.{passageIn, NothingHeld, QuietCall, passedSetting, passedFlush, samplesIn, setting-passes, write-passes, flush-passes}
+use Rattle.runs.proofs.Quiet.{passageIn, NothingHeld, Tells, QuietCall, passedSetting, passedFlush, samplesIn, setting-passes, write-passes, flush-passes}
 
 -- ---- accepted calls, one after another
 
@@ -40,34 +41,58 @@ unfolding ledgerFrom acceptedIn entries
 ledger-entries l [] = refl
 ledger-entries l (f ∷ fs) = ledger-entries (posted l f) fs ∙ entries-posted l f (acceptedIn fs)
 
--- ---- from outcomes to calls
+-- ---- what is said of each call, at the ledger before it
+
+abbrev pub EachCall : (Ledger → Call → Type 0) → Ledger → List Call → Type 0
+EachCall P l [] = Unit {0}
+EachCall P l (c ∷ cs) = P l c × EachCall P (entry l c) cs
 
 abbrev pub QuietCalls : Ledger → List Call → Type 0
-QuietCalls l [] = Unit {0}
-QuietCalls l (c ∷ cs) = QuietCall l c × QuietCalls (entry l c) cs
+QuietCalls l cs = EachCall QuietCall l cs
 
-all-left : (xs ys : List Outcome) → All CopiedOrEmpty (xs ++ ys) → All CopiedOrEmpty xs
-all-left [] ys q = tt
-all-left (x ∷ xs) ys q = (q .0, all-left xs ys (q .1))
+module _ (P : Ledger → Call → Type 0) where
+  each-unless : (l : Ledger) (c : Call) (cs : List Call) → P l c → EachCall P (entry l c) cs → EachCall P l (unlessRead c cs)
+  unfolding unlessRead entry
+  each-unless l (setting v) cs p q = (p, q)
+  each-unless l (write samples) cs p q = (p, q)
+  each-unless l flush cs p q = (p, q)
+  each-unless l (read most) cs p q = q
 
-all-right : (xs ys : List Outcome) → All CopiedOrEmpty (xs ++ ys) → All CopiedOrEmpty ys
-all-right [] ys q = q
-all-right (x ∷ xs) ys q = all-right xs ys (q .1)
+  -- of accepted calls, if it holds of each that is
+  pub each-posted : (l : Ledger) (f : Fed) (cs : List Call) → (f .accepted ≡ true → P l (f .call)) → EachCall P (posted l f) cs
+      → EachCall P l (cond (f .accepted) (unlessRead (f .call) cs) cs)
+  unfolding posted
+  each-posted l f cs = go (f .accepted)
+    where
+      go : (b : Bool) → (b ≡ true → P l (f .call)) → EachCall P (cond b (entry l (f .call)) l) cs → EachCall P l (cond b (unlessRead (f .call) cs) cs)
+      go true p q = each-unless l (f .call) cs (p refl) q
+      go false p q = q
 
-entry-quiet : (l : Ledger) (c : Call) → All CopiedOrEmpty (entry l c .outcomes) → QuietCall l c × All CopiedOrEmpty (l .outcomes)
-unfolding entry
-entry-quiet l (setting v) q = (tt, q)
-entry-quiet l (write samples) q = (all-right (l .outcomes) _ q .0, all-left (l .outcomes) _ q)
-entry-quiet l flush q = (all-right (l .outcomes) _ q .0, all-left (l .outcomes) _ q)
-entry-quiet l (read most) q = (tt, q)
+-- ---- from outcomes to calls
 
-pub entries-quiet : (l : Ledger) (cs : List Call) → All CopiedOrEmpty (entries l cs .outcomes) → QuietCalls l cs × All CopiedOrEmpty (l .outcomes)
-unfolding entries
-entries-quiet l [] q = (tt, q)
-entries-quiet l (c ∷ cs) q =
-    let rest = entries-quiet (entry l c) cs q in
-    let first = entry-quiet l c (rest .1) in
-    ((first .0, rest .0), first .1)
+module _ (P : Outcome → Type 0) where
+  all-left : (xs ys : List Outcome) → All P (xs ++ ys) → All P xs
+  all-left [] ys q = tt
+  all-left (x ∷ xs) ys q = (q .0, all-left xs ys (q .1))
+
+  all-right : (xs ys : List Outcome) → All P (xs ++ ys) → All P ys
+  all-right [] ys q = q
+  all-right (x ∷ xs) ys q = all-right xs ys (q .1)
+
+  entry-tells : (l : Ledger) (c : Call) → All P (entry l c .outcomes) → Tells P l c × All P (l .outcomes)
+  unfolding entry
+  entry-tells l (setting v) q = (tt, q)
+  entry-tells l (write samples) q = (all-right (l .outcomes) _ q .0, all-left (l .outcomes) _ q)
+  entry-tells l flush q = (all-right (l .outcomes) _ q .0, all-left (l .outcomes) _ q)
+  entry-tells l (read most) q = (tt, q)
+
+  pub entries-tell : (l : Ledger) (cs : List Call) → All P (entries l cs .outcomes) → EachCall (Tells P) l cs × All P (l .outcomes)
+  unfolding entries
+  entries-tell l [] q = (tt, q)
+  entries-tell l (c ∷ cs) q =
+      let rest = entries-tell (entry l c) cs q in
+      let first = entry-tells l c (rest .1) in
+      ((first .0, rest .0), first .1)
 
 -- ---- the joined frames pass through
 

@@ -18,18 +18,22 @@ use Rattle.volume.specs.Volume.{amplified, scaled}
 use Rattle.rate.specs.Halving.{halved, ratesOf}
 use Rattle.rate.specs.Tail.{start, ceilDiv}
 use Rattle.rate.specs.Conversion.{adjustRate}
+use Rattle.stretch.specs.Tally.{tally}
+use Rattle.stretch.specs.Speed.{stalled}
 use Rattle.stream.specs.declared.SonicStream.{SonicStream}
 use Rattle.stream.specs.declared.Setting.the-variants.{Volume}
 use Rattle.stream.specs.declared.Opened.{Opened}
 use Rattle.stream.specs.declared.Changed.{Changed}
+use Rattle.stream.specs.Balance.{none, booked, past}
 use Rattle.stream.specs.State.{withSettings}
 use Rattle.stream.specs.Stream.{stateOf, streamOf}
 use Rattle.stream.specs.Refusals.{badAreas, inputFull, rateBad, channelsBad, limitsInOrder, periodInOrder, settingsInOrder, prevInOrder, positionsInOrder}
 use Rattle.stream.specs.Refusals.{inOrder, sizesBad, partsBad, areasBad, outputBad, refusal, readRefusal}
 use Rattle.stream.specs.Settings.{fresh, withSetting, openCall, setCall}
+use Rattle.fill.specs.declared.Told.{Told}
 use Rattle.fill.specs.declared.Outcome.the-variants.{Copied}
-use Rattle.fill.specs.Taking.{removed, nothing, copied, takenAt, taken}
-use Rattle.process.specs.Process.{wholeFrames, joined, finished, process, writeWork, flushWork, expected, cleared}
+use Rattle.fill.specs.Taking.{removed, nothing, copied, takenAt, taken, counted}
+use Rattle.process.specs.Process.{wholeFrames, joined, counting, finished, process, writeWork, flushWork, expected, cleared}
 use Rattle.adding.specs.declared.Wrote.{Wrote}
 use Rattle.read.specs.declared.Gave.{Gave}
 use Rattle.adding.specs.Calls.{refusedCall, acceptedCall, writeCall, flushCall}
@@ -52,6 +56,10 @@ opens = refl
 
 -- ---- calls
 
+-- what each of its accepted writes and flushes tells
+abbrev copying : Told
+copying = record { outcome = Copied }
+
 samples : List Float
 samples = one ∷ zero ∷ []
 
@@ -70,7 +78,7 @@ fair-left : Areas
 fair-left = areas (replicate 2 (pos 1)) (replicate 5 (pos 2)) (pos 32767 ∷ pos 0 ∷ replicate 4 (pos 3)) (replicate 300 (pos 4))
 
 copies : Event
-copies = write-went samples fair (Wrote.Done Copied (streamFor one 2)) fair-left
+copies = write-went samples fair (Wrote.Done copying (streamFor one 2)) fair-left
 
 softer : Event
 softer = setting-went (Volume half) (Changed.Done (streamFor half 2))
@@ -94,13 +102,13 @@ large output = areas (replicate 492 (pos 11)) (replicate 500 (pos 12)) output (r
 
 copies-softer : Event
 copies-softer =
-    write-went (one ∷ []) (large (pos 0 ∷ replicate 600 (pos 14))) (Wrote.Done Copied (streamFor half 2))
+    write-went (one ∷ []) (large (pos 0 ∷ replicate 600 (pos 14))) (Wrote.Done copying (streamFor half 2))
     (large (pos 0 ∷ pos 16383 ∷ replicate 599 (pos 15)))
 
 -- its 492 silent frames are copied, and none is kept: nothing was held, and nothing was in the tail
 flushes : Event
 flushes =
-    flush-went (large (pos 0 ∷ pos 16383 ∷ replicate 599 (pos 15))) (Wrote.Done Copied (streamFor half 2))
+    flush-went (large (pos 0 ∷ pos 16383 ∷ replicate 599 (pos 15))) (Wrote.Done copying (streamFor half 2))
     (large (pos 0 ∷ pos 16383 ∷ replicate 599 (pos 16)))
 
 takes-rest : Event
@@ -114,9 +122,9 @@ example : RunOf 8000 1
 unfolding no-room small copies fair fair-left softer too-short short takes-one copies-softer large flushes takes-rest samples
     opening after afterSetting afterCall afterRead Agree leave
     setCall withSetting writeCall flushCall refusedCall acceptedCall readCall readCount
-    refusal readRefusal inOrder limitsInOrder periodInOrder settingsInOrder prevInOrder positionsInOrder rateBad channelsBad
+    refusal readRefusal past inOrder limitsInOrder periodInOrder settingsInOrder prevInOrder positionsInOrder rateBad channelsBad
     areasBad sizesBad partsBad outputBad fresh streamOf stateOf framesOf wholeFrames
-    writeWork flushWork process finished taken takenAt copied nothing joined removed expected cleared adjustRate
+    writeWork flushWork process counting counted stalled tally booked finished taken takenAt copied nothing joined removed expected cleared adjustRate
     sampleIn sampleOut unitClamped playTimeGrown playTimeLeft localSpeed speedChanges expectedFrames gain scaled amplified clampZ clamped
     ratesOf halved newRate ceilDiv samplePeriod narrow ofBits neg div round ofInt toUnsigned toSigned le lt eq mul add
 example = record {
@@ -183,13 +191,14 @@ ledger-is :
         prev = record { period = 0; «min_diff» = 0 };
         «input_play_time» = zero;
         «time_error» = zero;
+        balance = none;
       };
       made = (pos 32767 ∷ []) ∷ (pos 0 ∷ []) ∷ (pos 16383 ∷ []) ∷ [];
       outcomes = Copied ∷ Copied ∷ Copied ∷ [];
     }
 unfolding example no-room copies softer too-short takes-one copies-softer flushes takes-rest samples
     ledger ledgerFrom posted begun entry fed fresh withSetting framesOf wholeFrames
-    writeWork flushWork process finished taken takenAt copied nothing joined removed expected cleared adjustRate
+    writeWork flushWork process counting counted stalled tally booked finished taken takenAt copied nothing joined removed expected cleared adjustRate
     sampleIn unitClamped playTimeGrown playTimeLeft localSpeed speedChanges expectedFrames gain scaled amplified clampZ clamped
     samplePeriod narrow ofBits neg div round ofInt toUnsigned toSigned le lt eq mul add
 ledger-is = refl

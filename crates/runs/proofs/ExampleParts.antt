@@ -21,18 +21,22 @@ use Rattle.rate.specs.declared.Position.{Position}
 use Rattle.rate.specs.Halving.{halved, ratesOf}
 use Rattle.rate.specs.Tail.{start, ceilDiv, due, next, steps, interpolateWindow, interpolated, emit, scan}
 use Rattle.rate.specs.Conversion.{convert, joinTail, adjustRate}
+use Rattle.stretch.specs.Tally.{tally}
+use Rattle.stretch.specs.Speed.{stalled}
 use Rattle.stream.specs.declared.SonicStream.{SonicStream}
 use Rattle.stream.specs.declared.Setting.the-variants.{Speed, Pitch}
 use Rattle.stream.specs.declared.Opened.{Opened}
 use Rattle.stream.specs.declared.Changed.{Changed}
+use Rattle.stream.specs.Balance.{booked, past}
 use Rattle.stream.specs.State.{withSettings, withTail}
 use Rattle.stream.specs.Stream.{stateOf, streamOf}
 use Rattle.stream.specs.Refusals.{rateBad, channelsBad, limitsInOrder, periodInOrder, settingsInOrder, prevInOrder, positionsInOrder, inOrder}
 use Rattle.stream.specs.Refusals.{sizesBad, partsBad, areasBad, refusal}
 use Rattle.stream.specs.Settings.{fresh, withSetting, openCall, setCall}
+use Rattle.fill.specs.declared.Told.{Told}
 use Rattle.fill.specs.declared.Outcome.the-variants.{Copied}
-use Rattle.fill.specs.Taking.{removed, nothing, copied, takenAt, taken}
-use Rattle.process.specs.Process.{wholeFrames, joined, finished, process, writeWork, flushWork, expected, cleared}
+use Rattle.fill.specs.Taking.{removed, nothing, copied, takenAt, taken, counted}
+use Rattle.process.specs.Process.{wholeFrames, joined, counting, finished, process, writeWork, flushWork, expected, cleared}
 use Rattle.adding.specs.declared.Wrote.{Wrote}
 use Rattle.adding.specs.Calls.{refusedCall, acceptedCall, writeCall, flushCall}
 use Rattle.runs.specs.Ledger.{setting, write, begun, entry, posted, ledgerFrom, ledger}
@@ -74,14 +78,18 @@ click = replicate 5 (pos 0) ++ (pos 32767 ∷ replicate 6 (pos 0))
 made : List ℤ
 made = pos 1 ∷ pos 20505 ∷ []
 
+-- what each write and flush tells
+abbrev copying : Told
+copying = record { outcome = Copied }
+
 made-of-all : Wrote
-made-of-all = Wrote.Done Copied (streamFor half half (replicate 12 []) (record { old = 1; new = 2 }) 2)
+made-of-all = Wrote.Done copying (streamFor half half (replicate 12 []) (record { old = 1; new = 2 }) 2)
 
 all-at-once : Event
 all-at-once = write-went (early ++ late) (lent [] []) made-of-all (lent click made)
 
 first-part : Event
-first-part = write-went early (lent [] []) (Wrote.Done Copied (streamFor half half (replicate 6 []) start 0)) (lent (replicate 6 (pos 0)) [])
+first-part = write-went early (lent [] []) (Wrote.Done copying (streamFor half half (replicate 6 []) start 0)) (lent (replicate 6 (pos 0)) [])
 
 second-part : Event
 second-part = write-went late (lent (replicate 6 (pos 0)) []) made-of-all (lent click made)
@@ -97,15 +105,15 @@ long stage output =
 
 flush-behind : Event
 flush-behind =
-    flush-went (long click made) (Wrote.Done Copied (streamFor half half [] (record { old = 493; new = 986 }) 26)) (long [] (made ++ made-by-flush))
+    flush-went (long click made) (Wrote.Done copying (streamFor half half [] (record { old = 493; new = 986 }) 26)) (long [] (made ++ made-by-flush))
 
 at-once : RunOf 8000 1
 unfolding slower deeper lent early late click made made-of-all all-at-once
     opening after afterSetting afterCall Agree leave
     setCall withSetting writeCall refusedCall acceptedCall
-    refusal inOrder limitsInOrder periodInOrder settingsInOrder prevInOrder positionsInOrder areasBad sizesBad partsBad rateBad channelsBad
+    refusal past inOrder limitsInOrder periodInOrder settingsInOrder prevInOrder positionsInOrder areasBad sizesBad partsBad rateBad channelsBad
     fresh streamOf stateOf framesOf wholeFrames
-    writeWork process finished taken takenAt copied nothing joined removed
+    writeWork process counting counted stalled tally booked finished taken takenAt copied nothing joined removed
     sampleIn unitClamped playTimeGrown playTimeLeft localSpeed speedChanges scaled clampZ clamped
     adjustRate joinTail convert scan steps next due emit interpolated interpolateWindow
     interpolate heldSample tapSum weightedSum tabulate sincCoefficient tableValue remainder tablePlace sincTable
@@ -134,9 +142,9 @@ in-parts : RunOf 8000 1
 unfolding slower deeper lent early late click made made-of-all first-part second-part
     opening after afterSetting afterCall Agree leave
     setCall withSetting writeCall refusedCall acceptedCall
-    refusal inOrder limitsInOrder periodInOrder settingsInOrder prevInOrder positionsInOrder areasBad sizesBad partsBad rateBad channelsBad
+    refusal past inOrder limitsInOrder periodInOrder settingsInOrder prevInOrder positionsInOrder areasBad sizesBad partsBad rateBad channelsBad
     fresh streamOf stateOf framesOf wholeFrames
-    writeWork process finished taken takenAt copied nothing joined removed
+    writeWork process counting counted stalled tally booked finished taken takenAt copied nothing joined removed
     sampleIn unitClamped playTimeGrown playTimeLeft localSpeed speedChanges scaled clampZ clamped
     adjustRate joinTail convert scan steps next due emit interpolated interpolateWindow
     interpolate heldSample tapSum weightedSum tabulate sincCoefficient tableValue remainder tablePlace sincTable
@@ -172,9 +180,9 @@ with-flush : RunOf 8000 1
 unfolding slower deeper lent early late click made made-of-all all-at-once made-by-flush long flush-behind
     opening after afterSetting afterCall Agree leave
     setCall withSetting writeCall flushCall refusedCall acceptedCall
-    refusal inOrder limitsInOrder periodInOrder settingsInOrder prevInOrder positionsInOrder areasBad sizesBad partsBad rateBad channelsBad
+    refusal past inOrder limitsInOrder periodInOrder settingsInOrder prevInOrder positionsInOrder areasBad sizesBad partsBad rateBad channelsBad
     fresh streamOf stateOf framesOf wholeFrames
-    writeWork flushWork process finished expected expectedFrames cleared taken takenAt copied nothing joined removed
+    writeWork flushWork process counting counted stalled tally booked finished expected expectedFrames cleared taken takenAt copied nothing joined removed
     sampleIn unitClamped playTimeGrown playTimeLeft localSpeed speedChanges scaled clampZ clamped
     adjustRate joinTail convert scan steps next due emit interpolated interpolateWindow
     interpolate heldSample tapSum weightedSum tabulate sincCoefficient tableValue remainder tablePlace sincTable
@@ -222,7 +230,7 @@ two-made = count 8000 1 at-once (tt, tt) (setting (Speed half) ∷ []) (write (e
 ledger-with-flush : ledgerOf with-flush .made ≡ framesOf 1 26 (made ++ made-by-flush)
 unfolding with-flush slower deeper all-at-once flush-behind made-of-all early late made made-by-flush
     ledger ledgerFrom posted begun entry fed fresh withSetting framesOf wholeFrames
-    writeWork flushWork process finished expected expectedFrames cleared taken takenAt copied nothing joined removed
+    writeWork flushWork process counting finished expected expectedFrames cleared taken takenAt copied nothing joined removed
     sampleIn unitClamped playTimeGrown playTimeLeft localSpeed speedChanges scaled clampZ clamped
     adjustRate joinTail convert scan steps next due emit interpolated interpolateWindow
     interpolate heldSample tapSum weightedSum tabulate sincCoefficient tableValue remainder tablePlace sincTable

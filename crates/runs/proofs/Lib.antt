@@ -8,6 +8,8 @@ mod Passage
 mod Quiet
 mod Entries
 mod Counting
+mod Accounts
 pub mod Claims
+pub mod Balanced
 mod Example
 mod ExampleParts

@@ -1,17 +1,15 @@
 -- Calls that answer 'copied' or 'empty': their frames pass through rate and volume alone. Assumes nothing.
 use mathlib.Core.Path.{_≡_, refl, sym, ap, _∙_, subst}
-use mathlib.Core.Bool.{cond}
 use mathlib.Core.List.{List, [], _∷_, _++_, map}
 use Prim.Native.Nat.{ℕ, _*_}
 use native.Mathlib.Omega.{arith}
 use borrow.Author.Tests.{eqb-true}
-use lib.Dec.{eqb, ltb}
 use lib.IntN.{pos}
 use lib.Ieee.{Float}
 use lib.ListN.{length, take, replicate}
 use lib.Seq.{drop-length}
 use Rattle.frames.specs.Framing.{Frame}
-use Rattle.floats.specs.Write.{sampleIn, speedChanges}
+use Rattle.floats.specs.Write.{sampleIn}
 use Rattle.floats.specs.Flush.{expectedFrames}
 use Rattle.period.specs.Rates.{maxRequired}
 use Rattle.stretch.specs.Speed.{stalled}
@@ -20,13 +18,13 @@ use Rattle.stream.specs.declared.Setting.the-variants.{Speed, Pitch, Volume}
 use Rattle.stream.specs.State.{State}
 use Rattle.stream.specs.Settings.{withSetting}
 use Rattle.fill.specs.declared.Outcome.{Outcome}
-use Rattle.fill.specs.declared.Outcome.the-variants.{Empty, Waiting, Stretched, Stalled}
-use Rattle.fill.specs.Taking.{Taken, removed, nothing, copied, stepsAt, stretched, takenAt, speedAt, taken}
-use Rattle.process.specs.Process.{Made, wholeFrames, joined, finished}
+use Rattle.fill.specs.declared.Outcome.the-variants.{Stretched, Stalled}
+use Rattle.fill.specs.Taking.{Taken, removed, nothing, copied, stepsAt, stretched, speedAt, taken}
+use Rattle.process.specs.Process.{Made, wholeFrames, joined, counting, finished}
 use Rattle.process.specs.Process.{process, writeWork, flushWork, expected, cleared}
 use Rattle.runs.specs.Ledger.{Call, setting, write, flush, read, Ledger, entry}
 use Rattle.runs.specs.Demand.{CopiedOrEmpty}
-use Rattle.runs.proofs.Work.{cond-cases, setting-cases, bare, taken-leaves, process-rate, process-channels}
+use Rattle.runs.proofs.Work.{cond-cases, setting-cases, taken-cases, bare, taken-leaves, process-rate, process-channels}
 use Rattle.runs.proofs.Passage.{Short, Passage, passed, all, passed-short}
 
 -- ---- such a call copies its input
@@ -39,23 +37,18 @@ none-of-length : (fs : List Frame) → length fs ≡ 0 → fs ≡ []
 none-of-length [] e = refl
 none-of-length (f ∷ fs) e = absurd (omega arith)
 
-stretched-loud : (x : Float) (s : State) → CopiedOrEmpty (stretched x s .outcome) → ⊥
+stretched-loud : (x : Float) (s : State) → CopiedOrEmpty (stretched x s .told .outcome) → ⊥
 unfolding stretched
 stretched-loud x s = cond-cases (λ (o : Outcome). CopiedOrEmpty o → ⊥) (stalled (stepsAt x s)) Stalled Stretched (λ e q. q) (λ e q. q)
 
-taken-copies : (s : State) → CopiedOrEmpty (taken s .outcome) → Copies s (taken s)
-unfolding taken takenAt nothing copied removed
+taken-copies : (s : State) → CopiedOrEmpty (taken s .told .outcome) → Copies s (taken s)
+unfolding nothing copied removed
 taken-copies s =
-    let P : Taken → Type 0 = λ t. CopiedOrEmpty (t .outcome) → Copies s t in
-    let x : Float = speedAt s in
-    let few = ltb (length (s .input)) (maxRequired (s .rate)) in
-    cond-cases P (eqb (length (s .input)) 0) (nothing Empty s) (takenAt x s)
+    taken-cases s (λ (t : Taken). CopiedOrEmpty (t .told .outcome) → Copies s t)
     (λ e q.
     let none : s .input ≡ [] = none-of-length (s .input) (eqb-true (length (s .input)) 0 e) in
     record { frames = sym none; input = none })
-    (λ e. cond-cases P (speedChanges x) (cond few (nothing Waiting s) (stretched x s)) (copied s)
-    (λ f. cond-cases P few (nothing Waiting s) (stretched x s) (λ g q. absurd q) (λ g q. absurd (stretched-loud x s q)))
-    (λ f q. record { frames = refl; input = drop-length (s .input) }))
+    (λ q. absurd q) (λ q. absurd (stretched-loud (speedAt s) s q)) (λ q. record { frames = refl; input = drop-length (s .input) })
 
 -- ---- and its frames pass through
 
@@ -65,10 +58,10 @@ passageOf s made = record { state = bare s; made = made }
 abbrev pub passageIn : Ledger → Passage
 passageIn l = passageOf (l .state) (l .made)
 
-process-passes : (s : State) (made : List Frame) (cut : List Frame → List Frame) → CopiedOrEmpty (process s .outcome)
+process-passes : (s : State) (made : List Frame) (cut : List Frame → List Frame) → CopiedOrEmpty (process s .told .outcome)
     → (passageOf (process s .state) (made ++ cut (process s .frames)) ≡ passed cut (passageOf s made) (s .input))
     × (process s .state .input ≡ [])
-unfolding process finished bare passed
+unfolding process finished counting bare passed
 process-passes s made cut q =
     let t : Taken = taken s in
     let c : Copies s t = taken-copies s q in
@@ -84,11 +77,15 @@ pub record NothingHeld (rate channels : ℕ) (l : Ledger) : Type 0 where
   pub input : l .state .input ≡ []
   pub short : Short (l .state .tail)
 
+-- what is said of the outcome of a write or a flush
+abbrev pub Tells : (Outcome → Type 0) → Ledger → Call → Type 0
+Tells P l (setting v) = Unit {0}
+Tells P l (write samples) = P (writeWork samples (l .state) .told .outcome)
+Tells P l flush = P (flushWork (l .state) .told .outcome)
+Tells P l (read most) = Unit {0}
+
 abbrev pub QuietCall : Ledger → Call → Type 0
-QuietCall l (setting v) = Unit {0}
-QuietCall l (write samples) = CopiedOrEmpty (writeWork samples (l .state) .outcome)
-QuietCall l flush = CopiedOrEmpty (flushWork (l .state) .outcome)
-QuietCall l (read most) = Unit {0}
+QuietCall l c = Tells CopiedOrEmpty l c
 
 -- after a setting
 unfoldable pub passedSetting : Setting → Passage → Passage

@@ -1,28 +1,37 @@
--- A run and the ledger go side by side from the opening to the last call. Assumes nothing.
-use mathlib.Core.Path.{_≡_, refl, sym, subst}
-use mathlib.Core.Bool.{Bool, true, false, cond}
+-- A run and the ledger go side by side from the opening to the last call:
+--   opened-as         the stream of an accepted opening
+--   last-tracks       the last moment and the ledger
+--   calls-held        each accepted write and flush has what its steps ask for
+--   run-is-ledger     frames and outcomes
+-- Assumes nothing.
+use mathlib.Core.Path.{_≡_, refl, sym, ap, _∙_, subst}
+use mathlib.Core.Bool.{Bool, true, false, cond, false≢true}
 use mathlib.Core.List.{List, [], _∷_, _++_, map}
-use Prim.Native.Nat.{ℕ, _*_}
+use Prim.Native.Nat.{ℕ, zero, suc, _*_}
 use native.Mathlib.Nat.{zero-mul}
 use native.Mathlib.Omega.{arith}
 use lib.ListN.{length, take}
+use Rattle.frames.specs.Areas.{Areas}
 use Rattle.frames.specs.Framing.{framesOf}
 use Rattle.period.specs.Rates.{maxRequired}
 use Rattle.stream.specs.declared.SonicStream.{SonicStream}
 use Rattle.stream.specs.declared.Opened.{Opened}
 use Rattle.stream.specs.State.{State}
 use Rattle.stream.specs.Stream.{stateOf, streamOf, zeroStream}
-use Rattle.stream.specs.Refusals.{badRate, badChannels, rateBad, channelsBad, inOrder, refusal, readRefusal}
+use Rattle.stream.specs.Refusals.{badRate, badChannels, rateBad, channelsBad, inOrder, readRefusal}
 use Rattle.stream.specs.Settings.{fresh, openCall, setCall}
 use Rattle.process.specs.Process.{Made, wholeFrames, writeWork, flushWork, expected, cleared}
-use Rattle.adding.specs.Calls.{writeCall, flushCall, CallEnsures}
+use Rattle.adding.specs.declared.Wrote.{Wrote}
+use Rattle.adding.specs.Calls.{CallResult, refusedCall, callBy, refusalOf, writeCall, flushCall, CallEnsures}
 use Rattle.read.specs.Reading.{readCount, readCall, ReadEnsures}
 use Rattle.stream.proofs.Passing.{read-room}
 use Rattle.runs.specs.Ledger.{write, flush, Ledger, begun, posted, ledgerFrom, ledger}
-use Rattle.runs.specs.Run.{Event, setting-went, write-went, flush-went, read-went, Moment, opening, Allowed, after, Run, end, values, total, fed}
-use Rattle.runs.proofs.Tracking.{Tracks, call-tracks}
+use Rattle.runs.specs.Run.{Event, setting-went, write-went, flush-went, read-went, Moment, opening, Allowed, after, Run, end, values, total, callAccepted, fed}
+use Rattle.runs.specs.Demand.{acceptedIn}
+use Rattle.runs.proofs.Tracking.{Tracks, HeldCall, call-tracks}
 use Rattle.runs.proofs.Accepting.{accepts-write, accepts-flush}
 use Rattle.runs.proofs.Steps.{setting-tracks, read-tracks}
+use Rattle.runs.proofs.Entries.{EachCall, each-posted}
 
 -- ---- one call
 
@@ -35,16 +44,16 @@ event-tracks {m} {l} h (write-went samples a r b) p =
     let w : Made = writeWork samples (stateOf s (a .input) (a .stage)) in
     let e : CallEnsures (s .channels) (writeCall s samples a) r b =
     subst (λ (x : SonicStream). CallEnsures (x .channels) (writeCall x samples a) r b) (h .stream) (p .2) in
-    call-tracks h (write samples) a b (w .outcome) (w .state) (w .frames) r
-    (refusal s a (length (wholeFrames (s .channels) samples)) (w .staged) (length (w .frames))) (p .0) (p .1) e (accepts-write h a (p .0) samples)
+    call-tracks h (write samples) a b (w .told) (w .state) (w .frames) r
+    (refusalOf s a (length (wholeFrames (s .channels) samples)) w) (p .0) (p .1) e (accepts-write h a (p .0) samples)
 event-tracks {m} {l} h (flush-went a r b) p =
     let s : SonicStream = streamOf (l .state) (h .waiting) in
     let entering : State = stateOf s (a .input) (a .stage) in
     let w : Made = flushWork entering in
     let e : CallEnsures (s .channels) (flushCall s a) r b =
     subst (λ (x : SonicStream). CallEnsures (x .channels) (flushCall x a) r b) (h .stream) (p .2) in
-    call-tracks h flush a b (w .outcome) (cleared (w .state)) (take (expected entering) (w .frames)) r
-    (refusal s a (2 * maxRequired (s .rate)) (w .staged) (length (w .frames))) (p .0) (p .1) e (accepts-flush h a (p .0))
+    call-tracks h flush a b (w .told) (cleared (w .state)) (take (expected entering) (w .frames)) r
+    (refusalOf s a (2 * maxRequired (s .rate)) w) (p .0) (p .1) e (accepts-flush h a (p .0))
 event-tracks {m} {l} h (read-went most a r b) p =
     let s : SonicStream = streamOf (l .state) (h .waiting) in
     let e : ReadEnsures (s .channels) (readCall s most (a .slice) (a .output)) r (a .slice) (b .slice) (b .output) =
@@ -52,12 +61,40 @@ event-tracks {m} {l} h (read-went most a r b) p =
     (h .stream) (p .2) in
     read-tracks h a b (p .0) (p .1) r (readRefusal s (a .output)) (readCount s most (a .slice)) most (read-room s (a .output)) e
 
+-- what an accepted write or flush asks for is there
+call-held : {X : Type 0} (s : SonicStream) (a : Areas) (c : CallResult) (r : Wrote) (number : ℕ) → r ≡ callBy number s a c .answer → (number ≡ 0 → X)
+    → callAccepted r ≡ true → X
+unfolding refusedCall
+call-held s a c r zero e f q = f refl
+call-held s a c r (suc k) e f q = absurd (false≢true (sym (ap callAccepted e) ∙ q))
+
+event-held : {m : Moment} {l : Ledger} → Tracks m l → (e : Event) → Allowed m e → fed e .accepted ≡ true → HeldCall l (fed e .call)
+unfolding fed writeCall flushCall streamOf
+event-held h (setting-went v r) p q = tt
+event-held {m} {l} h (write-went samples a r b) p q =
+    let s : SonicStream = streamOf (l .state) (h .waiting) in
+    let w : Made = writeWork samples (stateOf s (a .input) (a .stage)) in
+    let e : r ≡ writeCall s samples a .answer = subst (λ (x : SonicStream). r ≡ writeCall x samples a .answer) (h .stream) (p .2 .answer) in
+    call-held s a _ r (refusalOf s a (length (wholeFrames (s .channels) samples)) w) e (λ z. accepts-write h a (p .0) samples z .held) q
+event-held {m} {l} h (flush-went a r b) p q =
+    let s : SonicStream = streamOf (l .state) (h .waiting) in
+    let w : Made = flushWork (stateOf s (a .input) (a .stage)) in
+    let e : r ≡ flushCall s a .answer = subst (λ (x : SonicStream). r ≡ flushCall x a .answer) (h .stream) (p .2 .answer) in
+    call-held s a _ r (refusalOf s a (2 * maxRequired (s .rate)) w) e (λ z. accepts-flush h a (p .0) z .held) q
+event-held h (read-went most a r b) p q = tt
+
 -- ---- call after call
 
 run-tracks : {m : Moment} {l : Ledger} → Tracks m l → (es : List Event) → Run m es → Tracks (end m es) (ledgerFrom l (map fed es))
 unfolding end ledgerFrom
 run-tracks h [] r = h
 run-tracks h (e ∷ es) r = run-tracks (event-tracks h e (r .0)) es (r .1)
+
+run-held : {m : Moment} {l : Ledger} → Tracks m l → (es : List Event) → Run m es → EachCall HeldCall l (acceptedIn (map fed es))
+unfolding acceptedIn
+run-held h [] r = tt
+run-held {m} {l} h (e ∷ es) r =
+    each-posted HeldCall l (fed e) (acceptedIn (map fed es)) (event-held h e (r .0)) (run-held (event-tracks h e (r .0)) es (r .1))
 
 total-is : {m : Moment} {l : Ledger} → Tracks m l → total m ≡ values (l .made)
 unfolding total streamOf
@@ -97,13 +134,18 @@ module _ (rate channels : ℕ) where
       go false true r e = absurd (let z : _≡_ {A = ℕ} 0 1 = cc in omega arith)
       go false false r e = record { rate-good = r; stream = cc }
 
-  -- frames read followed by frames waiting, and the outcomes, are the ledger's
-  pub run-is-ledger : (s : SonicStream) → openCall rate channels ≡ Opened.Done s → (es : List Event) → Run (opening s) es
-      → (total (end (opening s) es) ≡ values (ledger rate channels (map fed es) .made))
-      × (end (opening s) es .outcomes ≡ ledger rate channels (map fed es) .outcomes)
-  unfolding ledger
-  run-is-ledger s o es p =
-      let first : Tracks (opening s) (begun rate channels) =
-      subst (λ (x : SonicStream). Tracks (opening x) (begun rate channels)) (opened-as s o .stream) opening-tracks in
-      let last : Tracks (end (opening s) es) (ledgerFrom (begun rate channels) (map fed es)) = run-tracks first es p in
-      (total-is last, last .outcomes)
+  module _ (s : SonicStream) (o : openCall rate channels ≡ Opened.Done s) (es : List Event) (p : Run (opening s) es) where
+    first-tracks : Tracks (opening s) (begun rate channels)
+    first-tracks = subst (λ (x : SonicStream). Tracks (opening x) (begun rate channels)) (opened-as s o .stream) opening-tracks
+
+    pub last-tracks : Tracks (end (opening s) es) (ledger rate channels (map fed es))
+    unfolding ledger
+    last-tracks = run-tracks first-tracks es p
+
+    pub calls-held : EachCall HeldCall (begun rate channels) (acceptedIn (map fed es))
+    calls-held = run-held first-tracks es p
+
+    -- frames read followed by frames waiting, and the outcomes, are the ledger's
+    pub run-is-ledger : (total (end (opening s) es) ≡ values (ledger rate channels (map fed es) .made))
+        × (end (opening s) es .outcomes ≡ ledger rate channels (map fed es) .outcomes)
+    run-is-ledger = (total-is last-tracks, last-tracks .outcomes)

@@ -22,11 +22,12 @@ use Rattle.stretch.specs.declared.Stretch.{Stretch}
 use Rattle.stretch.specs.Speed.{answerFor}
 use Rattle.stream.specs.declared.Setting.{Setting}
 use Rattle.stream.specs.declared.Setting.the-variants.{Speed, Pitch, Volume}
-use Rattle.stream.specs.State.{State, withSettings, withInput}
+use Rattle.stream.specs.Balance.{none}
+use Rattle.stream.specs.State.{State, withSettings, withInput, withBalance}
 use Rattle.stream.specs.Settings.{withSetting}
 use Rattle.fill.specs.declared.Outcome.the-variants.{Empty, Waiting}
 use Rattle.fill.specs.Taking.{Taken, removed, nothing, copied, callAt, placeOf, stepsAt, stepped, stretched, takenAt, speedAt, taken}
-use Rattle.process.specs.Process.{finished, process}
+use Rattle.process.specs.Process.{counting, finished, process}
 
 -- what holds of both holds of the one chosen
 pub cond-cases : {A : Type 0} (P : A → Type 0) (b : Bool) (x y : A) → (b ≡ true → P x) → (b ≡ false → P y) → P (cond b x y)
@@ -45,39 +46,46 @@ setting-cases P s f (Volume x) = f _ _ _ _
 
 -- ---- copied or stretched frames
 
--- all of a state but its input, period record, play time and time error
+-- what holds whichever way they are taken
+pub taken-cases : (s : State) (P : Taken → Type 0) → (eqb (length (s .input)) 0 ≡ true → P (nothing Empty s)) → P (nothing Waiting s)
+    → P (stretched (speedAt s) s) → P (copied s) → P (taken s)
+unfolding taken takenAt
+taken-cases s P empty waits stretches copies =
+    let x : Float = speedAt s in
+    let few : Bool = ltb (length (s .input)) (maxRequired (s .rate)) in
+    cond-cases P (eqb (length (s .input)) 0) (nothing Empty s) (takenAt x s) empty
+    (λ _. cond-cases P (speedChanges x) (cond few (nothing Waiting s) (stretched x s)) (copied s)
+    (λ _. cond-cases P few (nothing Waiting s) (stretched x s) (λ _. waits) (λ _. stretches)) (λ _. copies))
+
+-- all of a state but its input, period record, play time, time error and totals
 unfoldable pub bare : State → State
-bare s = withInput s [] (record { period = 0; «min_diff» = 0 }) zero zero
+bare s = withBalance (withInput s [] (record { period = 0; «min_diff» = 0 }) zero zero) none
 
 pub record Leaves (s t : State) : Type 0 where
   pub rest : bare t ≡ bare s
+  pub totals : t .balance ≡ s .balance
   pub input : length (t .input) ≤ length (s .input)
 
 same-leaves : (s : State) → Leaves s s
-same-leaves s = record { rest = refl; input = le-refl (length (s .input)) }
+same-leaves s = record { rest = refl; totals = refl; input = le-refl (length (s .input)) }
 
 removed-leaves : (k : ℕ) (s t : State) → Leaves s t → Leaves s (removed k t)
 unfolding removed bare
-removed-leaves k s t l = record { rest = l .rest; input = omega (arith, l .input, length-drop k (t .input)) }
+removed-leaves k s t l = record { rest = l .rest; totals = l .totals; input = omega (arith, l .input, length-drop k (t .input)) }
 
 stepped-leaves : (a : Stretch) (s : State) → Leaves s (stepped a s)
 unfolding stepped bare
 stepped-leaves a s =
     let t : State = withInput s (s .input) (a .prev) (s .«input_play_time») (a .«time_error») in
-    let l : Leaves s t = record { rest = refl; input = le-refl (length (s .input)) } in
+    let l : Leaves s t = record { rest = refl; totals = refl; input = le-refl (length (s .input)) } in
     cond-cases (Leaves s) (a .stalled) t (removed (a .used .0) t) (λ e. l) (λ e. removed-leaves (a .used .0) s t l)
 
 pub taken-leaves : (s : State) → Leaves s (taken s .state)
-unfolding taken takenAt nothing copied stretched
+unfolding nothing copied stretched
 taken-leaves s =
-    let P : Taken → Type 0 = λ t. Leaves s (t .state) in
-    let x : Float = speedAt s in
-    let few : Bool = ltb (length (s .input)) (maxRequired (s .rate)) in
-    cond-cases P (eqb (length (s .input)) 0) (nothing Empty s) (takenAt x s) (λ e. same-leaves s)
-    (λ e. cond-cases P (speedChanges x) (cond few (nothing Waiting s) (stretched x s)) (copied s)
-    (λ f. cond-cases P few (nothing Waiting s) (stretched x s) (λ g. same-leaves s)
-    (λ g. stepped-leaves (answerFor (callAt x s) (flat (s .input)) (placeOf s) (stepsAt x s)) s))
-    (λ f. removed-leaves (length (s .input)) s s (same-leaves s)))
+    let answer : Stretch = answerFor (callAt (speedAt s) s) (flat (s .input)) (placeOf s) (stepsAt (speedAt s) s) in
+    taken-cases s (λ (t : Taken). Leaves s (t .state)) (λ _. same-leaves s) (same-leaves s) (stepped-leaves answer s)
+    (removed-leaves (length (s .input)) s s (same-leaves s))
 
 -- ---- the tail after the rate
 
@@ -96,19 +104,19 @@ adjustRate-rest rate pitch at tail fs =
 
 module _ (s : State) where
   pub process-rate : process s .state .rate ≡ s .rate
-  unfolding process finished bare
+  unfolding process finished counting bare
   process-rate = ap (λ (t : State). t .rate) (taken-leaves s .rest)
 
   pub process-channels : process s .state .channels ≡ s .channels
-  unfolding process finished bare
+  unfolding process finished counting bare
   process-channels = ap (λ (t : State). t .channels) (taken-leaves s .rest)
 
   pub process-input : length (process s .state .input) ≤ length (s .input)
-  unfolding process finished
+  unfolding process finished counting
   process-input = taken-leaves s .input
 
   pub process-tail : length (process s .state .tail) ≤ length (s .tail) + process s .staged
-  unfolding process finished bare
+  unfolding process finished counting bare
   process-tail =
       let t : Taken = taken s in
       let e : t .state .tail ≡ s .tail = ap (λ (x : State). x .tail) (taken-leaves s .rest) in
