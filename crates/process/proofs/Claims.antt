@@ -1,4 +1,5 @@
--- What holds of every call's work: it answers stalled exactly when one of its stretch steps gives no frame. Assumes nothing.
+-- What holds of every call's work: it answers stalled exactly when one of its steps gives no frame. held-ready: its stretch is ready for its
+-- steps. Assumes nothing.
 use mathlib.Core.Path.{_≡_, refl, sym, ap, _∙_}
 use mathlib.Core.Bool.{Bool, true, false, cond, false≢true}
 use mathlib.Core.Logic.{_⊎_, inl, inr}
@@ -66,8 +67,8 @@ module _ (s : State) (h : Held s) where
   abbrev x : Float
   x = speedAt s
 
-  ready : StretchReady (callAt x s)
-  ready = record {
+  pub held-ready : StretchReady (callAt (speedAt s) s)
+  held-ready = record {
     opened = h .limits;
     period-is = refl;
     speed-fits = speed-fits (length (s .input)) (samplePeriod (s .rate)) (s .«input_play_time»);
@@ -77,7 +78,7 @@ module _ (s : State) (h : Held s) where
   stretched-exactly : StallsExactly (stretched x s .told .outcome) (stretched x s .steps)
   unfolding stretched
   stretched-exactly =
-      let exactly = Stretch.stalled-exactly (flat (s .input)) (placeOf s) ready (h .prev) in
+      let exactly = Stretch.stalled-exactly (flat (s .input)) (placeOf s) held-ready (h .prev) in
       stretch-cases (Speed.stalled (stepsAt x s)) (stepsAt x s) (exactly .0) (exactly .1)
 
   at-exactly : (changes few : Bool) → 1 ≤ length (s .input) → (t : Taken)

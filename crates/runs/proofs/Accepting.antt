@@ -12,18 +12,16 @@ use lib.ListN.{length, take, replicate, length-append, length-map, length-take, 
 use Rattle.frames.specs.Areas.{Areas}
 use Rattle.frames.specs.Framing.{Frame, framesOf}
 use Rattle.frames.proofs.Framing.{length-framesOf}
-use Rattle.frames.proofs.Room.{count-le}
 use Rattle.floats.specs.Write.{sampleIn}
-use Rattle.period.specs.Rates.{InLimits, maxRequired}
+use Rattle.period.specs.Rates.{maxRequired}
 use Rattle.stream.specs.declared.SonicStream.{SonicStream}
 use Rattle.stream.specs.State.{State}
 use Rattle.stream.specs.Stream.{stateOf, streamOf}
-use Rattle.stream.proofs.InOrder.{limits-of, ready-of}
-use Rattle.stream.proofs.AreaTests.{areas-of}
 use Rattle.process.specs.Process.{Made, wholeFrames, joined, process, writeWork, flushWork, expected, cleared}
 use Rattle.process.proofs.Claims.{Held}
 use Rattle.adding.specs.Calls.{refusalOf}
-use Rattle.adding.proofs.Room.{Room, room-of}
+use Rattle.adding.specs.Adding.{Accepted}
+use Rattle.adding.proofs.Room.{Room, room-of, added-held}
 use Rattle.runs.specs.Ledger.{write, flush, Ledger, entry}
 use Rattle.runs.specs.Run.{Moment, Lent}
 use Rattle.runs.proofs.KeptParts.{frames-shown}
@@ -70,24 +68,17 @@ module _ {m : Moment} {l : Ledger} (h : Tracks m l) (a : Areas) (g : Lent m a) w
     unfolding joined stateOf streamOf
     work-fits t frames added e input tail output r =
         let from : State = joined fs seen in
-        let limits : InLimits (l .state .rate) ch = limits-of s (r .accepted .in-order) in
         let in-less : length (work .state .input) ≤ length (from .input) = process-input from in
         let in-held : length (from .input) ≡ length (l .state .input) + length fs =
         length-append (framesOf ch (length (l .state .input)) (a .input)) fs
         ∙ ap (λ (n : ℕ). n + length fs) (length-framesOf ch (length (l .state .input)) (a .input)) in
         let tail-less : length (work .state .tail) ≤ length (from .tail) + work .staged = process-tail from in
         let tail-held : length (from .tail) ≡ length (l .state .tail) = length-framesOf ch (length (l .state .tail)) (a .stage) in
-        let all : ℕ = length (l .state .input) + added in
-        let some : all ≤ all * ch = count-le ch all (limits .channels-low) in
         let in-most : length (t .input) ≤ length (l .state .input) + added = omega arith in
         let tail-most : length (t .tail) ≤ length (l .state .tail) + work .staged = omega arith in
         let out-most : h .waiting + length frames ≤ h .waiting + length (work .frames) = omega arith in
         record {
-          held = record {
-            limits = limits;
-            few = omega (arith, in-held, some, r .accepted .fits, areas-of s a (r .accepted .areas-good) .input-short);
-            prev = ready-of s (r .accepted .in-order) .prev .period-in;
-          };
+          held = added-held s a fs (subst (Accepted s a) e (r .accepted));
           input = le-trans (mul-le-mul-right ch in-most) (r .accepted .fits);
           tail = le-trans (mul-le-mul-right ch tail-most) (r .stage);
           output = le-trans (mul-le-mul-right ch out-most) (r .output);

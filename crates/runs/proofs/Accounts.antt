@@ -14,11 +14,9 @@ use lib.Ieee.{Float}
 use lib.ListN.{length, replicate, length-append, length-map, length-replicate, length-drop}
 use Rattle.frames.specs.Framing.{Frame, flat}
 use Rattle.frames.proofs.Framing.{length-framesOf}
-use Rattle.floats.specs.Settings.{samplePeriod}
 use Rattle.floats.specs.Write.{sampleIn}
 use Rattle.period.specs.Rates.{maxRequired}
 use Rattle.stretch.specs.declared.Step.{Step}
-use Rattle.stretch.specs.Steps.{StretchReady}
 use Rattle.stretch.specs.Tally.{Tally, tally}
 use Rattle.stretch.specs.Speed.{lastPlace, stalled, answerFor}
 use Rattle.stretch.proofs.Balance.{tally-append, position-used}
@@ -30,9 +28,8 @@ use Rattle.stream.specs.Settings.{fresh}
 use Rattle.fill.specs.declared.Outcome.{Outcome}
 use Rattle.fill.specs.declared.Outcome.the-variants.{Empty, Waiting, Stretched, Stalled}
 use Rattle.fill.specs.Taking.{Taken, removed, nothing, copied, callAt, placeOf, stepsAt, stepped, stretched, speedAt, taken, counted}
-use Rattle.fill.proofs.Branches.{speed-fits}
 use Rattle.process.specs.Process.{wholeFrames, joined, counting, finished, process, writeWork, flushWork, cleared}
-use Rattle.process.proofs.Claims.{Held}
+use Rattle.process.proofs.Claims.{Held, held-ready}
 use Rattle.runs.specs.Ledger.{Call, setting, write, flush, read, Ledger, begun, entry}
 use Rattle.runs.specs.Demand.{framesIn}
 use Rattle.runs.specs.Balance.{stepsOf, stepsFrom, silentIn, clearedBy, clearedFrom, NotStalled}
@@ -66,20 +63,12 @@ module _ (s : State) (h : Held s) where
   abbrev x : Float
   x = speedAt s
 
-  ready : StretchReady (callAt x s)
-  ready = record {
-    opened = h .limits;
-    period-is = refl;
-    speed-fits = speed-fits (length (s .input)) (samplePeriod (s .rate)) (s .«input_play_time»);
-    few = h .few;
-  }
-
   stretched-uses : stalled (stepsAt x s) ≡ false → Uses s (stretched x s)
   unfolding stretched stepped removed answerFor
   stretched-uses e =
       let at : ℕ = lastPlace (callAt x s) (flat (s .input)) (placeOf s) (stepsAt x s) .position .0 in
       let used : at ≡ 0 + tally (stepsAt x s) .used = position-used (callAt x s) (flat (s .input)) (placeOf s) (stepsAt x s) in
-      let most : at ≤ length (s .input) = rw e at (used-held (flat (s .input)) (placeOf s) ready (h .prev) zero-le) in
+      let most : at ≤ length (s .input) = rw e at (used-held (flat (s .input)) (placeOf s) (held-ready s h) (h .prev) zero-le) in
       record { goes = e; used = rw e (omega (arith, length-drop at (s .input))) }
 
   goes-of : (b : Bool) → NotStalled (cond b Stalled Stretched) → b ≡ false

@@ -13,3 +13,4 @@ pub mod Claims
 pub mod Balanced
 mod Example
 mod ExampleParts
+mod ExampleBalance

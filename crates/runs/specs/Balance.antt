@@ -89,4 +89,5 @@ BalanceClaim = (rate channels : ℕ) (a : RunOf rate channels) → All NotStalle
 -- Over the same lists, frames written plus silent frames are frames used plus held plus cleared.
 abbrev pub ReconciledClaim : Type 0
 ReconciledClaim = (rate channels : ℕ) (a : RunOf rate channels) → All NotStalled (last a .outcomes)
-    → framesIn channels (acceptedOf a) + silentIn rate (acceptedOf a) ≡ tallyOf a .used + last a .stream .held .0 + clearedIn a
+    → framesIn channels (acceptedOf a) + silentIn rate (acceptedOf a)
+    ≡ tallyOf a .used + last a .stream .held .0 + clearedIn a

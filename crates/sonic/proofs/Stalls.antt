@@ -1,30 +1,25 @@
 -- Demand 1: an accepted write or flush answers stalled exactly when one of its stretch steps gives no frame. Assumes nothing.
-use mathlib.Core.Path.{_≡_, refl, sym, ap, _∙_, subst}
-use mathlib.Core.List.{List, _++_, map}
-use Prim.Native.Nat.{ℕ, zero, suc, _+_, _*_, _≤_}
-use native.Mathlib.Omega.{arith}
+use mathlib.Core.Path.{_≡_, refl, sym, subst}
+use mathlib.Core.List.{List, map}
+use Prim.Native.Nat.{ℕ, zero, suc, _*_}
 use lib.IntN.{pos}
 use lib.Ieee.{Float}
-use lib.ListN.{length, replicate, length-append, length-map, length-replicate}
+use lib.ListN.{length, replicate, length-map, length-replicate}
 use Rattle.frames.specs.Areas.{Areas}
-use Rattle.frames.specs.Framing.{Frame, framesOf}
-use Rattle.frames.proofs.Framing.{length-framesOf}
-use Rattle.frames.proofs.Room.{count-le}
+use Rattle.frames.specs.Framing.{Frame}
 use Rattle.floats.specs.Write.{sampleIn}
 use Rattle.period.specs.Rates.{maxRequired}
 use Rattle.stream.specs.declared.SonicStream.{SonicStream}
 use Rattle.stream.specs.State.{State}
 use Rattle.stream.specs.Stream.{stateOf}
 use Rattle.stream.specs.Refusals.{accepted}
-use Rattle.stream.proofs.InOrder.{limits-of, ready-of}
-use Rattle.stream.proofs.AreaTests.{areas-of}
 use Rattle.fill.specs.declared.Told.{Told}
 use Rattle.process.specs.Process.{wholeFrames, joined, writeWork, flushWork}
-use Rattle.process.proofs.Claims.{Held, StallsExactly, stalled-exactly}
+use Rattle.process.proofs.Claims.{StallsExactly, stalled-exactly}
 use Rattle.adding.specs.declared.Wrote.{Wrote}
 use Rattle.adding.specs.Calls.{refusedCall, acceptedCall, callBy, refusalOf, writeCall, flushCall}
 use Rattle.adding.specs.Adding.{Accepted}
-use Rattle.adding.proofs.Room.{room-of}
+use Rattle.adding.proofs.Room.{room-of, added-held}
 use Rattle.adding.proofs.Adding.{workOf}
 
 -- a call that answers `Done` was not refused, and what it tells is what the work tells
@@ -34,26 +29,9 @@ unfolding acceptedCall refusedCall
 done-of zero s t a o o' state frames e = (refl, cc)
 done-of (suc k) s t a o o' state frames e = (cc, cc)
 
--- the state with the frames fs, which an accepted call adds
-added-held : (s : SonicStream) (a : Areas) (fs : List Frame) → Accepted s a (length fs) → Held (joined fs (stateOf s (a .input) (a .stage)))
-unfolding joined stateOf
-added-held s a fs p =
-    let ch : ℕ = s .channels in
-    let limits = limits-of s (p .in-order) in
-    let front : List Frame = framesOf ch (s .held .0) (a .input) in
-    let all : length (front ++ fs) ≡ s .held .0 + length fs =
-    length-append front fs ∙ ap (λ (n : ℕ). n + length fs) (length-framesOf ch (s .held .0) (a .input)) in
-    let some : s .held .0 + length fs ≤ (s .held .0 + length fs) * ch = count-le ch (s .held .0 + length fs) (limits .channels-low) in
-    record {
-      limits = limits;
-      few = omega (arith, all, some, p .fits, areas-of s a (p .areas-good) .input-short);
-      prev = ready-of s (p .in-order) .prev .period-in;
-    }
-
 -- a call that adds the frames fs, and keeps a state and frames of its work
 call-stalls : (s t : SonicStream) (a : Areas) (fs : List Frame) (n : ℕ) (o : Told) (state : State) (frames : List Frame) → n ≡ length fs
-    → callBy (refusalOf s a n (workOf s a fs)) s a (acceptedCall s a (workOf s a fs .told) state frames) .answer
-    ≡ Wrote.Done o t
+    → callBy (refusalOf s a n (workOf s a fs)) s a (acceptedCall s a (workOf s a fs .told) state frames) .answer ≡ Wrote.Done o t
     → StallsExactly (o .outcome) (workOf s a fs .steps)
 call-stalls s t a fs n o state frames count e =
     let done = done-of (refusalOf s a n (workOf s a fs)) s t a o (workOf s a fs .told) state frames e in
