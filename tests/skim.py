@@ -11,8 +11,8 @@ import subprocess
 import sys
 
 COMMAND, EXAMPLE, MAKE_REEL = sys.argv[1:4]
-ONE = "skim: frames_in=40000 frames_out=1246 stalls=0 stalled_at=none flush_stalled_at=39816 refusal=0 status=0"
-TWO = "skim: frames_in=40000 frames_out=796 stalls=1 stalled_at=25732 flush_stalled_at=none refusal=0 status=1"
+ONE = "skim: frames_in=40000 frames_out=1246 stalls=0 stalled_at=none flush_stalled_at=39816 refusal=0 skipped=39184 inserted=0 status=0"
+TWO = "skim: frames_in=40000 frames_out=796 stalls=1 stalled_at=25732 flush_stalled_at=none refusal=0 skipped=25322 inserted=0 status=1"
 
 
 def reel(*parts):
@@ -34,6 +34,20 @@ def test_reels():
     assert told[1].startswith("skim: not skimmed: the 14268 frames from there on"), told
     # The first three seconds are the same, and so is what is made of them.
     assert one[:1400] == two[:1400]
+
+
+def test_balance():
+    data = reel("62:20000", "34:20000")
+    silence = 4 * (8000 // 65)
+    for words, pitch in (("2 1", 1), ("1.3 1", 1), ("0.5 1", 1), ("0.9 1", 1), ("1 0.5", 0.5), ("2 1.5", 1.5)):
+        _, told, status = skim(data, "8000", "1", *words.split())
+        frames_in, frames_out, skipped, inserted = map(int, re.findall(r"(?:frames_in|frames_out|skipped|inserted)=(\d+)", told[-1]))
+        assert status == 0 and (skipped > 0) != (inserted > 0), told
+        # What a flush does with its silence is all that lies between.
+        assert abs(frames_in - skipped + inserted - frames_out * pitch) <= silence, told
+    # A flush that stalls counts nothing; then only the conversion's last twelve frames lie between.
+    _, told, _ = skim(reel("62:40000"))
+    assert "flush_stalled_at=39816 refusal=0 skipped=39184 " in told[-1] and 0 <= 2 * (39816 - 39184) - 1246 <= 24, told
 
 
 def test_example_in_c():
