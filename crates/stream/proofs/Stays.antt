@@ -4,6 +4,7 @@
 --   open-in-order       the stream of an accepted opening is in order
 --   setting-in-order, set-in-order     a setting keeps it so; the stream of an accepted one is in order
 --   waiting-in-order    a stream in order stays so with other frames waiting and the sample period of its rate
+--   totals-free         whether a stream is in order does not go by its totals
 -- Before them: the five tests from the facts, of these period-same (T is equal to itself) and positions-of; clamped settings.
 -- Assumes nothing.
 use mathlib.Core.Path.{_≡_, refl, subst}
@@ -34,7 +35,8 @@ use Rattle.stream.specs.declared.Setting.{Setting}
 use Rattle.stream.specs.declared.Setting.the-variants.{Speed, Pitch, Volume}
 use Rattle.stream.specs.declared.Opened.{Opened}
 use Rattle.stream.specs.declared.Changed.{Changed}
-use Rattle.stream.specs.State.{State, withSettings}
+use Rattle.stream.specs.declared.balance.Balance.{Balance}
+use Rattle.stream.specs.State.{State, withSettings, withBalance}
 use Rattle.stream.specs.Stream.{stateOf, streamOf, unlent, zeroStream}
 use Rattle.stream.specs.Refusals.{
   badRate,
@@ -45,6 +47,7 @@ use Rattle.stream.specs.Refusals.{
   within,
   limitsInOrder,
   periodInOrder,
+  settingsInOrder,
   prevInOrder,
   positionsInOrder,
   inOrder,
@@ -220,3 +223,9 @@ set-in-order s v t e = go (inOrder s) refl e
         let same : streamOf (withSetting v (unlent s)) (s .waiting .0) ≡ t = cc in
         subst (λ (r : SonicStream). inOrder r ≡ true) same (setting-in-order s p v (s .waiting .0))
     go false p h = let z : true ≡ false = cc in absurd (true≢false z)
+
+-- ---- totals
+
+pub totals-free : (x : State) (b : Balance) (w : ℕ) → inOrder (streamOf (withBalance x b) w) ≡ inOrder (streamOf x w)
+unfolding inOrder limitsInOrder periodInOrder settingsInOrder prevInOrder positionsInOrder streamOf
+totals-free x b w = refl

@@ -77,6 +77,12 @@ loop-again c =
       level-again (inv .7) (t .turn .ensures),
     )
 
+sub-turns : tie.Need-sub-turns Inv-loop μ-loop
+sub-turns c = omega (arith, in-turn (after-turn c .before) .loop-test .taken)
+
+loop-less : tie.Need-loop-less Inv-loop μ-loop
+loop-less c = omega (arith, in-turn (after-turn c .before) .loop-test .taken)
+
 drain-requires : tie.Need-drain-requires Inv-loop μ-loop
 drain-requires c κs =
     let l = left-loop (closing (after-flush c)) in
@@ -106,12 +112,6 @@ returns c =
     complete {answer = flushCall (j .if3 .reel .stream) lent .answer} _ (omega arith) closed (f .flush .ensures) (d .drain .ensures)
 
 -- ---- what search closes
-
-sub-turns : tie.Need-sub-turns Inv-loop μ-loop
-sub-turns c = omega (arith, in-turn (after-turn c .before) .loop-test .taken)
-
-loop-less : tie.Need-loop-less Inv-loop μ-loop
-loop-less c = omega (arith, in-turn (after-turn c .before) .loop-test .taken)
 
 flush-requires : tie.Need-flush-requires Inv-loop μ-loop
 flush-requires c κs = search needs
