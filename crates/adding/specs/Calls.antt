@@ -48,7 +48,7 @@ abbrev pub callBy : ℕ → SonicStream → Areas → CallResult → CallResult
 callBy zero s a c = c
 callBy (suc k) s a c = refusedCall (suc k) s a
 
--- that of a call that adds so many frames, and whose work is m
+-- the number of a call that adds so many frames, and whose work is m
 abbrev pub refusalOf : SonicStream → Areas → ℕ → Made → ℕ
 refusalOf s a added m = refusal s a added (m .staged) (length (m .frames)) (m .state .balance)
 

@@ -1,6 +1,6 @@
 -- The second half of a call's work, in the words of the contracts. Here:
 --   mapped-behind                 volume
---   TurnedBy, moved-as, used-fits, left-fits, commit-passed, commit-done     the commit
+--   StateFinished, moved-as, used-fits, left-fits, commit-passed, commit-done     the commit
 --   commit-ready, finish-done     the finish, which the commit ends
 -- Assumes nothing.
 use mathlib.Core.Path.{_≡_, refl, ap, _∙_, subst}
@@ -27,7 +27,7 @@ use Rattle.stream.specs.Balance.{past}
 use Rattle.stream.specs.Stream.{stateOf, streamOf, ChangedBy}
 use Rattle.process.specs.declared.Work.{Work}
 use Rattle.fill.specs.declared.Filled.{Filled}
-use Rattle.process.specs.Finishing.{FinishReady, CommitReady, totals, turned, FinishedBy, adjustedAs}
+use Rattle.process.specs.Finishing.{FinishReady, CommitReady, totals, finishedState, FinishedBy, adjustedAs}
 
 -- ---- volume: a map over the samples of frames
 
@@ -41,8 +41,8 @@ mapped-behind f ch w m entry exit h e =
 -- ---- the commit
 
 -- the stream x has the tail and the positions of the conversion c and the totals of d, and its frames wait
-abbrev pub TurnedBy : SonicStream → Filled → Conversion → SonicStream → Type 0
-TurnedBy s d c x = ChangedBy (turned d c) (d .stream) (s .waiting .0 + length (c .made)) x
+abbrev pub StateFinished : SonicStream → Filled → Conversion → SonicStream → Type 0
+StateFinished s d c x = ChangedBy (finishedState d c) (d .stream) (s .waiting .0 + length (c .made)) x
 
 -- the stream x with the positions of an answer c and what it leaves of the tail, w frames waiting, and the totals b
 abbrev pub committed : SonicStream → Adjusted → ℕ → Balance → SonicStream
@@ -100,7 +100,7 @@ module _ {s : SonicStream} {d : Filled} {a : Areas} where
     left-fits =
         omega (arith, add-mul (c .from .0) (c .left .0) (s .channels), mul-le-mul-right (s .channels) (r .within), r .finish .staged-fits)
 
-    done-is : TurnedBy s d (adjustedAs s c a) (committed (d .stream) c (s .waiting .0 + c .made .0) (totals d))
+    done-is : StateFinished s d (adjustedAs s c a) (committed (d .stream) c (s .waiting .0 + c .made .0) (totals d))
     unfolding stateOf streamOf
     done-is input stage = simp length-framesOf (rw (r .finish .period-is))
 

@@ -23,11 +23,11 @@ use Rattle.fill.specs.declared.Filled.{Filled}
 use Rattle.fill.specs.Taking.{Taken, taken}
 use Rattle.process.specs.Process.{Made, counting, finished, process}
 use Rattle.fill.specs.Filling.{FilledAs}
-use Rattle.process.specs.Finishing.{FinishReady, totals, turned, FinishedAs, FinishedBy, conversionOf, FinishEnsures}
+use Rattle.process.specs.Finishing.{FinishReady, totals, finishedState, FinishedAs, FinishedBy, conversionOf, FinishEnsures}
 use Rattle.process.specs.Working.{AreasReady, WorkedAs, WorkedBy, WorkEnsures}
 use Rattle.process.proofs.States.{Keeps}
 use Rattle.process.proofs.Taken.{taken-keeps}
-use Rattle.process.proofs.Finishing.{TurnedBy}
+use Rattle.process.proofs.Finishing.{StateFinished}
 
 -- `middle` is the stage after it was filled
 module _ (s : SonicStream) (d : Filled) (a : Areas) (middle : List ℤ)
@@ -96,12 +96,12 @@ module _ (s : SonicStream) (d : Filled) (a : Areas) (middle : List ℤ)
   unfolding finished counting t streamOf
   totals-are = λ i. booked (f .stream i .balance) (f .balance i)
 
-  stream-is : (x : SonicStream) → TurnedBy s d c x → x ≡ streamOf (finished t c .state) (s .waiting .0 + length (finished t c .frames))
+  stream-is : (x : SonicStream) → StateFinished s d c x → x ≡ streamOf (finished t c .state) (s .waiting .0 + length (finished t c .frames))
   unfolding finished counting t
   stream-is x e =
       let w : ℕ = s .waiting .0 + length (c .made) in
-      changed-back (turned d c) (λ y z h. balance-alike (tail-alike h (c .rest) (c .rest) refl refl) refl) (t .state) (s .waiting .0) w x
-      (subst (λ (y : SonicStream). ChangedBy (turned d c) y w x) (f .stream) e)
+      changed-back (finishedState d c) (λ y z h. balance-alike (tail-alike h (c .rest) (c .rest) refl refl) refl) (t .state) (s .waiting .0) w x
+      (subst (λ (y : SonicStream). ChangedBy (finishedState d c) y w x) (f .stream) e)
       ∙ (λ i. streamOf (withBalance (withTail (t .state) (c .rest) (c .at)) (totals-are i)) (s .waiting .0 + sym scaled-length i))
 
   module _ (r : StreamReady s) where

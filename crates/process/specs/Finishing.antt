@@ -50,8 +50,8 @@ abbrev pub totals : Filled → Balance
 totals d = booked (d .stream .balance) (d .balance)
 
 -- the state with the tail and the positions of the conversion c, and the totals of d
-abbrev pub turned : Filled → Conversion → State → State
-turned d c x = withBalance (withTail x (c .rest) (c .at)) (totals d)
+abbrev pub finishedState : Filled → Conversion → State → State
+finishedState d c x = withBalance (withTail x (c .rest) (c .at)) (totals d)
 
 -- done as the conversion c says: the frames used have left the input, and the tail frames consumed the stage; the
 -- frames made are scaled
@@ -59,7 +59,7 @@ pub record FinishedAs (s : SonicStream) (d : Filled) (c : Conversion) (a b : Are
     : Type 0 where
   pub told : o ≡ d .told
   pub within : past (totals d) ≡ false
-  pub stream : ChangedBy (turned d c) (d .stream) (s .waiting .0 + length (c .made)) t
+  pub stream : ChangedBy (finishedState d c) (d .stream) (s .waiting .0 + length (c .made)) t
   pub rest : framesOf (s .channels) (s .held .0 - d .used .0) (b .input)
       ≡ drop (d .used .0) (framesOf (s .channels) (s .held .0) (a .input))
   pub tail : framesOf (s .channels) (length (c .rest)) (b .stage) ≡ c .rest

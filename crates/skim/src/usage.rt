@@ -16,11 +16,13 @@ pub(crate) fn usage() {
         b"Standard error tells where the stretch stalled and what was left out. Its last line is for scripts:",
     );
     say::line(
-        b"  skim: frames_in=N frames_out=N stalls=N stalled_at=FRAME flush_stalled_at=FRAME refusal=N status=N",
+        b"  skim: frames_in=N frames_out=N stalls=N stalled_at=FRAME flush_stalled_at=FRAME refusal=N skipped=N",
     );
+    say::line(b"  inserted=N status=N");
     say::line(
-        b"FRAME is none where nothing stalled. status: 0 fine; 1 stalled before the flush, refused, a partial",
+        b"FRAME is none where nothing stalled. skipped, inserted: frames of pitch periods taken out and put in.",
     );
+    say::line(b"status: 0 fine; 1 stalled before the flush, refused, a partial");
     say::line(
         b"frame at the end, or a read or a write failed; 2 bad usage, and then nothing was read.",
     );
