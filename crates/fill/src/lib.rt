@@ -16,7 +16,8 @@ ghost use Rattle.period.specs.Rates.{maxRequired};
 ghost use Rattle.stream.specs.Stream.{ChangedBy};
 ghost use Rattle.stream.specs.Order.{StreamReady};
 ghost use Rattle.fill.specs.Taking.{removed};
-ghost use Rattle.fill.specs.Filling.{speedOf, AreasFit, FillReady, surplus, SteppedAs, nothingFilled, FillEnsures};
+ghost use Rattle.fill.specs.Filling.{speedOf, AreasFit, FillReady};
+ghost use Rattle.fill.specs.Filling.{surplus, SteppedAs, nothingFilled, FillEnsures};
 
 // How a call's work went.
 pub enum Outcome {
@@ -33,7 +34,7 @@ pub struct Told {
 }
 
 // New frames in the stage, frames of the input to be removed, what the call adds to the totals, the stream without
-// these, and what is told.
+// these frames and with the totals before, and what is told.
 pub struct Filled {
     pub frames: Frames,
     pub used: Frames,

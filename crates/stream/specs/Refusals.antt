@@ -1,4 +1,5 @@
--- Document 01, "Areas and refusals": the table's tests, in its order; behind them document 02's. Definitions only. Assumes nothing.
+-- Document 01, "Areas and refusals": the table's tests, in its order; behind them document 02's. Definitions only.
+-- Assumes nothing.
 use mathlib.Core.Bool.{Bool, not, cond, _&&_, _||_}
 use mathlib.Core.List.{List}
 use Prim.Native.Nat.{ℕ, _+_, _*_}

@@ -16,12 +16,13 @@ pub enum Booked {
 }
 
 impl Balance {
+    // Fresh totals, and those of a call that skips and inserts nothing.
     pub const NONE: Balance = Balance {
         skipped: 0,
         inserted: 0,
     };
 
-    // The totals with those of a call.
+    // The totals with those of a call: refusal 12 if one would pass 64 bits.
     pub fn book(self, call: Balance) -> Booked
         ensures { λ r. ⌜ r ≡ bookOf self call ⌝ }
     {
