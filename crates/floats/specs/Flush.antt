@@ -7,5 +7,5 @@ use Rattle.floats.specs.Numbers.{half, count}
 unfoldable pub expectedFrames : ℕ → ℕ → Float → Float → ℕ
 expectedFrames held tail speed pitch =
     toUnsigned 64
-    (add binary32 (div binary32 (add binary32 (div binary32 (count held) (div binary32 speed pitch)) (count tail)) pitch)
-    half)
+    (add binary32
+    (div binary32 (add binary32 (div binary32 (count held) (div binary32 speed pitch)) (count tail)) pitch) half)
