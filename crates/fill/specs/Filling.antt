@@ -53,7 +53,7 @@ pub record SteppedAs (s : SonicStream) (a : Stretch) (d : Filled) : Type 0 where
   pub used : d .used .0 ≡ cond (a .stalled) 0 (a .used .0)
   pub balance : d .balance ≡ cond (a .stalled) none (surplus (a .made .0) (a .used .0))
   pub stream : ChangedBy (stepped a) s (s .waiting .0) (d .stream)
-  pub told : d .told ≡ record { outcome = cond (a .stalled) Stalled Stretched }
+  pub told : d .told ≡ record { outcome = cond (a .stalled) Stalled Stretched; passed = a .passed }
 
 -- no frames
 abbrev pub nothingFilled : SonicStream → Outcome → Fill
@@ -64,7 +64,7 @@ nothingFilled s outcome =
       used = record { 0 = 0 };
       balance = none;
       stream = s;
-      told = record { outcome = outcome };
+      told = record { outcome = outcome; passed = 0 };
     })
 
 -- the stage was filled as t says

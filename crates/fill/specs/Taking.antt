@@ -1,5 +1,6 @@
 -- Document 01, "A write" and "Stretch steps": copied or stretched frames, before rate and volume, with no limit of
--- room; and document 02, C-16: what they add to the totals. Definitions only. Assumes nothing.
+-- room; and document 02, C-16: what they add to the totals, and C-18: the periods passed over. Definitions only. Assumes
+-- nothing.
 use mathlib.Core.Bool.{cond}
 use mathlib.Core.List.{List, [], _∷_}
 use Prim.Native.Nat.{ℕ, _-_}
@@ -19,7 +20,7 @@ use Rattle.stretch.specs.Speed as Speed
 use Rattle.stretch.specs.Speed.{begun, stalled, answerFor, stretchedFrames}
 use Rattle.stream.specs.declared.balance.Balance.{Balance}
 use Rattle.stream.specs.Balance.{none}
-use Rattle.stream.specs.State.{State, withInput}
+use Rattle.stream.specs.State.{State, withInput, stepsOver}
 use Rattle.fill.specs.declared.Told.{Told}
 use Rattle.fill.specs.declared.Outcome.{Outcome}
 use Rattle.fill.specs.declared.Outcome.the-variants.{Empty, Copied, Waiting, Stretched, Stalled}
@@ -40,7 +41,7 @@ pub record Taken : Type 0 where
 
 -- no frames
 unfoldable pub nothing : Outcome → State → Taken
-nothing outcome s = record { frames = []; steps = []; state = s; told = record { outcome = outcome } }
+nothing outcome s = record { frames = []; steps = []; state = s; told = record { outcome = outcome; passed = 0 } }
 
 -- all frames of the input, in one copying step
 unfoldable pub copied : State → Taken
@@ -49,7 +50,7 @@ copied s =
       frames = s .input;
       steps = Step.Copied (record { 0 = length (s .input) }) ∷ [];
       state = removed (length (s .input)) s;
-      told = record { outcome = Copied };
+      told = record { outcome = Copied; passed = 0 };
     }
 
 -- the stretch's call at local speed x, the place where it begins, and its steps
@@ -62,6 +63,7 @@ callAt x s =
       speed = x;
       «input_play_time» = s .«input_play_time»;
       held = record { 0 = length (s .input) };
+      «step_over» = stepsOver (s .«step_over»);
     }
 
 abbrev pub placeOf : State → Place
@@ -83,7 +85,10 @@ stretched x s =
       frames = stretchedFrames (callAt x s) (flat (s .input)) (placeOf s);
       steps = stepsAt x s;
       state = stepped (answerFor (callAt x s) (flat (s .input)) (placeOf s) (stepsAt x s)) s;
-      told = record { outcome = cond (stalled (stepsAt x s)) Stalled Stretched };
+      told = record {
+        outcome = cond (stalled (stepsAt x s)) Stalled Stretched;
+        passed = tally (stepsAt x s) .passed;
+      };
     }
 
 -- outside 0.99999..1.00001 the stretch runs, with at least `max_required` frames; else, and for a NaN, all frames are

@@ -28,9 +28,10 @@ pub enum Outcome {
     Stalled,
 }
 
-// What is told of an accepted write or flush.
+// What is told of an accepted write or flush: its outcome, and the periods that it passed over.
 pub struct Told {
     pub outcome: Outcome,
+    pub passed: usize,
 }
 
 // New frames in the stage, frames of the input to be removed, what the call adds to the totals, the stream without
@@ -103,6 +104,7 @@ fn stepped(mut stream: SonicStream, stretch: Stretch) -> Filled
             stream,
             told: Told {
                 outcome: Outcome::Stalled,
+                passed: stretch.passed,
             },
         };
     }
@@ -113,6 +115,7 @@ fn stepped(mut stream: SonicStream, stretch: Stretch) -> Filled
         stream: removed(stream, used),
         told: Told {
             outcome: Outcome::Stretched,
+            passed: stretch.passed,
         },
     }
 }
@@ -140,6 +143,7 @@ fn stretch_input(
         speed,
         input_play_time: stream.input_play_time,
         held,
+        step_over: stream.steps_over(),
     };
     let prev = PeriodRecord {
         period: stream.prev_period,
@@ -188,6 +192,7 @@ fn copy_input(stream: SonicStream, input: &[i16], stage: &mut [i16]) -> Fill
         stream: removed(stream, held),
         told: Told {
             outcome: Outcome::Copied,
+            passed: 0,
         },
     })
 }
@@ -201,7 +206,7 @@ fn nothing(stream: SonicStream, outcome: Outcome) -> Fill
         used: Frames(0),
         balance: Balance::NONE,
         stream,
-        told: Told { outcome },
+        told: Told { outcome, passed: 0 },
     })
 }
 

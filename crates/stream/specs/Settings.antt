@@ -1,4 +1,4 @@
--- Document 01, "Opening and settings": the fresh values, what a setting changes, and what an opening, a setting and
+-- Document 01, "Opening and settings", and document 02, C-18: the fresh values, what a setting changes, and what an opening, a setting and
 -- `available_frames` answer. Definitions only. Assumes nothing.
 use mathlib.Core.Bool.{cond}
 use mathlib.Core.List.{[]}
@@ -8,7 +8,7 @@ use Rattle.floats.specs.Settings.{clamped, minSpeed, maxSpeed, minPitch, maxPit
 use Rattle.rate.specs.Tail.{start}
 use Rattle.stream.specs.declared.SonicStream.{SonicStream}
 use Rattle.stream.specs.declared.Setting.{Setting}
-use Rattle.stream.specs.declared.Setting.the-variants.{Speed, Pitch, Volume}
+use Rattle.stream.specs.declared.Setting.the-variants.{Speed, Pitch, Volume, StepOver}
 use Rattle.stream.specs.declared.Opened.{Opened}
 use Rattle.stream.specs.declared.Changed.{Changed}
 use Rattle.stream.specs.declared.Available.{Available}
@@ -17,7 +17,7 @@ use Rattle.stream.specs.State.{State, withSettings}
 use Rattle.stream.specs.Stream.{streamOf, unlent, zeroStream}
 use Rattle.stream.specs.Refusals.{badRate, badChannels, badStream, rateBad, channelsBad, inOrder}
 
--- settings 1.0, all but rate, channels and what follows from the rate empty or 0
+-- settings 1.0, no stepping over, all but rate, channels and what follows from the rate empty or 0
 unfoldable pub fresh : ℕ → ℕ → State
 fresh rate channels =
     record {
@@ -26,6 +26,7 @@ fresh rate channels =
       speed = one;
       pitch = one;
       volume = one;
+      «step_over» = 0;
       input = [];
       tail = [];
       at = start;
@@ -42,11 +43,16 @@ openCall rate channels =
     (cond (channelsBad channels) (Opened.Refused badChannels channels zeroStream)
     (Opened.Done (streamOf (fresh rate channels) 0)))
 
--- each setting is held to its range, NaN to the lower end; setting a pitch, even the same, puts p and n to 0
+-- speed, pitch and volume are held to their ranges, NaN to the lower end; setting a pitch, even the same, puts p and n
+-- to 0; stepping over is on or off
 unfoldable pub withSetting : Setting → State → State
-withSetting (Speed x) s = withSettings s (clamped x minSpeed maxSpeed) (s .pitch) (s .volume) (s .at)
-withSetting (Pitch x) s = withSettings s (s .speed) (clamped x minPitch maxPitch) (s .volume) start
-withSetting (Volume x) s = withSettings s (s .speed) (s .pitch) (clamped x minVolume maxVolume) (s .at)
+withSetting (Speed x) s =
+    withSettings s (clamped x minSpeed maxSpeed) (s .pitch) (s .volume) (s .«step_over») (s .at)
+withSetting (Pitch x) s =
+    withSettings s (s .speed) (clamped x minPitch maxPitch) (s .volume) (s .«step_over») start
+withSetting (Volume x) s =
+    withSettings s (s .speed) (s .pitch) (clamped x minVolume maxVolume) (s .«step_over») (s .at)
+withSetting (StepOver on) s = withSettings s (s .speed) (s .pitch) (s .volume) (cond on 1 0) (s .at)
 
 unfoldable pub setCall : SonicStream → Setting → Changed
 setCall s v =

@@ -1,7 +1,9 @@
 -- What a stream and its areas hold, the frames waiting apart (document 01, "Ledger of demand 3"; document 02, C-16: its
--- totals). Definitions only. Assumes nothing.
+-- totals, and C-18: whether it steps over). Definitions only. Assumes nothing.
+use mathlib.Core.Bool.{Bool}
 use mathlib.Core.List.{List}
 use Prim.Native.Nat.{ℕ}
+use lib.Dec.{ltb}
 use lib.Ieee.{Float}
 use Rattle.frames.specs.Framing.{Frame}
 use Rattle.period.specs.declared.PeriodRecord.{PeriodRecord}
@@ -16,6 +18,7 @@ pub record State : Type 0 where
   pub speed : Float
   pub pitch : Float
   pub volume : Float
+  pub «step_over» : ℕ
   pub input : List Frame
   pub tail : List Frame
   pub at : Position
@@ -24,15 +27,20 @@ pub record State : Type 0 where
   pub «time_error» : Float
   pub balance : Balance
 
+-- whether a period that gives no frame is stepped over (C-18): a field of 0 is off, any other on
+abbrev pub stepsOver : ℕ → Bool
+stepsOver field = ltb 0 field
+
 -- the state with other settings and positions
-abbrev pub withSettings : State → Float → Float → Float → Position → State
-withSettings s speed pitch volume at =
+abbrev pub withSettings : State → Float → Float → Float → ℕ → Position → State
+withSettings s speed pitch volume stepOver at =
     record {
       rate = s .rate;
       channels = s .channels;
       speed = speed;
       pitch = pitch;
       volume = volume;
+      «step_over» = stepOver;
       input = s .input;
       tail = s .tail;
       at = at;
@@ -51,6 +59,7 @@ withInput s input prev play error =
       speed = s .speed;
       pitch = s .pitch;
       volume = s .volume;
+      «step_over» = s .«step_over»;
       input = input;
       tail = s .tail;
       at = s .at;
@@ -69,6 +78,7 @@ withTail s tail at =
       speed = s .speed;
       pitch = s .pitch;
       volume = s .volume;
+      «step_over» = s .«step_over»;
       input = s .input;
       tail = tail;
       at = at;
@@ -87,6 +97,7 @@ withBalance s balance =
       speed = s .speed;
       pitch = s .pitch;
       volume = s .volume;
+      «step_over» = s .«step_over»;
       input = s .input;
       tail = s .tail;
       at = s .at;

@@ -22,6 +22,7 @@ stateOf s input stage =
       speed = s .speed;
       pitch = s .pitch;
       volume = s .volume;
+      «step_over» = s .«step_over»;
       input = framesOf (s .channels) (s .held .0) input;
       tail = framesOf (s .channels) (s .tail .0) stage;
       at = record { old = s .«old_rate_position»; new = s .«new_rate_position» };
@@ -51,6 +52,7 @@ streamOf s w =
       tail = record { 0 = length (s .tail) };
       waiting = record { 0 = w };
       balance = s .balance;
+      «step_over» = s .«step_over»;
     }
 
 -- of a stream whose areas are not lent: as many frames as it holds, with no samples
@@ -81,4 +83,5 @@ zeroStream =
       tail = record { 0 = 0 };
       waiting = record { 0 = 0 };
       balance = none;
+      «step_over» = 0;
     }

@@ -34,6 +34,8 @@ pub struct SonicStream {
     pub tail: Frames,
     pub waiting: Frames,
     pub balance: Balance,
+    // 0: off. A caller of C may have put any number here.
+    pub step_over: u32,
 }
 
 // One setting with its value.
@@ -41,6 +43,7 @@ pub enum Setting {
     Speed(f32),
     Pitch(f32),
     Volume(f32),
+    StepOver(bool),
 }
 
 // An opening's answer: refused with its number, the rate or channels given, and a stream with every field 0; or the
@@ -120,6 +123,7 @@ impl SonicStream {
             tail: Frames(0),
             waiting: Frames(0),
             balance: Balance::NONE,
+            step_over: 0,
         }
     }
 

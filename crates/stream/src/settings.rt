@@ -6,6 +6,7 @@ use crate::Setting;
 use crate::SonicStream;
 use crate::refusals;
 ghost use mathlib.Core.Path.{_≡_};
+ghost use Rattle.stream.specs.State.{stepsOver};
 ghost use Rattle.stream.specs.Settings.{setCall, availableCall};
 
 impl SonicStream {
@@ -42,8 +43,18 @@ impl SonicStream {
                     SonicStream::MAX_VOLUME,
                 );
             }
+            Setting::StepOver(on) => {
+                self.step_over = on as u32;
+            }
         }
         Changed::Done(self)
+    }
+
+    // Whether a period that gives no frame is stepped over.
+    pub fn steps_over(self) -> bool
+        ensures { λ r. ⌜ r ≡ stepsOver (self .«step_over») ⌝ }
+    {
+        self.step_over > 0
     }
 
     // The frames ready to be read.

@@ -59,11 +59,12 @@ abbrev pub begun : Float → PeriodRecord → Place
 begun error prev = record { position = record { 0 = 0 }; «time_error» = error; prev = prev }
 
 -- an answer with the time error and the period record of a place
-abbrev pub answer : ℕ → ℕ → Place → Bool → Stretch
-answer made used h stall =
+abbrev pub answer : ℕ → ℕ → ℕ → Place → Bool → Stretch
+answer made used passed h stall =
     record {
       made = record { 0 = made };
       used = record { 0 = used };
+      passed = passed;
       «time_error» = h .«time_error»;
       prev = h .prev;
       stalled = stall;
@@ -72,7 +73,8 @@ answer made used h stall =
 -- the answer for steps ss: a stall removes no input
 unfoldable pub answerFor : StretchCall → List ℤ → Place → List Step → Stretch
 answerFor u x h ss =
-    answer (framesMade ss) (cond (stalled ss) 0 (lastPlace u x h ss .position .0)) (lastPlace u x h ss) (stalled ss)
+    answer (framesMade ss) (cond (stalled ss) 0 (lastPlace u x h ss .position .0)) (tally ss .passed) (lastPlace u x h ss)
+    (stalled ss)
 
 -- `change_speed` with room for `room` frames
 unfoldable pub changeSpeed : StretchCall → List ℤ → Place → ℕ → Stretched

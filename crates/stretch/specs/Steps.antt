@@ -1,9 +1,9 @@
--- Document 01, "Stretch steps": which step is due at a place, what it gives and uses, and the place after it. u is the
--- call, x the held input, h a place. Definitions only.
+-- Document 01, "Stretch steps": which step is due at a place, what it gives and uses, and the place after it; with
+-- document 02, C-16 and C-18. u is the call, x the held input, h a place. Definitions only.
 use Prim.Native.Nat.{ℕ, _+_, _-_, _*_, _^_, _≤_}
 use mathlib.Core.Path.{_≡_}
-use mathlib.Core.Bool.{Bool, false, cond}
-use mathlib.Core.List.{List}
+use mathlib.Core.Bool.{Bool, false, cond, _&&_}
+use mathlib.Core.List.{List, []}
 use lib.Dec.{T, eqb, ltb}
 use lib.IntN.{ℤ}
 use lib.Ieee.{Float, binary32, lt, fits}
@@ -21,7 +21,7 @@ use Rattle.period.specs.Pitch.{findPitchPeriod}
 use Rattle.stretch.specs.declared.StretchCall.{StretchCall}
 use Rattle.stretch.specs.declared.Place.{Place}
 use Rattle.stretch.specs.declared.Step.{Step}
-use Rattle.stretch.specs.declared.Step.the-variants.{Copied, Skipped, Inserted}
+use Rattle.stretch.specs.declared.Step.the-variants.{Copied, Skipped, Inserted, Passed}
 use Rattle.stretch.specs.declared.Turn.{Turn}
 use Rattle.stretch.specs.declared.Turn.the-variants.{NoRoom, Went}
 use Rattle.crossfade.specs.Crossfade.{copyUnmodifiedSamples, skipPitchPeriod, insertPitchPeriod}
@@ -30,10 +30,14 @@ use Rattle.crossfade.specs.Crossfade.{copyUnmodifiedSamples, skipPitchPeriod, i
 unfoldable pub searchAt : StretchCall → List ℤ → Place → Chosen
 searchAt u x h = findPitchPeriod (drop (h .position .0 * u .channels) x) (u .channels) (u .rate) (h .prev)
 
+-- a skip step that gives k frames; stepping over, one that gives no frame passes over its period (C-18)
+abbrev pub skipStep : Bool → Frames → Frames → Step
+skipStep stepOver period k = cond (stepOver && eqb (k .0) 0) (Passed period) (Skipped period k)
+
 -- a skip step (s > 1) or an insert step (any other s)
-abbrev pub periodStep : Float → Frames → Step
-periodStep s period =
-    cond (lt one s) (Skipped period (record { 0 = skipCount s (period .0) }))
+abbrev pub periodStep : Float → Bool → Frames → Step
+periodStep s stepOver period =
+    cond (lt one s) (skipStep stepOver period (record { 0 = skipCount s (period .0) }))
     (Inserted period (record { 0 = insertCount s (period .0) }))
 
 -- the step that is due: a copying step, or one of those
@@ -41,42 +45,55 @@ unfoldable pub nextStep : StretchCall → List ℤ → Place → Step
 nextStep u x h =
     cond (copyingDue (u .speed) (h .«time_error»))
     (Copied (record { 0 = copyCount (h .«time_error») (u .speed) (u .«sample_period») (u .held .0 - h .position .0) }))
-    (periodStep (u .speed) (searchAt u x h .period))
+    (periodStep (u .speed) (u .«step_over») (searchAt u x h .period))
 
 -- the frames that a step gives
 abbrev pub framesOut : Step → ℕ
 framesOut (Copied n) = n .0
 framesOut (Skipped period k) = k .0
 framesOut (Inserted period k) = period .0 + k .0
+framesOut (Passed period) = 0
 
 -- the frames of the input that it uses
 abbrev pub framesUsed : Step → ℕ
 framesUsed (Copied n) = n .0
 framesUsed (Skipped period k) = period .0 + k .0
 framesUsed (Inserted period k) = k .0
+framesUsed (Passed period) = period .0
 
--- the frames of the period that it skips, and of the one that it inserts (document 02, C-16)
+-- the frames of the period that it skips or passes over, and of the one that it inserts (C-16)
 abbrev pub framesSkipped : Step → ℕ
 framesSkipped (Copied n) = 0
 framesSkipped (Skipped period k) = period .0
 framesSkipped (Inserted period k) = 0
+framesSkipped (Passed period) = period .0
 
 abbrev pub framesInserted : Step → ℕ
 framesInserted (Copied n) = 0
 framesInserted (Skipped period k) = 0
 framesInserted (Inserted period k) = period .0
+framesInserted (Passed period) = 0
+
+-- the periods that it passes over (C-18)
+abbrev pub periodsPassed : Step → ℕ
+periodsPassed (Copied n) = 0
+periodsPassed (Skipped period k) = 0
+periodsPassed (Inserted period k) = 0
+periodsPassed (Passed period) = 1
 
 -- a skip with k = 0 ends the call as stalled
 abbrev pub stalls : Step → Bool
 stalls (Copied n) = false
 stalls (Skipped period k) = eqb (k .0) 0
 stalls (Inserted period k) = false
+stalls (Passed period) = false
 
 -- the samples that a step at frame `at` gives
 unfoldable pub samplesOut : ℕ → List ℤ → ℕ → Step → List ℤ
 samplesOut channels x at (Copied n) = copyUnmodifiedSamples channels x at (n .0)
 samplesOut channels x at (Skipped period k) = skipPitchPeriod channels x at (period .0) (k .0)
 samplesOut channels x at (Inserted period k) = insertPitchPeriod channels x at (period .0) (k .0)
+samplesOut channels x at (Passed period) = []
 
 -- the time error after a step
 unfoldable pub errorAfter : StretchCall → Float → Step → Float
@@ -85,12 +102,14 @@ errorAfter u error (Skipped period k) =
     errorSkipped error (u .speed) (u .«sample_period») (u .«input_play_time») (u .held .0) (period .0) (k .0)
 errorAfter u error (Inserted period k) =
     errorInserted error (u .speed) (u .«sample_period») (u .«input_play_time») (u .held .0) (period .0) (k .0)
+errorAfter u error (Passed period) = error
 
 -- the period record after a step: a copying step makes no search
 unfoldable pub prevAfter : StretchCall → List ℤ → Place → Step → PeriodRecord
 prevAfter u x h (Copied n) = h .prev
 prevAfter u x h (Skipped period k) = searchAt u x h .prev
 prevAfter u x h (Inserted period k) = searchAt u x h .prev
+prevAfter u x h (Passed period) = searchAt u x h .prev
 
 -- the place after a step whose search found a period record
 unfoldable pub placeAfter : StretchCall → Place → Step → PeriodRecord → Place
@@ -107,10 +126,11 @@ after u x h s = placeAfter u h s (prevAfter u x h s)
 
 -- ---- one turn, with room for `room` frames
 
--- whether there is room for the step; the place after it, its frames, and whether it stalls
+-- whether there is room for the step; the place after it, its frames, the periods passed over, and whether it stalls
 unfoldable pub turnFor : StretchCall → List ℤ → Place → ℕ → Step → Turn
 turnFor u x h room s =
-    cond (ltb room (framesOut s)) NoRoom (Went (after u x h s) (record { 0 = framesOut s }) (stalls s))
+    cond (ltb room (framesOut s)) NoRoom
+    (Went (after u x h s) (record { 0 = framesOut s }) (periodsPassed s) (stalls s))
 
 -- the stage after it: the step's frames at the place `to`
 unfoldable pub stageFor : StretchCall → List ℤ → Place → ℕ → List ℤ → ℕ → Step → List ℤ
@@ -132,11 +152,13 @@ abbrev pub framesRead : Step → ℕ
 framesRead (Copied n) = n .0
 framesRead (Skipped period k) = period .0 + k .0
 framesRead (Inserted period k) = period .0 + k .0
+framesRead (Passed period) = period .0
 
 abbrev pub crossfaded : Step → ℕ
 crossfaded (Copied n) = 0
 crossfaded (Skipped period k) = k .0
 crossfaded (Inserted period k) = k .0
+crossfaded (Passed period) = 0
 
 -- a step at frame `at` uses a frame at least and stays within the frames held
 pub record Sound (held at : ℕ) (s : Step) : Type 0 where

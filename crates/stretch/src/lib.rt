@@ -1,5 +1,5 @@
-// The stretch: steps that copy, skip or insert pitch periods, and `change_speed` that takes them. `specs/` says what
-// each function gives.
+// The stretch: steps that copy, skip, insert or pass over pitch periods, and `change_speed` that takes them. `specs/`
+// says what each function gives.
 mod samples;
 mod speed;
 mod steps;
@@ -8,7 +8,8 @@ use frames::Frames;
 use period::PeriodRecord;
 pub use speed::change_speed;
 
-// What is fixed for a call: what follows from the opening, the local speed, the play time and the frames held.
+// What is fixed for a call: what follows from the opening, the local speed, the play time, the frames held, and whether
+// it steps over a period that gives no frame.
 pub struct StretchCall {
     pub channels: usize,
     pub rate: usize,
@@ -16,6 +17,7 @@ pub struct StretchCall {
     pub speed: f32,
     pub input_play_time: f32,
     pub held: Frames,
+    pub step_over: bool,
 }
 
 // Where a call has come to: the frames used, the time error and the period record.
@@ -25,11 +27,13 @@ pub struct Place {
     pub prev: PeriodRecord,
 }
 
-// A step: the frames copied; the period skipped and the frames made; the period inserted and the frames made behind it.
+// A step: the frames copied; the period skipped and the frames made; the period inserted and the frames made behind it;
+// the period passed over.
 pub enum Step {
     Copied(Frames),
     Skipped(Frames, Frames),
     Inserted(Frames, Frames),
+    Passed(Frames),
 }
 
 // The step that is due, and the period record after its search.
@@ -38,17 +42,19 @@ pub struct NextStep {
     pub prev: PeriodRecord,
 }
 
-// One turn of a call: no room for the step's frames; or the place after it, its frames, and whether it stalls.
+// One turn of a call: no room for the step's frames; or the place after it, its frames, the periods that it passes over,
+// and whether it stalls.
 pub enum Turn {
     NoRoom,
-    Went(Place, Frames, bool),
+    Went(Place, Frames, usize, bool),
 }
 
-// What a call gives: the frames made, the frames of the input used, the time error and the period record after it,
-// whether it stalled.
+// What a call gives: the frames made, the frames of the input used, the periods passed over, the time error and the
+// period record after it, whether it stalled.
 pub struct Stretch {
     pub made: Frames,
     pub used: Frames,
+    pub passed: usize,
     pub time_error: f32,
     pub prev: PeriodRecord,
     pub stalled: bool,

@@ -37,5 +37,6 @@ pub(crate) fn write_step(
         Step::Inserted(period, k) => {
             insert_pitch_period(input, channels, position, period, k, stage, to);
         }
+        Step::Passed(_) => {}
     }
 }

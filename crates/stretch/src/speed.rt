@@ -17,13 +17,14 @@ ghost use Rattle.stretch.specs.Steps.{StretchReady};
 ghost use Rattle.stretch.specs.Speed.{changeSpeed, begun, answer, Staged};
 
 // A call's answer, with the time error and the period record of a place.
-fn answer(made: Frames, used: Frames, place: Place, stalled: bool) -> Stretch
-    ensures { λ r. ⌜ r ≡ answer (made .0) (used .0) place stalled ⌝ }
+fn answer(made: Frames, used: Frames, passed: usize, place: Place, stalled: bool) -> Stretch
+    ensures { λ r. ⌜ r ≡ answer (made .0) (used .0) passed place stalled ⌝ }
 {
     let prev = place.prev;
     Stretch {
         made,
         used,
+        passed,
         time_error: place.time_error,
         prev,
         stalled,
@@ -61,6 +62,7 @@ pub fn change_speed(
         prev,
     };
     let mut made: usize = 0;
+    let mut passed: usize = 0;
     while place.position.0 + required <= held {
         let at = first + Frames(made).samples(call.channels).0;
         let left = all - made;
@@ -77,14 +79,15 @@ pub fn change_speed(
             Turn::NoRoom => {
                 return Stretched::Full;
             }
-            Turn::Went(next, n, stalled) => {
+            Turn::Went(next, n, periods, stalled) => {
                 made += n.0;
+                passed += periods;
                 place = next;
                 if stalled {
-                    return Stretched::Made(answer(Frames(made), Frames(0), next, true));
+                    return Stretched::Made(answer(Frames(made), Frames(0), passed, next, true));
                 }
             }
         }
     }
-    Stretched::Made(answer(Frames(made), place.position, place, false))
+    Stretched::Made(answer(Frames(made), place.position, passed, place, false))
 }

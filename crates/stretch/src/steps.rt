@@ -13,8 +13,8 @@ ghost use Prim.Native.Nat.{_+_, _*_, _≤_, _<_, _^_};
 ghost use lib.ListN.{length, drop};
 ghost use Rattle.period.specs.Rates.{InLimits, maxRequired};
 ghost use Rattle.period.specs.Pitch.{findPitchPeriod, InRange, PrevInOrder};
-ghost use Rattle.stretch.specs.Steps.{periodStep, nextStep, framesOut, framesUsed, framesRead, stalls};
-ghost use Rattle.stretch.specs.Steps.{errorAfter};
+ghost use Rattle.stretch.specs.Steps.{skipStep, periodStep, nextStep, framesOut, framesUsed, framesRead};
+ghost use Rattle.stretch.specs.Steps.{periodsPassed, stalls, errorAfter};
 ghost use Rattle.stretch.specs.Steps.{prevAfter, placeAfter, turnFor, stageFor, StretchReady, Sound};
 
 // The period that a step at the place `from` of the input uses, in frames, and the period record after the search.
@@ -37,14 +37,24 @@ fn search_at(
     period::find_pitch_period(&input[first..], channels, rate, prev, scratch)
 }
 
-// The skip step or the insert step of a period at local speed s.
-fn period_step(s: f32, period: Frames) -> Step
+// The skip step of a period that gives k frames. Stepping over, one that gives none passes over its period.
+fn skip_step(step_over: bool, period: Frames, k: Frames) -> Step
+    ensures { λ r. ⌜ r ≡ skipStep step_over period k ⌝ }
+{
+    if step_over && k.0 == 0 {
+        return Step::Passed(period);
+    }
+    Step::Skipped(period, k)
+}
+
+// The step of a period at local speed s.
+fn period_step(s: f32, step_over: bool, period: Frames) -> Step
     requires { ⌜ (1 ≤ period .0) × (period .0 < 2 ^ 24) ⌝ }
-    ensures { λ r. ⌜ r ≡ periodStep s period ⌝ }
+    ensures { λ r. ⌜ r ≡ periodStep s step_over period ⌝ }
 {
     if s > 1.0 {
         let k = floats::steps::skip_count(s, period);
-        return Step::Skipped(period, k);
+        return skip_step(step_over, period, k);
     }
     let k = floats::steps::insert_count(s, period);
     Step::Inserted(period, k)
@@ -78,7 +88,7 @@ fn next_step(input: &[i16], call: StretchCall, place: Place, scratch: &mut [i16]
     let period = chosen.period;
     let found = chosen.prev;
     NextStep {
-        step: period_step(s, period),
+        step: period_step(s, call.step_over, period),
         prev: found,
     }
 }
@@ -92,6 +102,7 @@ fn frames_out(step: Step) -> Frames
         Step::Copied(n) => n,
         Step::Skipped(_, k) => k,
         Step::Inserted(period, k) => Frames(period.0 + k.0),
+        Step::Passed(_) => Frames(0),
     }
 }
 
@@ -104,6 +115,19 @@ fn frames_used(step: Step) -> Frames
         Step::Copied(n) => n,
         Step::Skipped(period, k) => Frames(period.0 + k.0),
         Step::Inserted(_, k) => k,
+        Step::Passed(period) => period,
+    }
+}
+
+// The periods that a step passes over.
+fn periods_passed(step: Step) -> usize
+    ensures { λ r. ⌜ r ≡ periodsPassed step ⌝ }
+{
+    match step {
+        Step::Copied(_) => 0,
+        Step::Skipped(_, _) => 0,
+        Step::Inserted(_, _) => 0,
+        Step::Passed(_) => 1,
     }
 }
 
@@ -115,6 +139,7 @@ fn stalls(step: Step) -> bool
         Step::Copied(_) => false,
         Step::Skipped(_, k) => k.0 == 0,
         Step::Inserted(_, _) => false,
+        Step::Passed(_) => false,
     }
 }
 
@@ -135,6 +160,7 @@ fn error_after(call: StretchCall, error: f32, step: Step) -> f32
         Step::Inserted(period, k) => {
             floats::steps::error_inserted(error, s, t, play, held, period, k)
         }
+        Step::Passed(_) => error,
     }
 }
 
@@ -184,5 +210,5 @@ pub(crate) fn take_step(
     }
     crate::samples::write_step(step, input, call.channels, place.position, stage, to);
     let next = place_after(call, place, step, prev);
-    Turn::Went(next, n, stalls(step))
+    Turn::Went(next, n, periods_passed(step), stalls(step))
 }
