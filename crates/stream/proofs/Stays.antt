@@ -32,7 +32,7 @@ use Rattle.rate.proofs.Halving.{rates-within}
 use Rattle.rate.proofs.Positions.{start-order}
 use Rattle.stream.specs.declared.SonicStream.{SonicStream}
 use Rattle.stream.specs.declared.Setting.{Setting}
-use Rattle.stream.specs.declared.Setting.the-variants.{Speed, Pitch, Volume}
+use Rattle.stream.specs.declared.Setting.the-variants.{Speed, Pitch, Volume, StepOver}
 use Rattle.stream.specs.declared.Opened.{Opened}
 use Rattle.stream.specs.declared.Changed.{Changed}
 use Rattle.stream.specs.declared.balance.Balance.{Balance}
@@ -183,13 +183,14 @@ open-in-order rate channels s e = go (rateBad rate) (channelsBad channels) refl 
 
 module _ (s : SonicStream) (e : inOrder s ≡ true) where
   -- all but settings and positions is as it was
-  with-settings : (speed pitch volume : Float) (at : Position) (w : ℕ) → Ranges (streamOf (withSettings (unlent s) speed pitch volume at) w)
-      → PositionInOrder (ratesOf (s .rate) pitch) at → inOrder (streamOf (withSettings (unlent s) speed pitch volume at) w) ≡ true
+  with-settings : (speed pitch volume : Float) (over : ℕ) (at : Position) (w : ℕ)
+      → Ranges (streamOf (withSettings (unlent s) speed pitch volume over at) w)
+      → PositionInOrder (ratesOf (s .rate) pitch) at → inOrder (streamOf (withSettings (unlent s) speed pitch volume over at) w) ≡ true
   unfolding stateOf streamOf
-  with-settings speed pitch volume at w g p =
+  with-settings speed pitch volume over at w g p =
       let r = ready-of s e in
       let v = within-range minVolume maxVolume volume (g .volume) in
-      state-in-order (withSettings (unlent s) speed pitch volume at) w
+      state-in-order (withSettings (unlent s) speed pitch volume over at) w
       (record { limits = r .limits; volume-low = v .0; volume-high = v .1; position = p; prev = r .prev }) g
 
   pub setting-in-order : (v : Setting) (w : ℕ) → inOrder (streamOf (withSetting v (unlent s)) w) ≡ true
@@ -197,19 +198,23 @@ module _ (s : SonicStream) (e : inOrder s ≡ true) where
   setting-in-order (Speed x) w =
       let r = ranges-of s (tests-of s e .settings) in
       let speed = clamped-within x minSpeed maxSpeed speed-range in
-      with-settings (clamped x minSpeed maxSpeed) (s .pitch) (s .volume) (unlent s .at) w
+      with-settings (clamped x minSpeed maxSpeed) (s .pitch) (s .volume) (s .«step_over») (unlent s .at) w
       (record { speed = speed; pitch = r .pitch; volume = r .volume }) (ready-of s e .position)
   setting-in-order (Pitch x) w =
       let r = ranges-of s (tests-of s e .settings) in
       let l = limits-of s e in
       let pitch = clamped-within x minPitch maxPitch pitch-range in
-      with-settings (s .speed) (clamped x minPitch maxPitch) (s .volume) start w
+      with-settings (s .speed) (clamped x minPitch maxPitch) (s .volume) (s .«step_over») start w
       (record { speed = r .speed; pitch = pitch; volume = r .volume }) (start-in (s .rate) (clamped x minPitch maxPitch) (l .rate-low) (l .rate-high) pitch)
   setting-in-order (Volume x) w =
       let r = ranges-of s (tests-of s e .settings) in
       let volume = clamped-within x minVolume maxVolume volume-range in
-      with-settings (s .speed) (s .pitch) (clamped x minVolume maxVolume) (unlent s .at) w
+      with-settings (s .speed) (s .pitch) (clamped x minVolume maxVolume) (s .«step_over») (unlent s .at) w
       (record { speed = r .speed; pitch = r .pitch; volume = volume }) (ready-of s e .position)
+  setting-in-order (StepOver on) w =
+      let r = ranges-of s (tests-of s e .settings) in
+      with-settings (s .speed) (s .pitch) (s .volume) (cond on 1 0) (unlent s .at) w
+      (record { speed = r .speed; pitch = r .pitch; volume = r .volume }) (ready-of s e .position)
 
 pub set-in-order : (s : SonicStream) (v : Setting) (t : SonicStream) → setCall s v ≡ Changed.Done t → inOrder t ≡ true
 unfolding setCall

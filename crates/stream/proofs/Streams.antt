@@ -67,6 +67,7 @@ pub record Alike (x y : State) : Type 0 where
   pub speed : x .speed ≡ y .speed
   pub pitch : x .pitch ≡ y .pitch
   pub volume : x .volume ≡ y .volume
+  pub «step_over» : x .«step_over» ≡ y .«step_over»
   pub input : length (x .input) ≡ length (y .input)
   pub tail : length (x .tail) ≡ length (y .tail)
   pub at : x .at ≡ y .at
@@ -95,6 +96,7 @@ streamOf-same a w = λ i. record {
   tail = record { 0 = a .tail i };
   waiting = record { 0 = w };
   balance = a .balance i;
+  «step_over» = a .«step_over» i;
 }
 
 -- and states of one stream are alike
@@ -107,6 +109,7 @@ alike-of x y w e =
       speed = λ i. e i .speed;
       pitch = λ i. e i .pitch;
       volume = λ i. e i .volume;
+      «step_over» = λ i. e i .«step_over»;
       input = λ i. e i .held .0;
       tail = λ i. e i .tail .0;
       at = λ i. record { old = e i .«old_rate_position»; new = e i .«new_rate_position» };
@@ -147,15 +150,16 @@ changed-back f k x v w r c = c [] [] ∙ streamOf-same (k (unlent (streamOf x v)
 
 -- alike states, changed alike
 module _ {x y : State} (h : Alike x y) where
-  pub settings-alike : (speed pitch volume : Float) {p q : Position} → p ≡ q
-      → Alike (withSettings x speed pitch volume p) (withSettings y speed pitch volume q)
-  settings-alike speed pitch volume at =
+  pub settings-alike : (speed pitch volume : Float) (over : ℕ) {p q : Position} → p ≡ q
+      → Alike (withSettings x speed pitch volume over p) (withSettings y speed pitch volume over q)
+  settings-alike speed pitch volume over at =
       record {
         rate = h .rate;
         channels = h .channels;
         speed = refl;
         pitch = refl;
         volume = refl;
+        «step_over» = refl;
         input = h .input;
         tail = h .tail;
         at = at;
@@ -174,6 +178,7 @@ module _ {x y : State} (h : Alike x y) where
         speed = h .speed;
         pitch = h .pitch;
         volume = h .volume;
+        «step_over» = h .«step_over»;
         input = same;
         tail = h .tail;
         at = h .at;
@@ -191,6 +196,7 @@ module _ {x y : State} (h : Alike x y) where
         speed = h .speed;
         pitch = h .pitch;
         volume = h .volume;
+        «step_over» = h .«step_over»;
         input = h .input;
         tail = same;
         at = at;
@@ -208,6 +214,7 @@ module _ {x y : State} (h : Alike x y) where
         speed = h .speed;
         pitch = h .pitch;
         volume = h .volume;
+        «step_over» = h .«step_over»;
         input = h .input;
         tail = h .tail;
         at = h .at;

@@ -1,26 +1,26 @@
--- Document 02, C-16: what steps add up to. Here:
+-- Document 02, C-16 and C-18: what steps add up to. Here:
 --   balanced          frames out plus skipped are frames used plus inserted
 --   tally-append      of two lists, one behind the other
 --   position-used     the place after the last step lies behind the frames used
 --   steps-surplus     a call skips or inserts, never both: what it skips or inserts follows from frames used and out
 -- Assumes nothing.
 use mathlib.Core.Path.{_≡_, refl, ap}
-use mathlib.Core.Bool.{Bool, true, false, cond}
+use mathlib.Core.Bool.{Bool, true, false, cond, _&&_}
 use mathlib.Core.List.{List, [], _∷_, _++_}
 use Prim.Native.Nat.{ℕ, zero, suc, _+_, _-_}
 use native.Mathlib.Omega.{arith}
-use lib.Dec.{leb}
+use lib.Dec.{eqb, leb}
 use lib.IntN.{ℤ}
 use lib.Ieee.{lt}
 use Rattle.frames.specs.declared.Frames.{Frames}
 use Rattle.floats.specs.Numbers.{one}
-use Rattle.floats.specs.Steps.{copyingDue}
+use Rattle.floats.specs.Steps.{copyingDue, skipCount}
 use Rattle.period.specs.Rates.{maxRequired}
 use Rattle.stretch.specs.declared.StretchCall.{StretchCall}
 use Rattle.stretch.specs.declared.Place.{Place}
 use Rattle.stretch.specs.declared.Step.{Step}
-use Rattle.stretch.specs.declared.Step.the-variants.{Copied, Skipped, Inserted}
-use Rattle.stretch.specs.Steps.{framesOut, framesUsed, framesSkipped, framesInserted, stalls, nextStep, after}
+use Rattle.stretch.specs.declared.Step.the-variants.{Copied, Skipped, Inserted, Passed}
+use Rattle.stretch.specs.Steps.{framesOut, framesUsed, framesSkipped, framesInserted, stalls, searchAt, nextStep, after}
 use Rattle.stretch.specs.Tally.{Tally, tally}
 use Rattle.stretch.specs.Speed.{stepsIn, steps, lastPlace}
 use Rattle.stretch.proofs.Progress.{after-position}
@@ -31,6 +31,7 @@ step-balanced : (s : Step) → framesOut s + framesSkipped s ≡ framesUsed s + 
 step-balanced (Copied n) = refl
 step-balanced (Skipped period k) = omega arith
 step-balanced (Inserted period k) = omega arith
+step-balanced (Passed period) = omega arith
 
 pub balanced : (ss : List Step) → tally ss .out + tally ss .skipped ≡ tally ss .used + tally ss .inserted
 unfolding tally
@@ -40,21 +41,28 @@ balanced (s ∷ ss) = omega (arith, step-balanced s, balanced ss)
 -- two tallies added up
 abbrev pub added : Tally → Tally → Tally
 added t u =
-    record { out = t .out + u .out; used = t .used + u .used; skipped = t .skipped + u .skipped; inserted = t .inserted + u .inserted }
+    record {
+      out = t .out + u .out;
+      used = t .used + u .used;
+      skipped = t .skipped + u .skipped;
+      inserted = t .inserted + u .inserted;
+      passed = t .passed + u .passed;
+    }
 
-same-tally : {t u : Tally} → t .out ≡ u .out → t .used ≡ u .used → t .skipped ≡ u .skipped → t .inserted ≡ u .inserted → t ≡ u
-same-tally o d s n = λ i. record { out = o i; used = d i; skipped = s i; inserted = n i }
+same-tally : {t u : Tally} → t .out ≡ u .out → t .used ≡ u .used → t .skipped ≡ u .skipped → t .inserted ≡ u .inserted → t .passed ≡ u .passed → t ≡ u
+same-tally o d s n p = λ i. record { out = o i; used = d i; skipped = s i; inserted = n i; passed = p i }
 
 pub tally-append : (ss ts : List Step) → tally (ss ++ ts) ≡ added (tally ss) (tally ts)
 unfolding tally
-tally-append [] ts = same-tally (omega arith) (omega arith) (omega arith) (omega arith)
+tally-append [] ts = same-tally (omega arith) (omega arith) (omega arith) (omega arith) (omega arith)
 tally-append (s ∷ ss) ts =
     let rest = tally-append ss ts in
     let out = ap (λ (t : Tally). t .out) rest in
     let used = ap (λ (t : Tally). t .used) rest in
     let skipped = ap (λ (t : Tally). t .skipped) rest in
     let inserted = ap (λ (t : Tally). t .inserted) rest in
-    same-tally (omega (arith, out)) (omega (arith, used)) (omega (arith, skipped)) (omega (arith, inserted))
+    let passed = ap (λ (t : Tally). t .passed) rest in
+    same-tally (omega (arith, out)) (omega (arith, used)) (omega (arith, skipped)) (omega (arith, inserted)) (omega (arith, passed))
 
 pub position-used : (u : StretchCall) (x : List ℤ) (h : Place) (ss : List Step) → lastPlace u x h ss .position .0 ≡ h .position .0 + tally ss .used
 unfolding lastPlace tally
@@ -85,15 +93,18 @@ module _ (u : StretchCall) (x : List ℤ) where
   abbrev above : Bool
   above = lt one (u .speed)
 
-  due-kind : (copying b : Bool) (n period k l : Frames) → OneKind b (cond copying (Copied n) (cond b (Skipped period k) (Inserted period l)))
-  due-kind true true n period k l = refl
-  due-kind true false n period k l = refl
-  due-kind false true n period k l = refl
-  due-kind false false n period k l = refl
+  due-kind : (copying b over : Bool) (n period k l : Frames)
+      → OneKind b (cond copying (Copied n) (cond b (cond over (Passed period) (Skipped period k)) (Inserted period l)))
+  due-kind true true over n period k l = refl
+  due-kind true false over n period k l = refl
+  due-kind false true true n period k l = refl
+  due-kind false true false n period k l = refl
+  due-kind false false over n period k l = refl
 
   next-kind : (h : Place) → OneKind above (nextStep u x h)
   unfolding nextStep
-  next-kind h = due-kind (copyingDue (u .speed) (h .«time_error»)) above _ _ _ _
+  next-kind h =
+      due-kind (copyingDue (u .speed) (h .«time_error»)) above (u .«step_over» && eqb (skipCount (u .speed) (searchAt u x h .period .0)) 0) _ _ _ _
 
   steps-kind : (n : ℕ) (h : Place) → OfOneKind above (stepsIn n u x h)
   unfolding stepsIn

@@ -16,11 +16,11 @@ use Rattle.stretch.specs.declared.StretchCall.{StretchCall}
 use Rattle.stretch.specs.declared.Place.{Place}
 use Rattle.stretch.specs.declared.Step.{Step}
 use Rattle.stretch.specs.declared.Turn.the-variants.{NoRoom, Went}
-use Rattle.stretch.specs.Steps.{nextStep, framesOut, stalls, samplesOut, prevAfter, placeAfter, after, turnFor, stageFor, StretchReady, Sound}
+use Rattle.stretch.specs.Steps.{nextStep, framesOut, framesUsed, periodsPassed, stalls, samplesOut, prevAfter, placeAfter, after, turnFor, stageFor, StretchReady, Sound}
 use Rattle.stretch.specs.Tally.{tally}
 use Rattle.stretch.specs.Speed.{steps, framesMade, samplesOf, lastPlace, stalled}
 use Rattle.frames.proofs.Pasted.{paste-append}
-use Rattle.stretch.proofs.Soundness.{nextStep-sound, samplesOut-length, sound-in}
+use Rattle.stretch.proofs.Soundness.{nextStep-sound, passed-le, samplesOut-length, sound-in}
 use Rattle.stretch.proofs.Progress.{next, further, steps-on, steps-end}
 use Rattle.stretch.proofs.Turning.{Gone, gone, no-room, stage-written, stage-left}
 
@@ -31,12 +31,14 @@ pub record StretchLent (u : StretchCall) (x stage : List ℤ) (to room : ℕ) : 
   pub area : to + room * u .channels ≤ length stage
 
 -- `made` frames of the call that began at h₀ stand at the place `to` of the stage; h is the place that it has come to
-pub record Going (u : StretchCall) (x : List ℤ) (h₀ : Place) (stage₀ stage : List ℤ) (to room : ℕ) (h : Place) (made : ℕ) : Type 0 where
+pub record Going (u : StretchCall) (x : List ℤ) (h₀ : Place) (stage₀ stage : List ℤ) (to room : ℕ) (h : Place) (made passed : ℕ) : Type 0 where
   pub front : List ℤ
   pub front-length : length front ≡ made * u .channels
   pub stage-is : stage ≡ paste stage₀ to front (made * u .channels)
   pub samples : samplesOf (u .channels) x (h₀ .position .0) (steps u x h₀) ≡ front ++ samplesOf (u .channels) x (h .position .0) (steps u x h)
   pub frames : framesMade (steps u x h₀) ≡ made + framesMade (steps u x h)
+  pub periods : tally (steps u x h₀) .passed ≡ passed + tally (steps u x h) .passed
+  pub few-periods : passed ≤ h .position .0
   pub place : lastPlace u x h₀ (steps u x h₀) ≡ lastPlace u x h (steps u x h)
   pub stall : stalled (steps u x h₀) ≡ stalled (steps u x h)
   pub fits : made ≤ room
@@ -44,8 +46,9 @@ pub record Going (u : StretchCall) (x : List ℤ) (h₀ : Place) (stage₀ stage
   pub within : h .position .0 ≤ u .held .0
 
 -- the call has ended at h: all its frames are made and stand in the stage
-pub record Ended (u : StretchCall) (x : List ℤ) (h₀ : Place) (stage₀ stage : List ℤ) (to room : ℕ) (h : Place) (made : ℕ) (t : Bool) : Type 0 where
+pub record Ended (u : StretchCall) (x : List ℤ) (h₀ : Place) (stage₀ stage : List ℤ) (to room : ℕ) (h : Place) (made passed : ℕ) (t : Bool) : Type 0 where
   pub frames : framesMade (steps u x h₀) ≡ made
+  pub periods : tally (steps u x h₀) .passed ≡ passed
   pub samples : stage ≡ paste stage₀ to (samplesOf (u .channels) x (h₀ .position .0) (steps u x h₀)) (made * u .channels)
   pub place : lastPlace u x h₀ (steps u x h₀) ≡ h
   pub stall : stalled (steps u x h₀) ≡ t
@@ -54,7 +57,7 @@ pub record Ended (u : StretchCall) (x : List ℤ) (h₀ : Place) (stage₀ stage
   pub kept : take to stage ≡ take to stage₀
 
 pub going-start : (u : StretchCall) (x : List ℤ) (h : Place) (stage : List ℤ) (to room : ℕ) → PrevInOrder (u .rate) (h .prev) → h .position .0 ≤ u .held .0
-    → Going u x h stage stage to room h 0
+    → Going u x h stage stage to room h 0 0
 going-start u x h stage to room o w =
     record {
       front = [];
@@ -62,6 +65,8 @@ going-start u x h stage to room o w =
       stage-is = paste-zero stage to [] ∙ ap (paste stage to []) (sym (zero-mul (u .channels)));
       samples = refl;
       frames = sym (zero-add (framesMade (steps u x h)));
+      periods = sym (zero-add (tally (steps u x h) .passed));
+      few-periods = omega arith;
       place = refl;
       stall = refl;
       fits = omega arith;
@@ -69,8 +74,8 @@ going-start u x h stage to room o w =
       within = w;
     }
 
-module _ {u : StretchCall} {x : List ℤ} {h₀ : Place} {stage₀ stage : List ℤ} {to room : ℕ} {h : Place} {made : ℕ}
-    (l : StretchLent u x stage₀ to room) (g : Going u x h₀ stage₀ stage to room h made) where
+module _ {u : StretchCall} {x : List ℤ} {h₀ : Place} {stage₀ stage : List ℤ} {to room : ℕ} {h : Place} {made passed : ℕ}
+    (l : StretchLent u x stage₀ to room) (g : Going u x h₀ stage₀ stage to room h made passed) where
   -- what is made lies within the room, and what is left of it behind that
   pub going-room : made * u .channels + (room - made) * u .channels ≡ room * u .channels
   going-room =
@@ -83,13 +88,14 @@ module _ {u : StretchCall} {x : List ℤ} {h₀ : Place} {stage₀ stage : List 
   going-kept = ap (take to) (g .stage-is) ∙ paste-front stage₀ (g .front) to (made * u .channels) (omega (arith, l .area))
 
   -- no step is due
-  pub going-end : u .held .0 < h .position .0 + maxRequired (u .rate) → Ended u x h₀ stage₀ stage to room h made false
+  pub going-end : u .held .0 < h .position .0 + maxRequired (u .rate) → Ended u x h₀ stage₀ stage to room h made passed false
   unfolding samplesOf tally lastPlace stalled
   going-end d =
       let e = steps-end u x h d in
       let all = g .samples ∙ ap (λ (ss : List Step). g .front ++ samplesOf (u .channels) x (h .position .0) ss) e ∙ append-nil (g .front) in
       record {
         frames = g .frames ∙ ap (λ (ss : List Step). made + framesMade ss) e ∙ add-zero made;
+        periods = g .periods ∙ ap (λ (ss : List Step). passed + tally ss .passed) e ∙ add-zero passed;
         samples = g .stage-is ∙ ap (λ (s : List ℤ). paste stage₀ to s (made * u .channels)) (sym all);
         place = g .place ∙ ap (lastPlace u x h) e;
         stall = g .stall ∙ ap stalled e;
@@ -120,13 +126,13 @@ module _ {u : StretchCall} {x : List ℤ} {h₀ : Place} {stage₀ stage : List 
         omega (arith, g .frames)
 
     -- the step that is due is taken
-    module _ {stage' : List ℤ} {p : Place} {n : Frames} {t : Bool} (w : turnFor u x h (room - made) (nextStep u x h) ≡ Went p n t)
+    module _ {stage' : List ℤ} {p : Place} {n : Frames} {m : ℕ} {t : Bool} (w : turnFor u x h (room - made) (nextStep u x h) ≡ Went p n m t)
         (wrote : stage' ≡ stageFor u x h (room - made) stage (to + made * u .channels) (nextStep u x h))
         (o : PrevInOrder (u .rate) (prevAfter u x h (nextStep u x h))) where
       abbrev more : List ℤ
       more = samplesOut (u .channels) x (h .position .0) (nextStep u x h)
 
-      went : Gone u x h (room - made) (nextStep u x h) p n t
+      went : Gone u x h (room - made) (nextStep u x h) p n m t
       went = gone u x h (room - made) (nextStep u x h) w
 
       few : made + framesOut (nextStep u x h) ≤ room
@@ -149,6 +155,7 @@ module _ {u : StretchCall} {x : List ℤ} {h₀ : Place} {stage₀ stage : List 
 
       -- the call goes on, or has ended, at the place after it
       going-next : stalls (nextStep u x h) ≡ false → Going u x h₀ stage₀ stage' to room (next u x h) (made + framesOut (nextStep u x h))
+          (passed + periodsPassed (nextStep u x h))
       unfolding samplesOf tally lastPlace stalled after placeAfter
       going-next f =
           let e = on f in
@@ -159,6 +166,8 @@ module _ {u : StretchCall} {x : List ℤ} {h₀ : Place} {stage₀ stage : List 
             samples = g .samples ∙ ap (λ (ss : List Step). g .front ++ samplesOf (u .channels) x (h .position .0) ss) e
                 ∙ sym (append-assoc (g .front) more (samplesOf (u .channels) x (next u x h .position .0) (steps u x (next u x h))));
             frames = omega (arith, g .frames, ap framesMade e);
+            periods = omega (arith, g .periods, ap (λ (ss : List Step). tally ss .passed) e);
+            few-periods = omega (arith, g .few-periods, passed-le (nextStep u x h) sound);
             place = g .place ∙ ap (lastPlace u x h) e;
             stall = g .stall ∙ ap stalled e ∙ ap (λ (b : Bool). b || stalled (steps u x (next u x h))) f;
             fits = few;
@@ -166,7 +175,8 @@ module _ {u : StretchCall} {x : List ℤ} {h₀ : Place} {stage₀ stage : List 
             within = sound-in sound;
           }
 
-      ended-next : stalls (nextStep u x h) ≡ true → Ended u x h₀ stage₀ stage' to room (next u x h) (made + framesOut (nextStep u x h)) true
+      ended-next : stalls (nextStep u x h) ≡ true → Ended u x h₀ stage₀ stage' to room (next u x h) (made + framesOut (nextStep u x h))
+          (passed + periodsPassed (nextStep u x h)) true
       unfolding samplesOf tally lastPlace stalled after placeAfter
       ended-next f =
           let e = on f in
@@ -175,6 +185,7 @@ module _ {u : StretchCall} {x : List ℤ} {h₀ : Place} {stage₀ stage : List 
           record {
             frames = omega (arith, g .frames, ap framesMade e);
             samples = stage-on ∙ ap (λ (s : List ℤ). paste stage₀ to s ((made + framesOut (nextStep u x h)) * u .channels)) (sym all);
+            periods = omega (arith, g .periods, ap (λ (ss : List Step). tally ss .passed) e);
             place = g .place ∙ ap (lastPlace u x h) e;
             stall = g .stall ∙ ap stalled e ∙ ap (λ (b : Bool). b || false) f;
             fits = few;
@@ -183,19 +194,28 @@ module _ {u : StretchCall} {x : List ℤ} {h₀ : Place} {stage₀ stage : List 
                 ∙ paste-front stage₀ (g .front ++ more) to ((made + framesOut (nextStep u x h)) * u .channels) (omega (arith, l .area));
           }
 
-      pub going-on : t ≡ false → Going u x h₀ stage₀ stage' to room p (made + n .0)
-      going-on e =
-          subst (λ (q : Place). Going u x h₀ stage₀ stage' to room q (made + n .0)) (sym (went .place))
-          (subst (λ (k : ℕ). Going u x h₀ stage₀ stage' to room (next u x h) (made + k)) (sym (went .frames)) (going-next (sym (went .stall) ∙ e)))
+      -- in the words of the turn
+      as-told : (P : Place → ℕ → ℕ → Type 0) → P (next u x h) (made + framesOut (nextStep u x h)) (passed + periodsPassed (nextStep u x h))
+          → P p (made + n .0) (passed + m)
+      as-told P v =
+          subst (λ (q : Place). P q (made + n .0) (passed + m)) (sym (went .place))
+          (subst (λ (k : ℕ). P (next u x h) (made + k) (passed + m)) (sym (went .frames))
+          (subst (λ (k : ℕ). P (next u x h) (made + framesOut (nextStep u x h)) (passed + k)) (sym (went .passed)) v))
 
-      pub going-stall : t ≡ true → Ended u x h₀ stage₀ stage' to room p (made + n .0) true
+      pub going-on : t ≡ false → Going u x h₀ stage₀ stage' to room p (made + n .0) (passed + m)
+      going-on e = as-told (Going u x h₀ stage₀ stage' to room) (going-next (sym (went .stall) ∙ e))
+
+      pub going-stall : t ≡ true → Ended u x h₀ stage₀ stage' to room p (made + n .0) (passed + m) true
       going-stall e =
-          subst (λ (q : Place). Ended u x h₀ stage₀ stage' to room q (made + n .0) true) (sym (went .place))
-          (subst (λ (k : ℕ). Ended u x h₀ stage₀ stage' to room (next u x h) (made + k) true) (sym (went .frames)) (ended-next (sym (went .stall) ∙ e)))
+          as-told (λ q j k. Ended u x h₀ stage₀ stage' to room q j k true) (ended-next (sym (went .stall) ∙ e))
 
       -- its frames fit, and it uses one at least
       pub going-fits : made + n .0 ≤ room
       going-fits = omega (arith, few, went .frames)
+
+      -- and so do the periods passed over
+      pub going-periods : passed + m ≤ u .held .0
+      going-periods = omega (arith, g .few-periods, passed-le (nextStep u x h) sound, sound-in sound, went .passed)
 
       pub going-further : h .position .0 < p .position .0
       going-further = subst (λ (q : Place). h .position .0 < q .position .0) (sym (went .place)) (further x h (l .ready) (g .in-order .period-in) d)

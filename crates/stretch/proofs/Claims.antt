@@ -1,6 +1,6 @@
 -- What holds of every call's list of steps, for a call that is ready and a period record in the range. Assumes nothing.
-use mathlib.Core.Path.{_≡_, sym, subst}
-use mathlib.Core.Bool.{Bool, true, false, cond}
+use mathlib.Core.Path.{_≡_, refl, sym, subst, _∙_}
+use mathlib.Core.Bool.{Bool, true, false, cond, false≢true}
 use mathlib.Core.List.{List, [], _++_, List·Memᴰ, append-nil}
 use Prim.Native.Nat.{_+_, _*_, _≤_, _<_, zero-le}
 use native.Mathlib.Omega.{arith}
@@ -15,18 +15,26 @@ use Rattle.stretch.specs.declared.Step.{Step}
 use Rattle.stretch.specs.declared.Step.the-variants.{Copied, Inserted}
 use Rattle.stretch.specs.Steps.{framesOut, framesUsed, StretchReady}
 use Rattle.stretch.specs.Speed.{steps, framesMade, samplesOf, lastPlace, stalled, answerFor}
+use Rattle.stretch.proofs.StepOver.{over-never-stalls, off-passes-none}
 use Rattle.stretch.proofs.Taken.{AllSound, steps-sound, member-sound, front-in, sound-length, stalled-member, member-stalled, steps-ends}
 
 module _ {u : StretchCall} (x : List ℤ) (h : Place) (r : StretchReady u) (o : PeriodIn (u .rate) (h .prev)) where
   sound : AllSound u x h (steps u x h)
   sound = steps-sound x h r o
 
-  -- a call stalls exactly when one of its steps gives no frame
-  pub stalled-exactly : (stalled (steps u x h) ≡ true → (s : Step) × List·Memᴰ s (steps u x h) × (framesOut s ≡ 0))
-      × ((s : Step) → List·Memᴰ s (steps u x h) → framesOut s ≡ 0 → stalled (steps u x h) ≡ true)
-  stalled-exactly = (stalled-member (steps u x h), λ s m e. member-stalled (steps u x h) m (member-sound u x h (steps u x h) sound m) e)
+  -- a call stalls exactly when it does not step over and one of its steps gives no frame
+  pub stalled-exactly : (stalled (steps u x h) ≡ true → (u .«step_over» ≡ false) × ((s : Step) × List·Memᴰ s (steps u x h) × (framesOut s ≡ 0)))
+      × (u .«step_over» ≡ false → (s : Step) → List·Memᴰ s (steps u x h) → framesOut s ≡ 0 → stalled (steps u x h) ≡ true)
+  stalled-exactly = (
+    λ e. (off (u .«step_over») refl e, stalled-member (steps u x h) e),
+    λ f s m e. member-stalled (steps u x h) m (member-sound u x h (steps u x h) sound m) (off-passes-none u x h r o f) e,
+  )
+    where
+      off : (t : Bool) → u .«step_over» ≡ t → stalled (steps u x h) ≡ true → t ≡ false
+      off true f e = absurd (false≢true (sym (over-never-stalls u x h r o f) ∙ e))
+      off false f e = refl
 
-  -- every step but a skip gives a frame at least
+  -- every step gives a frame at least, but a skip and a period passed over
   pub frames-some : ((n : Frames) → List·Memᴰ (Copied n) (steps u x h) → 1 ≤ framesOut (Copied n))
       × ((period k : Frames) → List·Memᴰ (Inserted period k) (steps u x h) → 1 ≤ framesOut (Inserted period k))
   frames-some = (

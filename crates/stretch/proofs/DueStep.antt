@@ -1,8 +1,9 @@
 -- The step that is due, by the tests of the code, and the period record after it. Assumes nothing.
 use mathlib.Core.Path.{_≡_, refl}
-use mathlib.Core.Bool.{Bool, true, false, cond}
+use mathlib.Core.Bool.{Bool, true, false, cond, _&&_}
 use mathlib.Core.List.{List}
 use Prim.Native.Nat.{_-_}
+use lib.Dec.{eqb}
 use lib.IntN.{ℤ}
 use lib.Ieee.{Float, lt}
 use Rattle.frames.specs.declared.Frames.{Frames}
@@ -10,7 +11,7 @@ use Rattle.floats.specs.Numbers.{one}
 use Rattle.floats.specs.Steps.{copyingDue, copyCount, skipCount, insertCount}
 use Rattle.stretch.specs.declared.StretchCall.{StretchCall}
 use Rattle.stretch.specs.declared.Place.{Place}
-use Rattle.stretch.specs.declared.Step.the-variants.{Copied, Skipped, Inserted}
+use Rattle.stretch.specs.declared.Step.the-variants.{Copied, Skipped, Inserted, Passed}
 use Rattle.stretch.specs.Steps.{searchAt, periodStep, nextStep, prevAfter}
 
 module _ (u : StretchCall) (x : List ℤ) (h : Place) where
@@ -19,17 +20,20 @@ module _ (u : StretchCall) (x : List ℤ) (h : Place) where
   unfolding nextStep
   nextStep-copied e = rw e
 
-  pub nextStep-searched : copyingDue (u .speed) (h .«time_error») ≡ false → nextStep u x h ≡ periodStep (u .speed) (searchAt u x h .period)
+  pub nextStep-searched : copyingDue (u .speed) (h .«time_error») ≡ false → nextStep u x h ≡ periodStep (u .speed) (u .«step_over») (searchAt u x h .period)
   unfolding nextStep
   nextStep-searched e = rw e
 
-  -- both steps of a period take the record of the search
-  pub prevAfter-period : (s : Float) (period : Frames) → prevAfter u x h (periodStep s period) ≡ searchAt u x h .prev
+  -- every step of a period takes the record of the search
+  pub prevAfter-period : (s : Float) (over : Bool) (period : Frames) → prevAfter u x h (periodStep s over period) ≡ searchAt u x h .prev
   unfolding prevAfter
-  prevAfter-period s period = go (lt one s)
+  prevAfter-period s over period = go (lt one s) (over && eqb (skipCount s (period .0)) 0)
     where
-      go : (t : Bool)
-          → prevAfter u x h (cond t (Skipped period (record { 0 = skipCount s (period .0) })) (Inserted period (record { 0 = insertCount s (period .0) })))
+      go : (t b : Bool)
+          → prevAfter u x h
+          (cond t (cond b (Passed period) (Skipped period (record { 0 = skipCount s (period .0) })))
+          (Inserted period (record { 0 = insertCount s (period .0) })))
           ≡ searchAt u x h .prev
-      go true = refl
-      go false = refl
+      go true true = refl
+      go true false = refl
+      go false b = refl

@@ -6,6 +6,7 @@ pub mod Between
 pub mod Outcome
 pub mod Taken
 pub mod Balance
+pub mod StepOver
 pub mod Claims
 pub mod Framed
 pub mod Figures

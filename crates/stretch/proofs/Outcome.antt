@@ -16,14 +16,14 @@ use Rattle.stretch.specs.declared.Stretched.the-variants.{Made, Full}
 use Rattle.stretch.specs.Speed.{steps, framesMade, samplesOf, answer, answerFor, changeSpeed, Staged}
 use Rattle.stretch.proofs.Between.{Ended}
 
-module _ {u : StretchCall} {x : List ℤ} {h₀ : Place} {stage₀ stage : List ℤ} {to room : ℕ} {h : Place} {made : ℕ} {t : Bool}
-    (e : Ended u x h₀ stage₀ stage to room h made t) where
-  pub ended-made : Made (answer made (cond t 0 (h .position .0)) h t) ≡ changeSpeed u x h₀ room
+module _ {u : StretchCall} {x : List ℤ} {h₀ : Place} {stage₀ stage : List ℤ} {to room : ℕ} {h : Place} {made passed : ℕ} {t : Bool}
+    (e : Ended u x h₀ stage₀ stage to room h made passed t) where
+  pub ended-made : Made (answer made (cond t 0 (h .position .0)) passed h t) ≡ changeSpeed u x h₀ room
   unfolding changeSpeed answerFor
   ended-made =
       let fits : framesMade (steps u x h₀) ≤ room = omega (arith, e .frames, e .fits) in
       sym (rw (le-ltb room (framesMade (steps u x h₀)) fits)
-      (λ i. Made (answer (e .frames i) (cond (e .stall i) 0 (e .place i .position .0)) (e .place i) (e .stall i))))
+      (λ i. Made (answer (e .frames i) (cond (e .stall i) 0 (e .place i .position .0)) (e .periods i) (e .place i) (e .stall i))))
 
   pub ended-staged : Staged u x h₀ room stage₀ stage to
   ended-staged =

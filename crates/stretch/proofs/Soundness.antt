@@ -1,11 +1,12 @@
 -- The step that is due is sound: it uses a frame at least and stays within the frames held; and the period record after it is in the range.
 -- Assumes nothing.
 use mathlib.Core.Path.{_≡_, refl, sym, subst}
-use mathlib.Core.Bool.{Bool, true, false, cond}
+use mathlib.Core.Bool.{Bool, true, false, cond, _&&_}
 use mathlib.Core.List.{List}
 use Prim.Native.Nat.{ℕ, _+_, _-_, _*_, _≤_}
-use native.Mathlib.Nat.{le-refl, le-trans, add-mul, mul-le-mul-right}
+use native.Mathlib.Nat.{le-refl, le-trans, zero-mul, add-mul, mul-le-mul-right}
 use native.Mathlib.Omega.{arith}
+use lib.Dec.{eqb}
 use lib.IntN.{ℤ}
 use lib.Ieee.{Float, lt}
 use lib.ListN.{length, drop, length-append}
@@ -19,8 +20,8 @@ use Rattle.period.proofs.Record.{findPitchPeriod-in, findPitchPeriod-record-in}
 use Rattle.stretch.specs.declared.StretchCall.{StretchCall}
 use Rattle.stretch.specs.declared.Place.{Place}
 use Rattle.stretch.specs.declared.Step.{Step}
-use Rattle.stretch.specs.declared.Step.the-variants.{Copied, Skipped, Inserted}
-use Rattle.stretch.specs.Steps.{searchAt, nextStep, framesOut, framesUsed, framesRead, samplesOut, prevAfter, placeAfter, after, StretchReady, Sound}
+use Rattle.stretch.specs.declared.Step.the-variants.{Copied, Skipped, Inserted, Passed}
+use Rattle.stretch.specs.Steps.{searchAt, nextStep, framesOut, framesUsed, framesRead, periodsPassed, samplesOut, prevAfter, placeAfter, after, StretchReady, Sound}
 use Rattle.crossfade.specs.Crossfade.{skipPitchPeriod, insertPitchPeriod}
 use Rattle.crossfade.proofs.Crossfading.{overlapAdd-length, copyUnmodifiedSamples-length}
 use Rattle.stretch.proofs.DueStep.{nextStep-copied, nextStep-searched}
@@ -41,6 +42,7 @@ module _ {u : StretchCall} (x : List ℤ) (h : Place) (r : StretchReady u) (o : 
   record-in (Copied n) = o
   record-in (Skipped period k) = found-in
   record-in (Inserted period k) = found-in
+  record-in (Passed period) = found-in
 
   -- the period record after any step is in the range
   pub after-in : (s : Step) → PeriodIn (u .rate) (after u x h s .prev)
@@ -65,15 +67,20 @@ module _ {u : StretchCall} (x : List ℤ) (h : Place) (r : StretchReady u) (o : 
           short = omega arith;
         }
 
-    period-sound : (s : Float) (t : Bool) → (let p = searchAt u x h .period in
-        Here (cond t (Skipped p (record { 0 = skipCount s (p .0) })) (Inserted p (record { 0 = insertCount s (p .0) }))))
-    period-sound s true =
+    period-sound : (s : Float) (t b : Bool) → (let p = searchAt u x h .period in
+        Here (cond t (cond b (Passed p) (Skipped p (record { 0 = skipCount s (p .0) }))) (Inserted p (record { 0 = insertCount s (p .0) }))))
+    period-sound s true true =
+        let i = period-in in
+        let low = r .opened .rate-low in
+        let high = r .opened .rate-high in
+        record { some = omega (arith, i .low); within = omega (arith, i .high); short = omega arith }
+    period-sound s true false =
         let i = period-in in
         let low = r .opened .rate-low in
         let high = r .opened .rate-high in
         let k = skipCount-le s (searchAt u x h .period .0) (omega (arith, i .high)) in
         record { some = omega (arith, i .low); within = omega (arith, i .high); short = omega (arith, i .high) }
-    period-sound s false =
+    period-sound s false b =
         let i = period-in in
         let low = r .opened .rate-low in
         let high = r .opened .rate-high in
@@ -82,7 +89,8 @@ module _ {u : StretchCall} (x : List ℤ) (h : Place) (r : StretchReady u) (o : 
 
     by-test : (t : Bool) → copyingDue (u .speed) (h .«time_error») ≡ t → Here (nextStep u x h)
     by-test true e = subst Here (sym (nextStep-copied u x h e)) (copied-sound e)
-    by-test false e = subst Here (sym (nextStep-searched u x h e)) (period-sound (u .speed) (lt one (u .speed)))
+    by-test false e = subst Here (sym (nextStep-searched u x h e))
+        (period-sound (u .speed) (lt one (u .speed)) (u .«step_over» && eqb (skipCount (u .speed) (searchAt u x h .period .0)) 0))
 
     pub nextStep-sound : Sound (u .held .0) (h .position .0) (nextStep u x h)
     nextStep-sound = by-test (copyingDue (u .speed) (h .«time_error»)) refl
@@ -93,11 +101,20 @@ framesUsed-le : (s : Step) → framesUsed s ≤ framesRead s
 framesUsed-le (Copied n) = le-refl (n .0)
 framesUsed-le (Skipped period k) = le-refl (period .0 + k .0)
 framesUsed-le (Inserted period k) = omega arith
+framesUsed-le (Passed period) = le-refl (period .0)
 
 pub framesOut-le : (s : Step) → framesOut s ≤ framesRead s
 framesOut-le (Copied n) = le-refl (n .0)
 framesOut-le (Skipped period k) = omega arith
 framesOut-le (Inserted period k) = le-refl (period .0 + k .0)
+framesOut-le (Passed period) = omega arith
+
+-- a period passed over has a frame at least
+pub passed-le : {held at : ℕ} (s : Step) → Sound held at s → periodsPassed s ≤ framesUsed s
+passed-le (Copied n) r = omega arith
+passed-le (Skipped period k) r = omega arith
+passed-le (Inserted period k) r = omega arith
+passed-le (Passed period) r = r .some
 
 -- as many samples as frames out
 pub samplesOut-length : {held at : ℕ} (s : Step) (channels : ℕ) (x : List ℤ) → Sound held at s → held * channels ≤ length x
@@ -111,6 +128,7 @@ samplesOut-length {held} {at} (Inserted period k) channels x r h =
     let low : at + period .0 ≤ held = omega (arith, r .within) in
     let copied = copyUnmodifiedSamples-length channels x at (period .0) (le-trans (mul-le-mul-right channels low) h) in
     rw length-append (omega (arith, copied, fade, add-mul (period .0) (k .0) channels))
+samplesOut-length {held} {at} (Passed period) channels x r h = sym (zero-mul channels)
 
 -- the position after it is within the frames held
 pub sound-in : {held at : ℕ} {s : Step} → Sound held at s → at + framesUsed s ≤ held

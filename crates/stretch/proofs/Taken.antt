@@ -15,8 +15,8 @@ use Rattle.period.specs.Pitch.{PeriodIn}
 use Rattle.stretch.specs.declared.StretchCall.{StretchCall}
 use Rattle.stretch.specs.declared.Place.{Place}
 use Rattle.stretch.specs.declared.Step.{Step}
-use Rattle.stretch.specs.declared.Step.the-variants.{Copied, Skipped, Inserted}
-use Rattle.stretch.specs.Steps.{framesOut, framesUsed, stalls, samplesOut, after, placeAfter, StretchReady, Sound}
+use Rattle.stretch.specs.declared.Step.the-variants.{Copied, Skipped, Inserted, Passed}
+use Rattle.stretch.specs.Steps.{framesOut, framesUsed, periodsPassed, stalls, samplesOut, after, placeAfter, StretchReady, Sound}
 use Rattle.stretch.specs.Tally.{tally}
 use Rattle.stretch.specs.Speed.{steps, framesMade, samplesOf, lastPlace, stalled}
 use Rattle.stretch.proofs.Soundness.{nextStep-sound, samplesOut-length, sound-in}
@@ -59,12 +59,13 @@ module _ (u : StretchCall) (x : List ℤ) where
       ∙ (λ i. samplesOut-length s (u .channels) x (a .0) k i + sound-length (after u x h s) ss (a .1) k i)
       ∙ sym (add-mul (framesOut s) (framesMade ss) (u .channels))
 
--- ---- a step that gives no frame is a skip with k = 0, and that is a stall
+-- ---- a step that gives no frame is a skip with k = 0, and that is a stall unless it is passed over
 
 stalls-none : (s : Step) → stalls s ≡ true → framesOut s ≡ 0
 stalls-none (Copied n) e = absurd (false≢true e)
 stalls-none (Skipped period k) e = eqb-true (k .0) 0 e
 stalls-none (Inserted period k) e = absurd (false≢true e)
+stalls-none (Passed period) e = absurd (false≢true e)
 
 some-zero : (n : ℕ) → 1 ≤ n → n ≡ 0 → ⊥
 some-zero n h e = omega arith
@@ -72,10 +73,11 @@ some-zero n h e = omega arith
 sum-zero : (a b : ℕ) → 1 ≤ b → a + b ≡ 0 → ⊥
 sum-zero a b h e = omega arith
 
-none-stalls : {held at : ℕ} (s : Step) → Sound held at s → framesOut s ≡ 0 → stalls s ≡ true
-none-stalls (Copied n) r e = absurd (some-zero (n .0) (r .some) e)
-none-stalls (Skipped period k) r e = eq-eqb (k .0) 0 e
-none-stalls (Inserted period k) r e = absurd (sum-zero (period .0) (k .0) (r .some) e)
+none-stalls : {held at : ℕ} (s : Step) → Sound held at s → periodsPassed s ≡ 0 → framesOut s ≡ 0 → stalls s ≡ true
+none-stalls (Copied n) r p e = absurd (some-zero (n .0) (r .some) e)
+none-stalls (Skipped period k) r p e = eq-eqb (k .0) 0 e
+none-stalls (Inserted period k) r p e = absurd (sum-zero (period .0) (k .0) (r .some) e)
+none-stalls (Passed period) r p e = absurd (some-zero 1 (omega arith) p)
 
 or-cases : (a b : Bool) → (a || b) ≡ true → (a ≡ true) ⊎ (b ≡ true)
 or-cases true b e = inl refl
@@ -88,12 +90,15 @@ stalled-member (s ∷ ss) e =
     ⊎-elim (λ f. (s, List·Memᴰ·head refl, stalls-none s f)) (λ f. let m = stalled-member ss f in (m .0, List·Memᴰ·tail (m .1), m .2))
     (or-cases (stalls s) (stalled ss) e)
 
-pub member-stalled : {held : ℕ} (ss : List Step) {s : Step} → List·Memᴰ s ss → (at : ℕ) × Sound held at s → framesOut s ≡ 0 → stalled ss ≡ true
-unfolding stalled
-member-stalled [] m r e = absurd (List·Memᴰ·not-nil m)
-member-stalled (t ∷ ss) {s} m r e =
-    ⊎-elim (λ f. let here : stalls t ≡ true = ap stalls (sym f) ∙ none-stalls s (r .1) e in rw here)
-    (λ n. let later = member-stalled ss n r e in rw later (or-true (stalls t))) (List·Memᴰ·cases-cons m)
+pub member-stalled : {held : ℕ} (ss : List Step) {s : Step} → List·Memᴰ s ss → (at : ℕ) × Sound held at s → tally ss .passed ≡ 0 → framesOut s ≡ 0
+    → stalled ss ≡ true
+unfolding stalled tally
+member-stalled [] m r p e = absurd (List·Memᴰ·not-nil m)
+member-stalled (t ∷ ss) {s} m r p e =
+    let none : periodsPassed t ≡ 0 = omega arith in
+    let none-later : tally ss .passed ≡ 0 = omega arith in
+    ⊎-elim (λ f. let here : stalls t ≡ true = ap stalls (sym f) ∙ none-stalls s (r .1) (ap periodsPassed f ∙ none) e in rw here)
+    (λ n. let later = member-stalled ss n r none-later e in rw later (or-true (stalls t))) (List·Memᴰ·cases-cons m)
 
 -- ---- where no step stalls, the list ends because too few frames are left
 

@@ -14,16 +14,17 @@ use Rattle.stretch.specs.declared.Place.{Place}
 use Rattle.stretch.specs.declared.Step.{Step}
 use Rattle.stretch.specs.declared.Turn.{Turn}
 use Rattle.stretch.specs.declared.Turn.the-variants.{NoRoom, Went}
-use Rattle.stretch.specs.Steps.{framesOut, stalls, samplesOut, after, turnFor, stageFor}
+use Rattle.stretch.specs.Steps.{framesOut, periodsPassed, stalls, samplesOut, after, turnFor, stageFor}
 
 zero-one : _≡_ {A = ℕ} 0 1 → ⊥
 zero-one z = omega arith
 
--- a turn that went on: the step's frames fit, the place after it, its frames, and whether it stalls
-pub record Gone (u : StretchCall) (x : List ℤ) (h : Place) (room : ℕ) (s : Step) (p : Place) (n : Frames) (t : Bool) : Type 0 where
+-- a turn that went on: the step's frames fit, the place after it, its frames, the periods passed over, and whether it stalls
+pub record Gone (u : StretchCall) (x : List ℤ) (h : Place) (room : ℕ) (s : Step) (p : Place) (n : Frames) (m : ℕ) (t : Bool) : Type 0 where
   pub fits : framesOut s ≤ room
   pub place : p ≡ after u x h s
   pub frames : n .0 ≡ framesOut s
+  pub passed : m ≡ periodsPassed s
   pub stall : t ≡ stalls s
 
 module _ (u : StretchCall) (x : List ℤ) (h : Place) (room : ℕ) (s : Step) where
@@ -34,19 +35,19 @@ module _ (u : StretchCall) (x : List ℤ) (h : Place) (room : ℕ) (s : Step) wh
   pub no-room : turnFor u x h room s ≡ NoRoom → room < framesOut s
   unfolding turnFor
   no-room e =
-      no-room-cases (ltb room (framesOut s)) (Went (after u x h s) (record { 0 = framesOut s }) (stalls s)) refl e
+      no-room-cases (ltb room (framesOut s)) (Went (after u x h s) (record { 0 = framesOut s }) (periodsPassed s) (stalls s)) refl e
       (λ f. let z : _≡_ {A = ℕ} 0 1 = cc in zero-one z)
 
-  gone-cases : (b : Bool) (p : Place) (n : Frames) (t : Bool) → ltb room (framesOut s) ≡ b
-      → cond b NoRoom (Went (after u x h s) (record { 0 = framesOut s }) (stalls s)) ≡ Went p n t → Gone u x h room s p n t
-  gone-cases true p n t e f = let z : _≡_ {A = ℕ} 0 1 = cc in absurd (zero-one z)
-  gone-cases false p n t e f =
-      let m : n ≡ record { 0 = framesOut s } = cc in
-      record { fits = ltb-false room (framesOut s) e; place = cc; frames = ap (λ (k : Frames). k .0) m; stall = cc }
+  gone-cases : (b : Bool) (p : Place) (n : Frames) (m : ℕ) (t : Bool) → ltb room (framesOut s) ≡ b
+      → cond b NoRoom (Went (after u x h s) (record { 0 = framesOut s }) (periodsPassed s) (stalls s)) ≡ Went p n m t → Gone u x h room s p n m t
+  gone-cases true p n m t e f = let z : _≡_ {A = ℕ} 0 1 = cc in absurd (zero-one z)
+  gone-cases false p n m t e f =
+      let k : n ≡ record { 0 = framesOut s } = cc in
+      record { fits = ltb-false room (framesOut s) e; place = cc; frames = ap (λ (f : Frames). f .0) k; passed = cc; stall = cc }
 
-  pub gone : {p : Place} {n : Frames} {t : Bool} → turnFor u x h room s ≡ Went p n t → Gone u x h room s p n t
+  pub gone : {p : Place} {n : Frames} {m : ℕ} {t : Bool} → turnFor u x h room s ≡ Went p n m t → Gone u x h room s p n m t
   unfolding turnFor
-  gone {p} {n} {t} e = gone-cases (ltb room (framesOut s)) p n t refl e
+  gone {p} {n} {m} {t} e = gone-cases (ltb room (framesOut s)) p n m t refl e
 
   pub stage-written : (stage : List ℤ) (to : ℕ) → framesOut s ≤ room
       → stageFor u x h room stage to s ≡ paste stage to (samplesOut (u .channels) x (h .position .0) s) (framesOut s * u .channels)

@@ -39,9 +39,12 @@ fn search_at(
 
 // The skip step of a period that gives k frames. Stepping over, one that gives none passes over its period.
 fn skip_step(step_over: bool, period: Frames, k: Frames) -> Step
-    ensures { λ r. ⌜ r ≡ skipStep step_over period k ⌝ }
+    ensures { λ r. ⌜ r ≡ skipStep «step_over» period k ⌝ }
 {
-    if step_over && k.0 == 0 {
+    if !step_over {
+        return Step::Skipped(period, k);
+    }
+    if k.0 == 0 {
         return Step::Passed(period);
     }
     Step::Skipped(period, k)
@@ -50,7 +53,7 @@ fn skip_step(step_over: bool, period: Frames, k: Frames) -> Step
 // The step of a period at local speed s.
 fn period_step(s: f32, step_over: bool, period: Frames) -> Step
     requires { ⌜ (1 ≤ period .0) × (period .0 < 2 ^ 24) ⌝ }
-    ensures { λ r. ⌜ r ≡ periodStep s step_over period ⌝ }
+    ensures { λ r. ⌜ r ≡ periodStep s «step_over» period ⌝ }
 {
     if s > 1.0 {
         let k = floats::steps::skip_count(s, period);

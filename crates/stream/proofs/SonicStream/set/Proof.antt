@@ -1,7 +1,8 @@
 -- `stream::SonicStream::set` meets its contract: places, what a stream in order shows, the answers, what is closed by search. Assumes nothing.
 use borrow.Author.Needs.{needs}
-use mathlib.Core.Path.{_≡_, sym, _∙_}
-use mathlib.Core.Bool.{true}
+use mathlib.Core.Path.{_≡_, refl, sym, _∙_}
+use mathlib.Core.Bool.{Bool, true, false, cond}
+use mir.Val.{boolByte}
 use Rattle.frames.proofs.Framing.{length-framesOf}
 use Rattle.floats.specs.Settings.{samplePeriod}
 use Rattle.stream.specs.Refusals.{inOrder}
@@ -24,6 +25,10 @@ good c =
     good-of (o .before .args .self) _ (sym (o .ordered .ensures) ∙ c .before .order .given .1)
 
 -- ---- the answers
+
+number-of : (on : Bool) → boolByte on ≡ cond on 1 0
+number-of true = refl
+number-of false = refl
 
 returns : tie.Need-returns
 unfolding setCall
@@ -51,6 +56,13 @@ returns-4 c =
     let v = c .before .before in
     let g = good (v .before .before) in
     simp (g .0, g .1, v .setting3 .given .1, c .clamp3 .ensures, length-framesOf)
+
+returns-5 : tie.Need-returns-5
+unfolding setCall withSetting streamOf stateOf
+returns-5 c =
+    let v = c .before in
+    let g = good (v .before .before) in
+    simp (g .0, g .1, v .setting4 .given .1, number-of, length-framesOf)
 
 -- ---- closed by search
 
@@ -81,6 +93,12 @@ enum-known-setting-3 c = search needs
 clamp-requires-3 : tie.Need-clamp-requires-3
 clamp-requires-3 c κs = search needs
 
+enum-known-setting-4 : tie.Need-enum-known-setting-4
+enum-known-setting-4 c = search needs
+
+cast-self : tie.Need-cast-self
+cast-self c = search needs
+
 pub set-spec : {M : Type 1} → statement M
 set-spec =
     tie.close
@@ -95,6 +113,9 @@ set-spec =
     clamp-requires-2
     enum-known-setting-3
     clamp-requires-3
+    enum-known-setting-4
+    cast-self
     returns-2
     returns-3
-    returns-4)
+    returns-4
+    returns-5)

@@ -1,12 +1,14 @@
 -- `stretch::samples::write_step` meets its contract, case by case. Assumes nothing.
 use borrow.Author.Needs.{needs}
-use mathlib.Core.Path.{_≡_, subst}
+use mathlib.Core.Path.{_≡_, sym, ap, _∙_, subst}
+use mathlib.Core.List.{[]}
 use Prim.Native.Nat.{_+_, _*_, _≤_}
+use native.Mathlib.Nat.{zero-mul}
 use lib.ListN.{length}
+use lib.Seq.{paste, paste-zero}
 use Rattle.stretch.specs.declared.Step.{Step}
 use Rattle.search.specs.Search.{longestPeriod}
 use Rattle.stretch.specs.Steps.{framesOut, framesRead, crossfaded, samplesOut}
-use borrow.Author.Needs.{needs}
 use Rattle.stretch.proofs.samples.write_step.Statement.{statement}
 use Rattle.stretch.proofs.samples.write_step.Tie as tie
 
@@ -38,6 +40,9 @@ enum-known-step-3 c = search needs
 insert-pitch-period-requires : tie.Need-insert-pitch-period-requires
 insert-pitch-period-requires c κs = asked (c .before .before .before .before) (c .before .before .step3 .given .1)
 
+enum-told : tie.Need-enum-told
+enum-told c = search needs
+
 same-length : tie.Need-same-length
 same-length c = search needs
 
@@ -59,6 +64,12 @@ returns-3 : tie.Need-returns-3
 unfolding samplesOut
 returns-3 c = rw (c .before .before .before .before .step3 .given .1) (c .before .insert-pitch-period .ensures)
 
+returns-4 : tie.Need-returns-4
+unfolding samplesOut
+returns-4 c =
+    let a = c .before .before .args in
+    rw (c .enum-told .given .1) (paste-zero (a .stage .now) (a .to .0) [] ∙ ap (paste (a .stage .now) (a .to .0) []) (sym (zero-mul (a .channels))))
+
 pub write-step-spec : {M : Type 1} → statement M
 write-step-spec =
     tie.close
@@ -69,9 +80,11 @@ write-step-spec =
     skip-pitch-period-requires
     enum-known-step-3
     insert-pitch-period-requires
+    enum-told
     same-length
     returns
     same-length-2
     returns-2
     same-length-3
-    returns-3)
+    returns-3
+    returns-4)

@@ -16,7 +16,7 @@ use Rattle.stretch.specs.Steps.{nextStep, turnFor, stageFor}
 use Rattle.stretch.specs.Speed.{begun}
 use Rattle.stretch.proofs.Progress.{required-some}
 use Rattle.stretch.proofs.Between.{StretchLent, Going, going-start, going-room, going-end, going-full, going-full-kept}
-use Rattle.stretch.proofs.Between.{going-on, going-stall, going-fits, going-further}
+use Rattle.stretch.proofs.Between.{going-on, going-stall, going-fits, going-periods, going-further}
 use Rattle.stretch.proofs.Outcome.{ended-made, ended-staged, full-made, full-staged}
 use Rattle.stretch.proofs.speed.change_speed.Statement.{statement}
 use Rattle.stretch.proofs.speed.change_speed.Tie as tie
@@ -24,11 +24,11 @@ use Rattle.stretch.proofs.speed.change_speed.Tie as tie
 -- ---- the invariant
 
 abbrev Inv-loop : tie.InvT-loop
-Inv-loop input call time-error stage₀ scratch₀ required held all first place₀ made₀ stage scratch place made =
-    Going call input place₀ stage₀ stage first all place made × (length stage ≡ length stage₀) × (length scratch ≡ length scratch₀)
+Inv-loop input call time-error stage₀ scratch₀ required held all first place₀ made₀ passed₀ stage scratch place made passed =
+    Going call input place₀ stage₀ stage first all place made passed × (length stage ≡ length stage₀) × (length scratch ≡ length scratch₀)
 
 abbrev μ-loop : tie.MeasureT-loop
-μ-loop input call time-error stage₀ scratch₀ required held all first place₀ made₀ stage scratch place made = held - place .position .0
+μ-loop input call time-error stage₀ scratch₀ required held all first place₀ made₀ passed₀ stage scratch place made passed = held - place .position .0
 
 -- ---- places, and what is known there
 
@@ -94,7 +94,7 @@ module _ (c : tie.After-turn Inv-loop μ-loop) where
   abbrev from : tie.Then1 Inv-loop μ-loop
   from = begun-at turned
 
-  went : turn-due turned ≡ Went (c .turn .given .0 .0) (c .turn .given .0 .1 .0) (c .turn .given .0 .1 .1 .0)
+  went : turn-due turned ≡ Went (c .turn .given .0 .0) (c .turn .given .0 .1 .0) (c .turn .given .0 .1 .1 .0) (c .turn .given .0 .1 .1 .1 .0)
   went = gave turned _ (c .turn .given .1)
 
 -- the test whether it stalled
@@ -162,6 +162,13 @@ add-made c =
     let fits = going-fits (lent b) (here (from v) .loop .inv .0) (due (from v)) (went v) (wrote (turned v)) (turned v .take-step .ensures .2) in
     let few = count-le (b .args .call .channels) (b .args .room .0) (b .pre .0 .opened .channels-low) in
     record { fits = omega (arith, fits, few, lent b .area) }
+
+add-passed : tie.Need-add-passed Inv-loop μ-loop
+add-passed c =
+    let v = gone c in
+    let b = start (from v) in
+    let few = going-periods (lent b) (here (from v) .loop .inv .0) (due (from v)) (went v) (wrote (turned v)) (turned v .take-step .ensures .2) in
+    record { fits = omega (arith, few, b .pre .0 .few) }
 
 same-length-3 : tie.Need-same-length-3 Inv-loop μ-loop
 same-length-3 c = let v = gone (c .before .before) in turned v .take-step .kept .1 .1 .1 .0 ∙ here (from v) .loop .inv .1
@@ -231,5 +238,5 @@ pub change-speed-spec : {M : Type 1} → statement M
 change-speed-spec =
     tie.close
     (tie.spec Inv-loop μ-loop max-required-requires loop-holds add-if1 samples-requires add-at sub-left take-step-requires enum-told same-length
-    same-length-2 returns enum-known-turn add-made answer-requires same-length-3 same-length-4 returns-2 loop-less loop-again answer-requires-2
+    same-length-2 returns enum-known-turn add-made add-passed answer-requires same-length-3 same-length-4 returns-2 loop-less loop-again answer-requires-2
     same-length-5 same-length-6 returns-3)

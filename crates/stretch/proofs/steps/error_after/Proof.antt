@@ -1,6 +1,6 @@
 -- `stretch::steps::error_after` meets its contract, case by case. Assumes nothing.
 use borrow.Author.Needs.{needs}
-use mathlib.Core.Path.{_≡_, subst}
+use mathlib.Core.Path.{_≡_, sym, ap, subst}
 use Prim.Native.Nat.{_≤_, _^_}
 use Rattle.stretch.specs.declared.Step.{Step}
 use Rattle.stretch.specs.Steps.{framesRead, errorAfter}
@@ -29,6 +29,9 @@ enum-known-step-3 c = search needs
 error-inserted-requires : tie.Need-error-inserted-requires
 error-inserted-requires c κs = (search needs, short (c .before .before .before .before) (c .before .step3 .given .1))
 
+enum-told : tie.Need-enum-told
+enum-told c = search needs
+
 returns : tie.Need-returns
 unfolding errorAfter
 returns c = rw (c .before .before .step .given .1) (c .error-copied .ensures)
@@ -41,6 +44,10 @@ returns-3 : tie.Need-returns-3
 unfolding errorAfter
 returns-3 c = rw (c .before .before .step3 .given .1) (c .error-inserted .ensures)
 
+returns-4 : tie.Need-returns-4
+unfolding errorAfter
+returns-4 c = rw (c .enum-told .given .1)
+
 pub error-after-spec : {M : Type 1} → statement M
 error-after-spec =
     tie.close
@@ -51,6 +58,8 @@ error-after-spec =
     error-skipped-requires
     enum-known-step-3
     error-inserted-requires
+    enum-told
     returns
     returns-2
-    returns-3)
+    returns-3
+    returns-4)

@@ -23,6 +23,9 @@ add-t7 c =
     let e : framesOut (b .args .step) ≡ g .0 .0 .0 + g .0 .1 .0 .0 = ap framesOut (g .1) in
     record { fits = omega (arith, e, b .pre) }
 
+enum-told : tie.Need-enum-told
+enum-told c = search needs
+
 returns : tie.Need-returns
 returns c = search needs
 
@@ -32,6 +35,9 @@ returns-2 c = search needs
 returns-3 : tie.Need-returns-3
 returns-3 c = sym (ap framesOut (c .before .before .before .step3 .given .1))
 
+returns-4 : tie.Need-returns-4
+returns-4 c = search needs
+
 pub frames-out-spec : {M : Type 1} → statement M
 frames-out-spec =
     tie.close
@@ -40,6 +46,8 @@ frames-out-spec =
     enum-known-step-2
     enum-known-step-3
     add-t7
+    enum-told
     returns
     returns-2
-    returns-3)
+    returns-3
+    returns-4)

@@ -13,8 +13,8 @@ enum-known-step c = search needs
 enum-known-step-2 : tie.Need-enum-known-step-2
 enum-known-step-2 c = search needs
 
-add-t7 : tie.Need-add-t7
-add-t7 c =
+add-t8 : tie.Need-add-t8
+add-t8 c =
     let b = c .before .before .before .before .before in
     let g = c .before .before .before .step2 .given in
     let e : framesUsed (b .args .step) ≡ g .0 .0 .0 + g .0 .1 .0 .0 = ap framesUsed (g .1) in
@@ -22,6 +22,9 @@ add-t7 c =
 
 enum-known-step-3 : tie.Need-enum-known-step-3
 enum-known-step-3 c = search needs
+
+enum-known-step-4 : tie.Need-enum-known-step-4
+enum-known-step-4 c = search needs
 
 returns : tie.Need-returns
 returns c = search needs
@@ -32,14 +35,19 @@ returns-2 c = sym (ap framesUsed (c .before .before .before .step2 .given .1))
 returns-3 : tie.Need-returns-3
 returns-3 c = search needs
 
+returns-4 : tie.Need-returns-4
+returns-4 c = search needs
+
 pub frames-used-spec : {M : Type 1} → statement M
 frames-used-spec =
     tie.close
     (tie.spec
     enum-known-step
     enum-known-step-2
-    add-t7
+    add-t8
     enum-known-step-3
+    enum-known-step-4
     returns
     returns-2
-    returns-3)
+    returns-3
+    returns-4)

@@ -86,9 +86,9 @@ returns-2 c =
     let x = a .input .now in
     let due = nextStep-searched (a .call) x (a .place) (not-copying found) in
     let step : c .period-step .result ≡ nextStep (a .call) x (a .place) =
-    c .period-step .ensures ∙ ap (λ (z : Chosen). periodStep (a .call .speed) (z .period)) (searched found) ∙ sym due in
+    c .period-step .ensures ∙ ap (λ (z : Chosen). periodStep (a .call .speed) (a .call .«step_over») (z .period)) (searched found) ∙ sym due in
     let period = searchAt (a .call) x (a .place) .period in
-    let same = ap (prevAfter (a .call) x (a .place)) due ∙ prevAfter-period (a .call) x (a .place) (a .call .speed) period in
+    let same = ap (prevAfter (a .call) x (a .place)) due ∙ prevAfter-period (a .call) x (a .place) (a .call .speed) (a .call .«step_over») period in
     (step, ap (λ (z : Chosen). z .prev) (searched found) ∙ sym same, found .search-at .ensures .2)
 
 -- ---- what search closes

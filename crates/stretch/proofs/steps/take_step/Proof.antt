@@ -8,7 +8,7 @@ use borrow.Author.Tests.{lt-ltb, le-ltb}
 use Rattle.period.specs.Pitch.{PrevInOrder}
 use Rattle.stretch.specs.declared.Step.{Step}
 use Rattle.stretch.specs.declared.Turn.the-variants.{Went}
-use Rattle.stretch.specs.Steps.{nextStep, framesOut, stalls, prevAfter, placeAfter, after, turnFor, stageFor, Sound}
+use Rattle.stretch.specs.Steps.{nextStep, framesOut, periodsPassed, stalls, prevAfter, placeAfter, after, turnFor, stageFor, Sound}
 use Rattle.stretch.proofs.Soundness.{nextStep-sound, framesOut-le}
 use Rattle.stretch.proofs.steps.take_step.Statement.{statement}
 use Rattle.stretch.proofs.steps.take_step.Tie as tie
@@ -88,15 +88,16 @@ place-after-requires c κs =
 returns-2 : tie.Need-returns-2
 unfolding turnFor stageFor
 returns-2 c =
-    let w = c .before .before in
+    let w = c .before .before .before in
     let f = counted (fitting w .before) in
     let n = stepped f in
     let a = start n .args in
     let is = n .next-step .ensures .0 in
     let t = le-ltb (a .room .0) (framesOut (step n)) (omega (arith, out f, fitting w .if1 .left)) in
-    let place = c .before .place-after .ensures ∙ next-is n in
+    let place = c .before .before .place-after .ensures ∙ next-is n in
+    let periods : c .before .periods-passed .result ≡ periodsPassed (step n) = c .before .periods-passed .ensures ∙ ap periodsPassed is in
     let stall : c .stalls .result ≡ stalls (step n) = c .stalls .ensures ∙ ap stalls is in (
-      rw t (λ i. Went (place i) (record { 0 = out f i }) (stall i)),
+      rw t (λ i. Went (place i) (record { 0 = out f i }) (periods i) (stall i)),
       rw t (rw is at (w .before .write-step .ensures)),
       in-order n,
     )
@@ -108,6 +109,9 @@ next-step-requires c κs = search needs
 
 same-length : tie.Need-same-length
 same-length c = search needs
+
+periods-passed-requires : tie.Need-periods-passed-requires
+periods-passed-requires c κs = search needs
 
 stalls-requires : tie.Need-stalls-requires
 stalls-requires c κs = search needs
@@ -121,5 +125,5 @@ same-length-3 c = search needs
 pub take-step-spec : {M : Type 1} → statement M
 take-step-spec =
     tie.close
-    (tie.spec next-step-requires frames-out-requires same-length returns write-step-requires place-after-requires stalls-requires same-length-2
+    (tie.spec next-step-requires frames-out-requires same-length returns write-step-requires place-after-requires periods-passed-requires stalls-requires same-length-2
     same-length-3 returns-2)
