@@ -1,6 +1,6 @@
 -- The stream of a job: a fresh one with the job's settings. Definitions only. Assumes nothing.
 use Rattle.stream.specs.declared.Setting.{Setting}
-use Rattle.stream.specs.declared.Setting.the-variants.{Speed, Pitch, Volume}
+use Rattle.stream.specs.declared.Setting.the-variants.{Speed, Pitch, Volume, StepOver}
 use Rattle.stream.specs.declared.SonicStream.{SonicStream}
 use Rattle.stream.specs.Stream.{streamOf, unlent}
 use Rattle.stream.specs.Settings.{withSetting}
@@ -10,6 +10,9 @@ use Rattle.jobs.specs.declared.Job.{Job}
 abbrev pub withOne : SonicStream → Setting → SonicStream
 withOne s v = streamOf (withSetting v (unlent s)) (s .waiting .0)
 
--- speed, then pitch, then volume
+-- speed, then pitch, then volume, then whether a period that gives no frame is stepped over
 abbrev pub settled : SonicStream → Job → SonicStream
-settled s j = withOne (withOne (withOne s (Speed (j .speed))) (Pitch (j .pitch))) (Volume (j .volume))
+settled s j =
+    withOne
+    (withOne (withOne (withOne s (Speed (j .speed))) (Pitch (j .pitch))) (Volume (j .volume)))
+    (StepOver (j .«step_over»))

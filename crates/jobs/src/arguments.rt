@@ -1,23 +1,17 @@
-// The arguments: none, `--help`, or rate, channels, speed, pitch and, if wanted, volume; `--status` may stand before
-// them.
+// The arguments behind the options: none, `--help`, or the numbers rate, channels, speed, pitch and, if wanted, volume.
 use crate::Asked;
 use crate::Job;
+use crate::options::Options;
+use crate::options::given;
+use crate::options::is_option;
 use decimal::Digits;
 use decimal::Value;
 use stream::SonicStream;
 ghost use mathlib.Core.Path.{_≡_};
 ghost use Prim.Native.Nat.{_≤_};
 ghost use Rattle.stream.specs.Refusals.{within};
+ghost use Rattle.jobs.specs.declared.Asked.the-variants.{Run as Asked·Run};
 ghost use Rattle.jobs.specs.Arguments.{askedOf, AskedInRange};
-
-// The job when no arguments are given.
-const DEFAULT: Job = Job {
-    rate: 8000,
-    channels: 1,
-    speed: 20.0,
-    pitch: 0.5,
-    volume: 1.0,
-};
 
 // The most bytes of an argument.
 const TEXT: usize = 32;
@@ -43,7 +37,7 @@ fn value(place: usize) -> f32 {
 }
 
 // Whether an argument is this word.
-fn is_word(place: usize, word: &[u8]) -> bool {
+pub(crate) fn is_word(place: usize, word: &[u8]) -> bool {
     let mut text = [0u8; TEXT];
     let n = os::arg(place, &mut text);
     check::same(&text[..n], word)
@@ -82,11 +76,37 @@ fn checked(job: Job) -> Asked
     Asked::Run(job)
 }
 
-// The arguments that stand before the job's.
-fn skipped(with_status: bool) -> usize
-    ensures { λ r. ⌜ r ≤ 1 ⌝ }
+// The job when no numbers are given.
+fn default(options: Options) -> Job
+    ensures { λ r. ⌜ askedOf r ≡ Asked·Run r ⌝ }
 {
-    if with_status { 1 } else { 0 }
+    Job {
+        rate: 8000,
+        channels: 1,
+        speed: 20.0,
+        pitch: 0.5,
+        volume: 1.0,
+        step_over: !options.as_original,
+        map: options.map,
+    }
+}
+
+// The job of the four or five numbers behind the options.
+fn numbers(options: Options, with_volume: bool) -> Asked
+    requires { ⌜ options .before ≤ 5 ⌝ }
+    ensures { λ r. ⌜ AskedInRange r ⌝ }
+{
+    let before = options.before;
+    let volume = if with_volume { value(before + 5) } else { 1.0 };
+    checked(Job {
+        rate: whole(before + 1),
+        channels: whole(before + 2),
+        speed: value(before + 3),
+        pitch: value(before + 4),
+        volume,
+        step_over: !options.as_original,
+        map: options.map,
+    })
 }
 
 // What the arguments ask for, behind `--status` if that is the first.
@@ -94,28 +114,22 @@ pub fn read(with_status: bool) -> Asked
     ensures { λ r. ⌜ AskedInRange r ⌝ }
 {
     let count = os::arg_count();
-    let before = skipped(with_status);
-    if count < before + 2 {
-        return Asked::Run(DEFAULT);
+    let options = given(with_status);
+    let before = options.before;
+    if options.map > 0 && (options.map >= count || is_option(options.map)) {
+        return Asked::Wrong(7);
     }
-    if count == before + 2 {
-        if is_word(before + 1, b"--help") {
-            return Asked::Help;
-        }
+    if count < before + 2 {
+        return Asked::Run(default(options));
+    }
+    if count == before + 2 && is_word(before + 1, b"--help") {
+        return Asked::Help;
+    }
+    if is_option(before + 1) || is_option(before + 5) {
+        return Asked::Wrong(6);
     }
     if count < before + 5 || count > before + 6 {
         return Asked::Wrong(0);
     }
-    let volume = if count == before + 6 {
-        value(before + 5)
-    } else {
-        1.0
-    };
-    checked(Job {
-        rate: whole(before + 1),
-        channels: whole(before + 2),
-        speed: value(before + 3),
-        pitch: value(before + 4),
-        volume,
-    })
+    numbers(options, count == before + 6)
 }

@@ -1,22 +1,28 @@
 // The job that the arguments of the skim tool ask for, and its stream. `specs/Arguments.antt` and `specs/Settings.antt`
 // say what is answered.
 mod arguments;
+mod options;
 mod settling;
 
 pub use arguments::read;
 pub use arguments::wants_status;
+pub use options::open_map;
 pub use settling::settle;
 
-// What a run is to do.
+// What a run is to do: the settings of its stream, and the place of the argument that names the map's file, 0 if none is
+// wanted.
 pub struct Job {
     pub rate: u32,
     pub channels: u32,
     pub speed: f32,
     pub pitch: f32,
     pub volume: f32,
+    pub step_over: bool,
+    pub map: usize,
 }
 
-// Wrong has the place of the argument that cannot be used, 0 for a wrong count of them.
+// Wrong has the place of the number that cannot be used; 0 for a wrong count of them, 6 for an option that is not known
+// or stands where none may, 7 for a map without a name.
 pub enum Asked {
     Help,
     Wrong(usize),

@@ -26,5 +26,6 @@ pub fn settle(fresh: SonicStream, job: Job) -> SonicStream
 {
     let faster = set(fresh, Setting::Speed(job.speed));
     let pitched = set(faster, Setting::Pitch(job.pitch));
-    set(pitched, Setting::Volume(job.volume))
+    let louder = set(pitched, Setting::Volume(job.volume));
+    set(louder, Setting::StepOver(job.step_over))
 }

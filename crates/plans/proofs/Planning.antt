@@ -1,5 +1,6 @@
 -- The sizes that a plan is made of, in this order:
---   period-most, shortest-least, growth-most, fill-most   the periods, the growth and what a write fills the input up to
+--   period-most, shortest-least, shortest-most            the periods
+--   growth-most, fill-most                                the growth, and what a write fills the input up to
 --   mostHeld, mostStaged, mostMade                        the most frames of any stream in order
 --   held-most, staged-most, scaled-most, made-most        that it has no more; samples-most: in so many channels
 --   no-input, no-stage, no-output, planned                the service by the three tests
@@ -39,15 +40,18 @@ unfolding growthOf
 growth-most speed pitch longest =
     omega (arith, min-le-right (toUnsigned 64 (mul binary32 (div binary32 pitch speed) two)) longest)
 
-fill-most : (speed pitch : Float) (shortest required : ℕ) → fillTo speed pitch shortest required ≤ 3 * required
+pub shortest-most : (rate : ℕ) → minPeriod rate ≤ maxRequired rate
+shortest-most rate = omega arith
+
+fill-most : (speed pitch : Float) (shortest required : ℕ) → shortest ≤ required → fillTo speed pitch shortest required ≤ 3 * required
 unfolding fillTo
-fill-most speed pitch shortest required = go (leb shortest s)
+fill-most speed pitch shortest required few = go (leb shortest s)
   where
     s : ℕ
     s = toUnsigned 64 (div binary32 speed pitch)
 
-    go : (b : Bool) → cond b (required + min (s - 1) (2 * required)) (3 * required) ≤ 3 * required
-    go true = omega (arith, min-le-right (s - 1) (2 * required))
+    go : (b : Bool) → cond b (required + (shortest - 1)) (3 * required) ≤ 3 * required
+    go true = omega arith
     go false = omega arith
 
 -- ---- the most frames of any stream in order
@@ -117,7 +121,7 @@ module _ (s : SonicStream) where
       record {
         limits = l;
         block-fits = div-mul-le-self blockSamples (s .channels);
-        full-fits = omega (arith, fill-most (s .speed) (s .pitch) (minPeriod (s .rate)) (maxRequired (s .rate)), period-most l);
+        full-fits = omega (arith, fill-most (s .speed) (s .pitch) (minPeriod (s .rate)) (maxRequired (s .rate)) (shortest-most (s .rate)), period-most l);
       }
 
   pub usable-of : (p : Plan) → InLimits (s .rate) (s .channels) → serviceOf s ≡ Service.Planned p → Usable p

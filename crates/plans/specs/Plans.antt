@@ -42,11 +42,12 @@ tailFrames = 12
 unfoldable pub growthOf : Float → Float → ℕ → ℕ
 growthOf speed pitch longest = min (toUnsigned 64 (mul binary32 (div binary32 pitch speed) two)) longest + 1
 
--- the frames that a write fills the input up to
+-- the frames that a write fills the input up to: where the shortest period might give no frame, so few that a second
+-- step, which looks at `required` frames, is never taken behind one that used the shortest period or more
 unfoldable pub fillTo : Float → Float → ℕ → ℕ → ℕ
 fillTo speed pitch shortest required =
     let s : ℕ = toUnsigned 64 (div binary32 speed pitch) in
-    cond (leb shortest s) (required + min (s - 1) (2 * required)) (3 * required)
+    cond (leb shortest s) (required + (shortest - 1)) (3 * required)
 
 -- the most frames held in a call
 abbrev pub heldMost : SonicStream → ℕ

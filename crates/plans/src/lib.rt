@@ -64,16 +64,17 @@ fn growth(speed: f32, pitch: f32, longest: usize) -> usize
 }
 
 // The frames that a write fills the input up to, at most three times `required`, of which fewer than `required` are
-// left. A period that is shorter than speed/pitch − 1 gives no frame and stalls. Where the shortest might, a rounded
-// speed counted in, each write is to be used up by one step: a period that gives a frame is at least s − 1 long and
-// takes at least s frames. Then a write that stalls makes no frame, and the frames held begin where it stalled.
+// left. A period that is shorter than speed/pitch − 1 gives no frame. Where the shortest might, a rounded speed counted
+// in, a write is to take one step at the most: every step uses the shortest period or more, so that after one, fewer
+// than `required` frames are left. Then a write that stalls makes no frame, and the frames held begin where it stalled;
+// and of a write that passes over a period, the frames that leave the input are that period.
 fn fill_to(speed: f32, pitch: f32, shortest: usize, required: usize) -> usize
-    requires { ⌜ (1 ≤ shortest) × (required ≤ scratchArea) ⌝ }
+    requires { ⌜ (1 ≤ shortest) × (shortest ≤ required) × (required ≤ scratchArea) ⌝ }
     ensures { λ r. ⌜ r ≡ fillTo speed pitch shortest required ⌝ }
 {
     let s = floats::casts::f32_to_usize(speed / pitch);
     if s >= shortest {
-        required + least(s - 1, 2 * required)
+        required + (shortest - 1)
     } else {
         3 * required
     }

@@ -1,7 +1,5 @@
 -- `plans::fill_to` meets its contract. Assumes nothing.
 use borrow.Author.Needs.{needs}
-use mathlib.Core.Path.{ap}
-use Prim.Native.Nat.{ℕ, _+_}
 use native.Mathlib.Omega.{arith}
 use borrow.Author.Tests.{le-leb, lt-leb}
 use Rattle.plans.specs.Plans.{fillTo}
@@ -11,14 +9,8 @@ use Rattle.plans.proofs.fill_to.Tie as tie
 f32-to-usize-requires : tie.Need-f32-to-usize-requires
 f32-to-usize-requires c κs = search needs
 
-sub-least : tie.Need-sub-least
-sub-least c = search needs
-
-mul-least : tie.Need-mul-least
-mul-least c = search needs
-
-least-requires : tie.Need-least-requires
-least-requires c κs = search needs
+sub-result : tie.Need-sub-result
+sub-result c = search needs
 
 add-result : tie.Need-add-result
 add-result c = search needs
@@ -29,9 +21,8 @@ mul-result c = search needs
 returns : tie.Need-returns
 unfolding fillTo
 returns c =
-    let a = c .before .before .before .args in
-    let s = c .before .before .f32-to-usize .ensures in
-    rw (← s, le-leb (a .shortest) (c .before .before .f32-to-usize .result) (omega arith)) (ap (λ (n : ℕ). a .required + n) (c .least .ensures))
+    let a = c .before .before .args in
+    rw (← c .before .f32-to-usize .ensures, le-leb (a .shortest) (c .before .f32-to-usize .result) (omega arith))
 
 returns-2 : tie.Need-returns-2
 unfolding fillTo
@@ -44,9 +35,7 @@ fill-to-spec =
     tie.close
     (tie.spec
     f32-to-usize-requires
-    sub-least
-    mul-least
-    least-requires
+    sub-result
     add-result
     mul-result
     returns

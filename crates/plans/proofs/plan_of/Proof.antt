@@ -5,7 +5,7 @@ use native.Mathlib.Nat.{div-mul-le-self}
 use native.Mathlib.Omega.{arith}
 use Rattle.stream.proofs.InOrder.{limits-of}
 use Rattle.plans.specs.Plans.{blockSamples}
-use Rattle.plans.proofs.Planning.{period-most, shortest-least}
+use Rattle.plans.proofs.Planning.{period-most, shortest-least, shortest-most}
 use Rattle.plans.proofs.plan_of.Statement.{statement}
 use Rattle.plans.proofs.plan_of.Tie as tie
 
@@ -16,7 +16,12 @@ fill-to-requires : tie.Need-fill-to-requires
 fill-to-requires c κs =
     let s = c .before .before .before .before .before in
     let l = limits-of (s .args .stream) (s .pre) in
-    (omega (arith, c .before .min-period .ensures, shortest-least l), omega (arith, c .max-required .ensures, period-most l))
+    let least = c .before .min-period .ensures in
+    let required = c .max-required .ensures in (
+      omega (arith, least, shortest-least l),
+      omega (arith, least, required, shortest-most (s .args .stream .rate)),
+      omega (arith, required, period-most l),
+    )
 
 samples-requires : tie.Need-samples-requires
 samples-requires c κs =

@@ -1,15 +1,14 @@
--- `jobs::arguments::read` meets its contract: the default job and a checked one are in their ranges. Assumes nothing.
+-- `jobs::arguments::numbers` meets its contract: a checked job is in its ranges. Assumes nothing.
 use borrow.Author.Needs.{needs}
-use mathlib.Core.Path.{_≡_, refl}
+use mathlib.Core.Path.{_≡_}
 use mathlib.Core.Bool.{Bool, true, false, cond}
-use lib.Ieee.{ofBits, le, lt, eq}
 use Rattle.stream.specs.Refusals.{rateBad, channelsBad, within}
 use Rattle.floats.specs.Settings.{minSpeed, maxSpeed, minPitch, maxPitch, minVolume, maxVolume}
 use Rattle.jobs.specs.declared.Job.{Job}
 use Rattle.jobs.specs.declared.Asked.{Asked}
 use Rattle.jobs.specs.Arguments.{askedOf, AskedInRange}
-use Rattle.jobs.proofs.arguments.read.Statement.{statement}
-use Rattle.jobs.proofs.arguments.read.Tie as tie
+use Rattle.jobs.proofs.arguments.numbers.Statement.{statement}
+use Rattle.jobs.proofs.arguments.numbers.Tie as tie
 
 -- ---- what a checked job is
 
@@ -36,51 +35,6 @@ asked-in-range j (Asked.Wrong place) e = tt
 asked-in-range j (Asked.Run k) e = cc (same-job j k e)
 
 -- ---- needs
-
-returns : tie.Need-returns
-unfolding askedOf rateBad channelsBad ofBits le lt eq
-returns c = refl
-
-returns-4 : tie.Need-returns-4
-returns-4 c = asked-in-range _ (c .checked .result) (c .checked .ensures)
-
--- ---- what search closes
-
-arg-count-requires : tie.Need-arg-count-requires
-arg-count-requires c κs = search needs
-
-skipped-requires : tie.Need-skipped-requires
-skipped-requires c κs = search needs
-
-add-if1 : tie.Need-add-if1
-add-if1 c = search needs
-
-add-if2 : tie.Need-add-if2
-add-if2 c = search needs
-
-add-is-word : tie.Need-add-is-word
-add-is-word c = search needs
-
-slice-aggregate-is-word : tie.Need-slice-aggregate-is-word
-slice-aggregate-is-word c = search needs
-
-is-word-requires : tie.Need-is-word-requires
-is-word-requires c κs = search needs
-
-returns-2 : tie.Need-returns-2
-returns-2 c = search needs
-
-add-if4 : tie.Need-add-if4
-add-if4 c = search needs
-
-add-if5 : tie.Need-add-if5
-add-if5 c = search needs
-
-returns-3 : tie.Need-returns-3
-returns-3 c = search needs
-
-add-if6 : tie.Need-add-if6
-add-if6 c = search needs
 
 add-value : tie.Need-add-value
 add-value c = search needs
@@ -115,9 +69,22 @@ value-requires-3 c κs = search needs
 checked-requires : tie.Need-checked-requires
 checked-requires c κs = search needs
 
-pub read-spec : {M : Type 1} → statement M
-read-spec =
+returns : tie.Need-returns
+returns c = asked-in-range _ (c .checked .result) (c .checked .ensures)
+
+pub numbers-spec : {M : Type 1} → statement M
+numbers-spec =
     tie.close
-    (tie.spec arg-count-requires skipped-requires add-if1 returns add-if2 add-is-word slice-aggregate-is-word is-word-requires returns-2 add-if4
-    add-if5 returns-3 add-if6 add-value value-requires add-whole whole-requires add-whole-2 whole-requires-2 add-value-2 value-requires-2 add-value-3
-    value-requires-3 checked-requires returns-4)
+    (tie.spec
+    add-value
+    value-requires
+    add-whole
+    whole-requires
+    add-whole-2
+    whole-requires-2
+    add-value-2
+    value-requires-2
+    add-value-3
+    value-requires-3
+    checked-requires
+    returns)

@@ -1,0 +1,23 @@
+-- `jobs::options::given` meets its contract: an option is one argument or two. Assumes nothing.
+use borrow.Author.Needs.{needs}
+use mathlib.Core.Logic.{⊎-elim}
+use Prim.Native.Nat.{_≤_}
+use native.Mathlib.Omega.{arith}
+use Rattle.jobs.proofs.options.given.Statement.{statement}
+use Rattle.jobs.proofs.options.given.Tie as tie
+
+-- the arguments before the options
+first : (c : tie.Joined1) → c .if1 .t5 ≤ 1
+first c = ⊎-elim (λ w. omega arith) (λ w. omega arith) (c .if1 .came)
+
+one-more-requires : tie.Need-one-more-requires
+one-more-requires c κs = omega (arith, first c)
+
+one-more-requires-2 : tie.Need-one-more-requires-2
+one-more-requires-2 c κs = omega (arith, c .one-more .ensures, first (c .before))
+
+returns : tie.Need-returns
+returns c = omega (arith, c .one-more2 .ensures, c .before .one-more .ensures, first (c .before .before))
+
+pub given-spec : {M : Type 1} → statement M
+given-spec = tie.close (tie.spec one-more-requires one-more-requires-2 returns)
