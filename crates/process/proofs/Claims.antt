@@ -1,9 +1,7 @@
 -- What holds of every call's work. Here:
 --   held-ready            its stretch is ready for its steps
---   stalled-exactly       it answers stalled exactly when stepping over is off and one of its steps gives no frame
---   passed-counted        it tells as many periods as its steps pass over
---   passed-off            none if stepping over is off
---   passed-stretched      where it tells one, it answers stretched
+--   told-exactly          it answers stalled exactly when stepping over is off and one of its steps gives no frame, and tells as many periods
+--                         as its steps pass over
 -- Assumes nothing.
 use mathlib.Core.Path.{_≡_, refl, sym, ap, _∙_}
 use mathlib.Core.Bool.{Bool, true, false, cond, false≢true}
@@ -28,6 +26,7 @@ use Rattle.stretch.specs.Speed as Speed
 use Rattle.stretch.proofs.Claims as Stretch
 use Rattle.stretch.proofs.StepOver.{over-never-stalls, off-passes-none}
 use Rattle.stream.specs.State.{State, stepsOver}
+use Rattle.fill.specs.declared.Told.{Told}
 use Rattle.fill.specs.declared.Outcome.{Outcome}
 use Rattle.fill.specs.declared.Outcome.the-variants.{Empty, Copied, Waiting, Stretched, Stalled}
 use Rattle.fill.specs.Taking.{Taken, nothing, copied, stretched, takenAt, taken, speedAt, callAt, placeOf, stepsAt}
@@ -109,7 +108,7 @@ module _ (s : State) (h : Held s) where
       positive : {n : ℕ} → (n ≡ 0 → ⊥) → 1 ≤ n
       positive {n} f = omega (arith, f)
 
-  pub stalled-exactly : StallsExactly over (process s .told .outcome) (process s .steps)
+  stalled-exactly : StallsExactly over (process s .told .outcome) (process s .steps)
   unfolding process finished taken
   stalled-exactly = taken-exactly (eqb (length (s .input)) 0) refl (taken s) refl
 
@@ -125,6 +124,13 @@ none-passed e some = absurd (none e some)
   where
     none : {n : ℕ} → n ≡ 0 → 1 ≤ n → ⊥
     none e some = omega arith
+
+-- what is told of a call, by its steps and by whether it steps over
+pub record ToldExactly (over : Bool) (o : Told) (steps : List Step) : Type 0 where
+  pub stalled : StallsExactly over (o .outcome) steps
+  pub passed : o .passed ≡ tally steps .passed
+  pub off : over ≡ false → o .passed ≡ 0
+  pub stretched : 1 ≤ o .passed → o .outcome ≡ Stretched
 
 module _ (s : State) (h : Held s) where
   abbrev y : Float
@@ -163,14 +169,7 @@ module _ (s : State) (h : Held s) where
   unfolding taken takenAt
   taken-passed = at-passed (eqb (length (s .input)) 0) (speedChanges y) (ltb (length (s .input)) (maxRequired (s .rate)))
 
-  pub passed-counted : process s .told .passed ≡ tally (process s .steps) .passed
+  pub told-exactly : ToldExactly on (process s .told) (process s .steps)
   unfolding process finished
-  passed-counted = taken-passed .0
-
-  pub passed-off : stepsOver (s .«step_over») ≡ false → process s .told .passed ≡ 0
-  unfolding process finished
-  passed-off = taken-passed .1
-
-  pub passed-stretched : 1 ≤ process s .told .passed → process s .told .outcome ≡ Stretched
-  unfolding process finished
-  passed-stretched = taken-passed .2
+  told-exactly =
+      record { stalled = stalled-exactly s h; passed = taken-passed .0; off = taken-passed .1; stretched = taken-passed .2 }
