@@ -58,7 +58,7 @@ speed-same s input stage =
 
 -- all frames held were copied, and the stream t has none of them
 abbrev pub allFilled : SonicStream → SonicStream → Fill
-allFilled s t = Fill.Done (record { frames = s .held; used = s .held; balance = none; stream = t; told = record { outcome = Copied } })
+allFilled s t = Fill.Done (record { frames = s .held; used = s .held; balance = none; stream = t; told = record { outcome = Copied; passed = 0 } })
 
 module _ (s : SonicStream) (r : StreamReady s) (input stage : List ℤ) (fit : AreasFit s input stage) where
   abbrev state : State

@@ -33,7 +33,7 @@ use Rattle.stretch.proofs.Claims.{used-held}
 use Rattle.stretch.proofs.Framed.{staged-behind, staged-full}
 use Rattle.stream.specs.declared.SonicStream.{SonicStream}
 use Rattle.stream.specs.Balance.{none}
-use Rattle.stream.specs.State.{State}
+use Rattle.stream.specs.State.{State, stepsOver}
 use Rattle.stream.specs.Stream.{stateOf}
 use Rattle.stream.specs.Order.{StreamReady}
 use Rattle.stream.proofs.Streams.{held-is}
@@ -57,6 +57,7 @@ callOf s x =
       speed = x;
       «input_play_time» = s .«input_play_time»;
       held = s .held;
+      «step_over» = stepsOver (s .«step_over»);
     }
 
 abbrev pub lentOf : SonicStream → List ℤ → List ℤ
@@ -109,6 +110,7 @@ module _ {s : SonicStream} {x : Float} {input stage : List ℤ} (d : StretchDue 
     speed = x;
     «input_play_time» = s .«input_play_time»;
     held = record { 0 = sym (length-framesOf (s .channels) (s .held .0) input) i };
+    «step_over» = stepsOver (s .«step_over»);
   }
 
   lent-is : lentOf s input ≡ flat (state .input)

@@ -143,7 +143,7 @@ fn stretch_input(
         speed,
         input_play_time: stream.input_play_time,
         held,
-        step_over: stream.steps_over(),
+        step_over: stream.step_over > 0,
     };
     let prev = PeriodRecord {
         period: stream.prev_period,

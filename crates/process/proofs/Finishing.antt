@@ -64,6 +64,7 @@ committed x c w b =
       tail = c .left;
       waiting = record { 0 = w };
       balance = b;
+      «step_over» = x .«step_over»;
     }
 
 -- samples of an area moved to its front: the counts n and m are k and l

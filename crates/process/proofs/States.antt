@@ -24,6 +24,7 @@ pub record SameSettings (s t : State) : Type 0 where
   pub speed : t .speed ≡ s .speed
   pub pitch : t .pitch ≡ s .pitch
   pub volume : t .volume ≡ s .volume
+  pub «step_over» : t .«step_over» ≡ s .«step_over»
 
 -- and its tail and positions
 pub record Keeps (s t : State) : Type 0 where
@@ -39,6 +40,7 @@ settings-trans p q =
       speed = q .speed ∙ p .speed;
       pitch = q .pitch ∙ p .pitch;
       volume = q .volume ∙ p .volume;
+      «step_over» = q .«step_over» ∙ p .«step_over»;
     }
 
 -- by a test, where a state is read off x or y
@@ -51,14 +53,14 @@ keeps-cases state false p q = q
 
 input-keeps : (s : State) (input : List Frame) (prev : PeriodRecord) (play error : Float) → Keeps s (withInput s input prev play error)
 input-keeps s input prev play error =
-    record { settings = record { rate = refl; channels = refl; speed = refl; pitch = refl; volume = refl }; tail = refl; at = refl }
+    record { settings = record { rate = refl; channels = refl; speed = refl; pitch = refl; volume = refl; «step_over» = refl }; tail = refl; at = refl }
 
 pub tail-settings : (s : State) (tail : List Frame) (at : Position) → SameSettings s (withTail s tail at)
-tail-settings s tail at = record { rate = refl; channels = refl; speed = refl; pitch = refl; volume = refl }
+tail-settings s tail at = record { rate = refl; channels = refl; speed = refl; pitch = refl; volume = refl; «step_over» = refl }
 
 pub counting-settings : (ss : List Step) (s : State) → SameSettings s (counting ss s)
 unfolding counting
-counting-settings ss s = record { rate = refl; channels = refl; speed = refl; pitch = refl; volume = refl }
+counting-settings ss s = record { rate = refl; channels = refl; speed = refl; pitch = refl; volume = refl; «step_over» = refl }
 
 module _ (s : State) where
   pub own-keeps : Keeps s s

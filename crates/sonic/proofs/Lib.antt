@@ -1,1 +1,1 @@
-pub mod Stalls
+pub mod Told

@@ -34,7 +34,7 @@ pub struct SonicStream {
     pub tail: Frames,
     pub waiting: Frames,
     pub balance: Balance,
-    // 0: off. A caller of C may have put any number here.
+    // Off if 0. A caller of C may put any number here.
     pub step_over: u32,
 }
 

@@ -6,7 +6,6 @@ use crate::Setting;
 use crate::SonicStream;
 use crate::refusals;
 ghost use mathlib.Core.Path.{_≡_};
-ghost use Rattle.stream.specs.State.{stepsOver};
 ghost use Rattle.stream.specs.Settings.{setCall, availableCall};
 
 impl SonicStream {
@@ -48,13 +47,6 @@ impl SonicStream {
             }
         }
         Changed::Done(self)
-    }
-
-    // Whether a period that gives no frame is stepped over.
-    pub fn steps_over(self) -> bool
-        ensures { λ r. ⌜ r ≡ stepsOver (self .«step_over») ⌝ }
-    {
-        self.step_over > 0
     }
 
     // The frames ready to be read.

@@ -19,7 +19,7 @@ use Rattle.fill.proofs.stretch_input.Tie as tie
 -- ---- places
 
 abbrev start : tie.After-samples → tie.Start
-start c = c .before .before .before .before .before
+start c = c .before .before .before .before .before .before
 
 -- the frames of the stage are counted; then the stretch is called
 abbrev counted : tie.After-samples2 → tie.After-frames

@@ -1,6 +1,6 @@
 -- `flush::flush_frames` meets its contract. Assumes nothing.
 use borrow.Author.Needs.{needs}
-use mathlib.Core.Path.{_≡_}
+use mathlib.Core.Path.{_≡_, _∙_}
 use mathlib.Core.List.{[]}
 use native.Mathlib.Omega.{arith}
 use Rattle.frames.specs.Areas.{Areas, areas}
@@ -119,6 +119,11 @@ returns-3 c = answered (total-full c) _ (c .enum-told3 .given .1)
 returns-4 : tie.Need-returns-4
 returns-4 c = rw (c .cleared .ensures [] []) (answered (worked (c .before)) _ (c .before .before .told .given .1))
 
+same-length-13 : tie.Need-same-length-13
+same-length-13 c =
+    let w = worked (c .before) in
+    w .process-added .kept .1 .1 .1 .0 ∙ stored w .silence .kept .1 .0
+
 cast-channels : tie.Need-cast-channels
 cast-channels c = search needs
 
@@ -178,9 +183,6 @@ same-length-11 c = search needs
 
 same-length-12 : tie.Need-same-length-12
 same-length-12 c = search needs
-
-same-length-13 : tie.Need-same-length-13
-same-length-13 c = search needs
 
 same-length-14 : tie.Need-same-length-14
 same-length-14 c = search needs
