@@ -64,11 +64,11 @@ endif
 
 # The skim tool as its users meet it, and beside the original on random jobs.
 JOBS := 300
-tool: program target/tests/skim_in_c $(if $(AT_HAND),target/tests/skim)
+tool: program target/tests/skim_in_c $(if $(AT_HAND),target/tests/skim target/tests/skim_step_over)
 	tools/make_reel.py 62:24000 34:16000 | cmp - crates/skim/stdin
 	tests/skim.py tools/skim.sh target/tests/skim_in_c tools/make_reel.py
 ifdef AT_HAND
-	tests/skim_original.py target/bin/skim target/tests/skim $(JOBS)
+	tests/skim_original.py target/bin/skim target/tests/skim target/tests/skim_step_over $(JOBS)
 else
 	echo "tool: no original at $(ORIGINAL), not compared"
 endif
@@ -119,6 +119,12 @@ target/tests/differential: tests/differential.rs $(wildcard tests/differential/*
 
 target/tests/skim: tests/skim.rs
 	cat $(ORIGINAL) $< > $@.rs
+	$(RUSTC) -C overflow-checks=on -A warnings $@.rs -o $@
+
+# The same with the copy of the original that steps over.
+target/tests/skim_step_over: tests/skim.rs tools/step_over_original.py
+	tools/step_over_original.py < $(ORIGINAL) > target/step_over.rs
+	cat target/step_over.rs $< > $@.rs
 	$(RUSTC) -C overflow-checks=on -A warnings $@.rs -o $@
 
 target/bench/kernels: bench/kernels.rs kernels

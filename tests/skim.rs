@@ -1,5 +1,6 @@
-// Joined to the text of the Rust original: the original driven through the writes that the skim tool makes. Arguments and files are the
-// tool's; standard error gets the tool's last line, without its status.
+// Joined to the text of the Rust original, or to the copy of it that steps over (tools/step_over_original.py): either one driven through
+// the writes that the skim tool makes, with --as-original or without. Arguments and files are the tool's, and --map FILE may stand before
+// them; standard error gets the tool's last line, without its status.
 use std::io::{Read, Write};
 
 // The samples that are read at a time.
@@ -9,7 +10,7 @@ const BLOCK: usize = 4096;
 fn full(stream: &SonicStream) -> usize {
     let s = (stream.speed / stream.pitch) as usize;
     if s >= stream.min_period as usize {
-        stream.max_required + (s - 1).min(2 * stream.max_required)
+        stream.max_required + stream.min_period as usize - 1
     } else {
         3 * stream.max_required
     }
@@ -45,8 +46,9 @@ struct Stretch {
 }
 
 impl Stretch {
-    // Goes on with a write. While the stream has too few frames for a stretch, only a copy takes frames from its input.
-    fn write(&mut self, samples: &[f32]) {
+    // Goes on with a write, and gives the frames that it passed over: those that it used if it made none. While the stream has too few
+    // frames for a stretch, only a copy takes frames from its input.
+    fn write(&mut self, samples: &[f32]) -> usize {
         let stream = &mut self.stream;
         let (required, pitch) = (stream.max_required, stream.pitch);
         stream.max_required = usize::MAX;
@@ -61,6 +63,7 @@ impl Stretch {
             self.skipped += used.saturating_sub(given);
             self.inserted += given.saturating_sub(used);
         }
+        if given == 0 { used } else { 0 }
     }
 
     // The first frame held before a flush that stalls, told by the silence that it adds.
@@ -71,8 +74,44 @@ impl Stretch {
     }
 }
 
+// The periods that writes passed over, and the stretches of the reel of which nothing came out, each with its first frame and its frames.
+struct Passes {
+    periods: usize,
+    stretches: Vec<(usize, usize)>,
+}
+
+impl Passes {
+    fn note(&mut self, first: usize, frames: usize) {
+        match self.stretches.last_mut() {
+            Some((start, length)) if *start + *length == first => *length += frames,
+            _ if frames > 0 => self.stretches.push((first, frames)),
+            _ => (),
+        }
+    }
+}
+
+// Seconds, with three digits behind the point, as the tool cuts them.
+fn seconds(frames: usize, rate: usize) -> String {
+    format!("{}.{:03}", frames / rate, frames % rate * 1000 / rate)
+}
+
+fn map(stretches: &[(usize, usize)], rate: usize) -> String {
+    let mut text = "first_frame\tframes\tstart_seconds\tlength_seconds\n".to_string();
+    for &(first, frames) in stretches {
+        text += &format!("{first}\t{frames}\t{}\t{}\n", seconds(first, rate), seconds(frames, rate));
+    }
+    text
+}
+
 // Writes whole frames as the tool does, up to a stall, and gives the first frame held before the write that stalled.
-fn write_all(stream: &mut SonicStream, stretch: &mut Stretch, channels: usize, samples: &[f32], out: &mut Vec<u8>) -> Option<usize> {
+fn write_all(
+    stream: &mut SonicStream,
+    stretch: &mut Stretch,
+    passes: &mut Passes,
+    channels: usize,
+    samples: &[f32],
+    out: &mut Vec<u8>,
+) -> Option<usize> {
     let (mut written, full) = (0, full(stream));
     for block in samples.chunks(BLOCK / channels * channels) {
         let mut at = 0;
@@ -81,7 +120,13 @@ fn write_all(stream: &mut SonicStream, stretch: &mut Stretch, channels: usize, s
             let before = stream.output_frames() + stream.pitch_frames();
             let end = block.len().min(at + (full - held) * channels);
             stream.write_f32(&block[at..end]);
-            stretch.write(&block[at..end]);
+            let passed = stretch.write(&block[at..end]);
+            if passed > 0 {
+                assert_eq!(before, stream.output_frames() + stream.pitch_frames(), "a write that passes over a period makes no frame");
+                assert!(passed <= stream.max_period as usize, "a write passes over one period");
+                passes.periods += 1;
+                passes.note(written - held, passed);
+            }
             if stalled(stream) {
                 assert_eq!(before, stream.output_frames() + stream.pitch_frames(), "a write that stalls makes no frame");
                 take(stream, out);
@@ -100,9 +145,10 @@ fn told(frame: Option<usize>) -> String {
 }
 
 fn main() {
-    let words: Vec<String> = std::env::args().skip(1).collect();
+    let mut words: Vec<String> = std::env::args().skip(1).collect();
+    let map_file = (words.first().map(String::as_str) == Some("--map")).then(|| words.drain(..2).nth(1).unwrap());
     let words: Vec<&str> = if words.is_empty() { vec!["8000", "1", "20", "0.5"] } else { words.iter().map(String::as_str).collect() };
-    let channels: usize = words[1].parse().unwrap();
+    let (rate, channels): (usize, usize) = (words[0].parse().unwrap(), words[1].parse().unwrap());
     let mut bytes = Vec::new();
     std::io::stdin().read_to_end(&mut bytes).unwrap();
     let mut samples: Vec<f32> = bytes.chunks_exact(2).map(|b| f32::from(i16::from_le_bytes([b[0], b[1]])) / 32767.0).collect();
@@ -111,15 +157,25 @@ fn main() {
 
     let (mut stream, mut out, mut at_flush) = (open(&words), Vec::new(), None);
     let mut stretch = Stretch { stream: open(&words), skipped: 0, inserted: 0 };
-    let at_write = write_all(&mut stream, &mut stretch, channels, &samples, &mut out);
+    let mut passes = Passes { periods: 0, stretches: Vec::new() };
+    let at_write = write_all(&mut stream, &mut stretch, &mut passes, channels, &samples, &mut out);
     if at_write.is_none() && frames > 0 {
+        let (held, before) = (stream.input_frames(), out.len());
         at_flush = stretch.flush(channels, frames);
         stream.flush();
         take(&mut stream, &mut out);
+        if out.len() == before {
+            passes.note(frames - held, held);
+        }
     }
     std::io::stdout().write_all(&out).unwrap();
+    let (passed, passed_frames) = (passes.periods, passes.stretches.iter().map(|(_, n)| n).sum::<usize>());
+    passes.stretches.extend(at_write.map(|first| (first, frames - first)));
+    if let Some(file) = map_file {
+        std::fs::write(file, map(&passes.stretches, rate)).unwrap();
+    }
     let (frames_out, stalls) = (out.len() / 2 / channels, u32::from(at_write.is_some()));
     let (at_write, at_flush, Stretch { skipped, inserted, .. }) = (told(at_write), told(at_flush), stretch);
     eprint!("skim: frames_in={frames} frames_out={frames_out} stalls={stalls} stalled_at={at_write} flush_stalled_at={at_flush}");
-    eprintln!(" refusal=0 skipped={skipped} inserted={inserted}");
+    eprintln!(" refusal=0 skipped={skipped} inserted={inserted} passed={passed} passed_frames={passed_frames}");
 }

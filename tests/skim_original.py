@@ -1,13 +1,16 @@
 #!/usr/bin/env python3
-"""The skim tool beside the Rust original: skim_original.py TOOL ORIGINAL ROUNDS [SEED].
+"""The skim tool beside the Rust original: skim_original.py TOOL ORIGINAL STEPPING ROUNDS [SEED].
 
-TOOL is the proved program, ORIGINAL the original joined with tests/skim.rs. Each round takes arguments and a reel at random, runs both and
-compares every byte and the counts of the last line. A job that the tool has no room for has to write nothing and end in status 2.
+TOOL is the proved program, ORIGINAL the original joined with tests/skim.rs, STEPPING the same with the copy of the original that steps
+over. Each round takes arguments and a reel at random, runs the tool beside STEPPING and, with --as-original, beside ORIGINAL, and compares
+every byte, the counts of the last line and the map. A job that the tool has no room for has to write nothing and end in status 2.
 """
 import random
 import re
 import subprocess
 import sys
+import tempfile
+from pathlib import Path
 
 RATES = (1000, 1001, 4000, 4001, 8000, 11025, 16000, 22050, 44100, 48000, 96000, 500000)
 LAST = re.compile(r"(skim: frames_in=.*) status=\d\n")
@@ -45,32 +48,56 @@ def reel(r, samples):
     return b"".join(v.to_bytes(2, "little", signed=True) for v in out)
 
 
-def run(words, data):
-    done = subprocess.run(words, input=data, capture_output=True)
-    return done.stdout, done.stderr.decode()
+def job(r):
+    """Arguments and a reel; in a third of them short periods are likely to give no frame."""
+    rate = r.choice(RATES) if r.randrange(2) else r.randrange(1000, 60000)
+    channels = r.choice((1, 1, 1, 2, 2, 3, 5, 8, 32))
+    words = [str(rate), str(channels), number(r, 0.05, 20), number(r, 0.05, 20)]
+    if not r.randrange(3):
+        words[0] = str(rate % 15000 + 1000)
+        words[2:] = [f"{r.uniform(10, 20):.2f}", f"{r.uniform(0.05, 0.7):.2f}"]
+    if r.randrange(2):
+        words.append(number(r, 0.01, 100))
+    return words, reel(r, r.choice((0, 1, 100, 5000, 20000)) * r.choice((1, channels)))
+
+
+def run(folder, words, options, data):
+    """The bytes, standard error, and the map."""
+    path = Path(folder, "map")
+    path.unlink(missing_ok=True)
+    done = subprocess.run([words[0], *options, "--map", path, *words[1:]], input=data, capture_output=True)
+    return done.stdout, done.stderr.decode(), path.read_text() if path.exists() else None
+
+
+def compare(folder, tool, options, judge, words, data):
+    """What the tool says of a job, in which it is to do as the judge does; nothing of one that it has no room for."""
+    ours, said, our_map = run(folder, [tool] + words, options, data)
+    if said.endswith("skim: status=2\n"):
+        assert ours == b"" and "no room" in said and our_map is None, (words, said)
+        return ""
+    theirs, counts, their_map = run(folder, [judge] + words, [], data)
+    assert ours == theirs, (words, options, len(ours), len(theirs), said, counts)
+    assert LAST.search(said).group(1) == counts.strip(), (words, options, said, counts)
+    assert our_map == their_map, (words, options, our_map, their_map)
+    return said
 
 
 def main():
-    tool, original, rounds = sys.argv[1], sys.argv[2], int(sys.argv[3])
-    r = random.Random(int(sys.argv[4]) if len(sys.argv) > 4 else 1)
-    served = stalls = 0
-    for i in range(rounds):
-        rate = r.choice(RATES) if r.randrange(2) else r.randrange(1000, 60000)
-        channels = r.choice((1, 1, 1, 2, 2, 3, 5, 8, 32))
-        words = [str(rate), str(channels), number(r, 0.05, 20), number(r, 0.05, 20)]
-        if r.randrange(2):
-            words.append(number(r, 0.01, 100))
-        data = reel(r, r.choice((0, 1, 100, 5000, 20000)) * r.choice((1, channels)))
-        ours, said = run([tool] + words, data)
-        if said.endswith("skim: status=2\n"):
-            assert ours == b"" and "no room" in said, (words, said)
-            continue
-        theirs, counts = run([original] + words, data)
-        assert ours == theirs, (i, words, len(ours), len(theirs), said, counts)
-        assert LAST.search(said).group(1) == counts.strip(), (i, words, said, counts)
-        served += 1
-        stalls += "stalls=1" in said
-    print(f"skim: {rounds} jobs, {served} served, the same bytes and counts as the original; {stalls} stalled")
+    tool, original, stepping, rounds = *sys.argv[1:4], int(sys.argv[4])
+    r = random.Random(int(sys.argv[5]) if len(sys.argv) > 5 else 1)
+    served = stalls = passing = periods = 0
+    with tempfile.TemporaryDirectory() as folder:
+        for _ in range(rounds):
+            words, data = job(r)
+            said = compare(folder, tool, [], stepping, words, data)
+            if not said:
+                continue
+            served += 1
+            passed = int(re.search(r" passed=(\d+)", said).group(1))
+            passing, periods = passing + (passed > 0), periods + passed
+            stalls += "stalls=1" in compare(folder, tool, ["--as-original"], original, words, data)
+    print(f"skim: {rounds} jobs, {served} served, the same bytes, counts and maps as the original, stepping over or not; {stalls} stalled as")
+    print(f"skim: the original does, {passing} passed over {periods} pitch periods")
 
 
 main()

@@ -3,8 +3,19 @@
 use mathlib.Core.Path.{_≡_}
 use mathlib.Core.Bool.{true, false}
 use Prim.Native.Nat.{ℕ, _+_, _%_, _^_}
+use Rattle.adding.specs.declared.Wrote.{Wrote}
+use Rattle.adding.specs.Calls.{streamAfter}
 use Rattle.reels.specs.declared.reel.Reel.{Reel}
-use Rattle.reels.specs.Reels.{going, SameInput}
+use Rattle.reels.specs.Reels.{going, SameInput, firstHeld, passedIn, notedWrite, Answered}
+
+-- after a write, with so many frames written: of a period that it passed over, the frames from the first one held before
+-- it to the first one held after it are noted
+abbrev pub WriteAnswered : ℕ → Reel → Wrote → Reel → Type 0
+WriteAnswered written r answer r' =
+    Answered written (r .flushed)
+    (notedWrite (r .passes) (passedIn answer) (firstHeld (r .written) (r .stream))
+    (firstHeld written (streamAfter answer)))
+    (r .gave) r answer r'
 
 -- after writes of n frames of a block: a run still going has written them all
 pub record PartWritten (n : ℕ) (r r' : Reel) : Type 0 where

@@ -12,8 +12,7 @@ ghost use lib.ListN.{length};
 ghost use Rattle.frames.specs.Areas.{areas};
 ghost use Rattle.adding.specs.Calls.{writeCall};
 ghost use Rattle.plans.specs.Plans.{blockSamples, blockBytes, Usable};
-ghost use Rattle.reels.specs.Reels.{Answered};
-ghost use Rattle.blocks.specs.Blocks.{BlockWritten, Turned};
+ghost use Rattle.blocks.specs.Blocks.{WriteAnswered, BlockWritten, Turned};
 
 // Where a write that begins at `at` ends: it fills the input up to the plan's `full` frames, or takes all that is left.
 fn write_end(at: usize, len: usize, held: Frames, plan: Plan) -> usize
@@ -40,7 +39,7 @@ fn write(
     scratch: &mut [i16],
 ) -> Reel
     requires { ⌜ (1 ≤ channels) × (reel .stream .channels ≡ channels) × (length (now samples) % channels ≡ 0) ⌝ }
-    ensures { λ r. ⌜ Answered ((reel .written + length (now (samples .entry)) / channels) % 2 ^ 64) (reel .flushed) reel
+    ensures { λ r. ⌜ WriteAnswered ((reel .written + length (now (samples .entry)) / channels) % 2 ^ 64) reel
         (writeCall (reel .stream) (now (samples .entry))
         (areas (now (input .entry)) (now (stage .entry)) (now (output .entry)) (now (scratch .entry))) .answer) r ⌝ }
 {
@@ -48,6 +47,8 @@ fn write(
     let n = Samples(samples.len()).frames(channels);
     let mut after = reel.answered(answer);
     after.written = std::num::wrapping_add_u64(reel.written, n.0 as u64);
+    let passes = after.noted_write();
+    after.passes = passes;
     after
 }
 
@@ -72,6 +73,7 @@ fn write_block(
     let mut at: usize = 0;
     while at < block.len() && reel.is_going() {
         let end = write_end(at, block.len(), reel.stream.held, plan);
+        let last = reel.passes.last;
         reel = write(
             reel,
             &block[at..end],
@@ -81,6 +83,7 @@ fn write_block(
             output,
             scratch,
         );
+        reel = reel.put_ended(last, plan);
         reel = reel.drain(few, output, values, bytes);
         at = end;
     }

@@ -1,6 +1,7 @@
 -- What a run that is going shows, and runs that frames were written out of:
 --   GoingParts, going-parts, going-of    no stall, no failure, no refusal
 --   same-input, input-trans              what is known of the input
+--   same-notes, notes-trans              what is noted
 --   out-same, out-trans, out-still       frames written out, in no turn and in one more; nothing goes on again
 --   moved                                frames that wait no longer are counted
 -- Assumes nothing.
@@ -12,7 +13,7 @@ use native.Mathlib.Omega.{arith}
 use borrow.Author.Tests.{eqb-true}
 use lib.Dec.{eqb}
 use Rattle.reels.specs.declared.reel.Reel.{Reel}
-use Rattle.reels.specs.Reels.{going, SameInput, WrittenOut}
+use Rattle.reels.specs.Reels.{going, SameInput, SameNotes, WrittenOut}
 
 -- a failure is none or one
 pub failed-once : {f : Bool} → f ≡ true → f ≡ false → ⊥
@@ -45,6 +46,18 @@ input-trans a b =
 pub same-input : {r : Reel} → SameInput r r
 same-input = record { frames-same = refl; partial-same = refl; ended-same = refl }
 
+pub notes-trans : {r s t : Reel} → SameNotes r s → SameNotes s t → SameNotes r t
+notes-trans a b =
+    record {
+      from-same = b .from-same ∙ a .from-same;
+      passed-same = b .passed-same ∙ a .passed-same;
+      gave-same = b .gave-same ∙ a .gave-same;
+      passes-same = b .passes-same ∙ a .passes-same;
+    }
+
+pub same-notes : {r : Reel} → SameNotes r r
+same-notes = record { from-same = refl; passed-same = refl; gave-same = refl; passes-same = refl }
+
 pub out-same : {r : Reel} → WrittenOut r r
 out-same =
     record {
@@ -53,6 +66,8 @@ out-same =
       flushed-kept = refl;
       stalled-kept = refl;
       place-kept = refl;
+      notes-kept = same-notes;
+      map-kept = refl;
       channels-kept = refl;
       failed-stays = λ e. e;
       refused-stays = λ e. e;
@@ -67,6 +82,8 @@ out-trans a b =
       flushed-kept = b .flushed-kept ∙ a .flushed-kept;
       stalled-kept = b .stalled-kept ∙ a .stalled-kept;
       place-kept = b .place-kept ∙ a .place-kept;
+      notes-kept = notes-trans (a .notes-kept) (b .notes-kept);
+      map-kept = b .map-kept ∙ a .map-kept;
       channels-kept = b .channels-kept ∙ a .channels-kept;
       failed-stays = λ e. a .failed-stays (b .failed-stays e);
       refused-stays = λ e. a .refused-stays (b .refused-stays e);

@@ -1,13 +1,17 @@
 -- What a run keeps of each answer and of each block, in this order:
 --   going, isStalled, freshReel       what a run is asked; a run that has not begun
+--   SameInput, SameNotes              what is as it was
+--   notedWrite, notedFlush            what a call notes of frames of which nothing came out
 --   Answered, BlockCounted            after a call of the stream; after a block was filled
 --   WrittenOut, FewerWait, Drained    after frames that wait were written out
 --   BlockReadAs                       after a block was read
+--   MapWritten                        after a part of the map was written
 -- Definitions only. Assumes nothing.
 use mathlib.Core.Path.{_≡_}
 use mathlib.Core.Bool.{Bool, true, false, not, cond, _&&_, _||_}
 use Prim.Native.Nat.{ℕ, _+_, _-_, _*_, _/_, _%_, _^_, _≤_, _<_}
 use lib.Dec.{eqb, ltb}
+use lib.IntN.{ℤ}
 use Rattle.fill.specs.declared.Outcome.{Outcome}
 use Rattle.fill.specs.declared.Outcome.the-variants.{Empty, Copied, Waiting, Stretched, Stalled}
 use Rattle.stream.specs.declared.SonicStream.{SonicStream}
@@ -15,6 +19,9 @@ use Rattle.adding.specs.declared.Wrote.{Wrote}
 use Rattle.read.specs.declared.Gave.{Gave}
 use Rattle.adding.specs.Calls.{streamAfter}
 use Rattle.read.specs.Reading.{streamAfterRead}
+use Rattle.passes.specs.declared.Span.{Span}
+use Rattle.passes.specs.declared.Passes.{Passes}
+use Rattle.passes.specs.Passes.{none, noted}
 use Rattle.plans.specs.declared.Plan.{Plan}
 use Rattle.reels.specs.declared.reading.BlockBytes.{BlockBytes}
 use Rattle.reels.specs.declared.reading.BlockRead.{BlockRead}
@@ -32,9 +39,9 @@ isStalled Waiting = false
 isStalled Stretched = false
 isStalled Stalled = true
 
--- a run that has not begun
-unfoldable pub freshReel : SonicStream → Reel
-freshReel stream =
+-- a run that has not begun, and the descriptor of its map
+unfoldable pub freshReel : SonicStream → ℤ → Reel
+freshReel stream map =
     record {
       stream = stream;
       «frames_in» = 0;
@@ -47,6 +54,11 @@ freshReel stream =
       failed = false;
       ended = false;
       flushed = false;
+      from = 0;
+      passed = 0;
+      gave = 0;
+      passes = none;
+      map = map;
     }
 
 -- what is known of the input is as it was
@@ -54,6 +66,31 @@ pub record SameInput (r r' : Reel) : Type 0 where
   pub frames-same : r' .«frames_in» ≡ r .«frames_in»
   pub partial-same : r' .partial ≡ r .partial
   pub ended-same : r' .ended ≡ r .ended
+
+-- what is noted of frames of which nothing came out is as it was
+pub record SameNotes (r r' : Reel) : Type 0 where
+  pub from-same : r' .from ≡ r .from
+  pub passed-same : r' .passed ≡ r .passed
+  pub gave-same : r' .gave ≡ r .gave
+  pub passes-same : r' .passes ≡ r .passes
+
+-- ---- frames of which nothing came out
+
+-- the first frame held, of so many that were written
+abbrev pub firstHeld : ℕ → SonicStream → ℕ
+firstHeld written s = written - s .held .0
+
+-- frames by the first of them and the first behind them
+abbrev pub spanOf : ℕ → ℕ → Span
+spanOf first end = record { first = first; frames = end - first }
+
+-- after a write that passed over so many periods, one at the most by the plan: the frames that left the input
+unfoldable pub notedWrite : Passes → ℕ → ℕ → ℕ → Passes
+notedWrite p passed first end = cond (eqb passed 0) p (noted p passed (spanOf first end))
+
+-- after a flush that was accepted and gave no frame: the frames that were held
+unfoldable pub notedFlush : Passes → ℕ → ℕ → ℕ → ℕ → Passes
+notedFlush p refusal gave first end = cond (eqb refusal 0 && eqb gave 0) (noted p 0 (spanOf first end)) p
 
 -- ---- one call, one block
 
@@ -67,14 +104,26 @@ abbrev pub refusalIn : Wrote → ℕ → ℕ
 refusalIn (Wrote.Refused number s) n = number
 refusalIn (Wrote.Done told s) n = n
 
--- after a call, with so many frames written, and flushed or not; a stall began at the first frame held before it
-pub record Answered (written : ℕ) (flushed : Bool) (r : Reel) (answer : Wrote) (r' : Reel) : Type 0 where
+-- the periods that it passed over
+abbrev pub passedIn : Wrote → ℕ
+passedIn (Wrote.Refused number s) = 0
+passedIn (Wrote.Done told s) = told .passed
+
+-- after a call, with so many frames written, flushed or not, with these frames noted, and so many given by the flush; a
+-- stall began at the first frame held before it
+pub record Answered (written : ℕ) (flushed : Bool) (passes : Passes) (gave : ℕ) (r : Reel) (answer : Wrote) (r' : Reel)
+    : Type 0 where
   pub stream-is : r' .stream ≡ streamAfter answer
   pub refusal-is : r' .refusal ≡ refusalIn answer (r .refusal)
   pub stalled-is : r' .stalled ≡ cond (stalledIn answer) true (r .stalled)
-  pub place-is : r' .«stalled_at» ≡ cond (stalledIn answer) (r .written - r .stream .held .0) (r .«stalled_at»)
+  pub place-is : r' .«stalled_at» ≡ cond (stalledIn answer) (firstHeld (r .written) (r .stream)) (r .«stalled_at»)
   pub written-is : r' .written ≡ written
   pub flushed-is : r' .flushed ≡ flushed
+  pub from-is : r' .from ≡ firstHeld (r .written) (r .stream)
+  pub passed-is : r' .passed ≡ passedIn answer
+  pub passes-is : r' .passes ≡ passes
+  pub gave-is : r' .gave ≡ gave
+  pub map-kept : r' .map ≡ r .map
   pub failed-kept : r' .failed ≡ r .failed
   pub out-kept : r' .«frames_out» ≡ r .«frames_out»
   pub input-kept : SameInput r r'
@@ -93,6 +142,8 @@ pub record BlockCounted (p : Plan) (r : Reel) (f : BlockBytes) (r' : Reel) : Typ
   pub place-kept : r' .«stalled_at» ≡ r .«stalled_at»
   pub refusal-kept : r' .refusal ≡ r .refusal
   pub flushed-kept : r' .flushed ≡ r .flushed
+  pub notes-kept : SameNotes r r'
+  pub map-kept : r' .map ≡ r .map
 
 -- ---- frames written out
 
@@ -103,6 +154,8 @@ pub record WrittenOut (r r' : Reel) : Type 0 where
   pub flushed-kept : r' .flushed ≡ r .flushed
   pub stalled-kept : r' .stalled ≡ r .stalled
   pub place-kept : r' .«stalled_at» ≡ r .«stalled_at»
+  pub notes-kept : SameNotes r r'
+  pub map-kept : r' .map ≡ r .map
   pub channels-kept : r' .stream .channels ≡ r .stream .channels
   pub failed-stays : r' .failed ≡ false → r .failed ≡ false
   pub refused-stays : r' .refusal ≡ 0 → r .refusal ≡ 0
@@ -130,3 +183,19 @@ pub record BlockReadAs (p : Plan) (r : Reel) (b : BlockRead) : Type 0 where
   pub fits : filled .bytes ≤ 2 * p .block
   pub counted : BlockCounted p r filled (b .reel)
   pub samples-are : b .samples ≡ filled .bytes / (2 * p .channels) * p .channels
+
+-- ---- the map
+
+-- after a part of the map was written: only that may have failed, and then the run is without a map
+pub record MapWritten (r r' : Reel) : Type 0 where
+  pub input-kept : SameInput r r'
+  pub stream-kept : r' .stream ≡ r .stream
+  pub written-kept : r' .written ≡ r .written
+  pub out-kept : r' .«frames_out» ≡ r .«frames_out»
+  pub stalled-kept : r' .stalled ≡ r .stalled
+  pub place-kept : r' .«stalled_at» ≡ r .«stalled_at»
+  pub refusal-kept : r' .refusal ≡ r .refusal
+  pub flushed-kept : r' .flushed ≡ r .flushed
+  pub notes-kept : SameNotes r r'
+  pub failed-stays : r' .failed ≡ false → r .failed ≡ false
+  pub map-stays : r' .failed ≡ false → r' .map ≡ r .map

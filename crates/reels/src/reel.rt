@@ -3,6 +3,7 @@ use adding::Wrote;
 use fill::Outcome;
 use frames::Frames;
 use libc::STDOUT_FILENO;
+use passes::Passes;
 use plans::BLOCK_SAMPLES;
 use read::Gave;
 use stream::SonicStream;
@@ -32,6 +33,14 @@ pub struct Reel {
     pub failed: bool,
     pub ended: bool,
     pub flushed: bool,
+    // The first frame held before the last call, the periods that the call passed over, and the frames that the flush
+    // gave.
+    pub from: u64,
+    pub passed: u64,
+    pub gave: u64,
+    // The frames of which nothing came out, and the descriptor of the map, or NO_MAP.
+    pub passes: Passes,
+    pub map: i32,
 }
 
 fn is_stalled(outcome: Outcome) -> bool
@@ -47,7 +56,7 @@ fn is_stalled(outcome: Outcome) -> bool
 }
 
 // The first frame held.
-fn first_held(written: u64, held: u64) -> u64
+pub(crate) fn first_held(written: u64, held: u64) -> u64
     ensures { λ r. ⌜ r ≡ written - held ⌝ }
 {
     if held < written { written - held } else { 0 }
@@ -64,8 +73,10 @@ fn write_values(values: &[f32], count: usize, bytes: &mut [u8]) -> bool
 }
 
 impl Reel {
-    pub fn new(stream: SonicStream) -> Reel
-        ensures { λ r. ⌜ r ≡ freshReel stream ⌝ }
+    pub const NO_MAP: i32 = -1;
+
+    pub fn new(stream: SonicStream, map: i32) -> Reel
+        ensures { λ r. ⌜ r ≡ freshReel stream map ⌝ }
     {
         Reel {
             stream,
@@ -79,6 +90,11 @@ impl Reel {
             failed: false,
             ended: false,
             flushed: false,
+            from: 0,
+            passed: 0,
+            gave: 0,
+            passes: Passes::NONE,
+            map,
         }
     }
 
@@ -97,18 +113,21 @@ impl Reel {
 
     // After a write or a flush with this answer.
     pub fn answered(mut self, answer: Wrote) -> Reel
-        ensures { λ r. ⌜ Answered (self .written) (self .flushed) self answer r ⌝ }
+        ensures { λ r. ⌜ Answered (self .written) (self .flushed) (self .passes) (self .gave) self answer r ⌝ }
     {
         let place = first_held(self.written, self.stream.held.0 as u64);
+        self.from = place;
         match answer {
             Wrote::Refused(number, stream) => {
                 self.stream = stream;
                 self.refusal = number;
+                self.passed = 0;
                 self
             }
             Wrote::Done(told, stream) => {
                 let outcome = told.outcome;
                 self.stream = stream;
+                self.passed = told.passed as u64;
                 if is_stalled(outcome) {
                     self.stalled = true;
                     self.stalled_at = place;

@@ -1,4 +1,5 @@
 // What became of a run of the skim tool, on standard error. `specs/Report.antt` says what the status is.
+use passes::Passes;
 use plans::Plan;
 use reels::progress;
 use reels::reel::Reel;
@@ -23,18 +24,34 @@ pub fn refused(number: u32) {
     }
 }
 
-// A frame, and its time in seconds.
-fn say_place(frame: u64, plan: Plan)
+// The time of so many frames, in seconds.
+fn say_time(frames: u64, plan: Plan)
     requires { ⌜ InLimits (plan .rate) (plan .channels) ⌝ }
 {
     let rate = plan.rate;
-    let thousandths = frame % rate * 1000 / rate;
-    say::number(b" frame ", frame);
-    say::number(b" (", frame / rate);
+    let thousandths = frames % rate * 1000 / rate;
+    say::number(b" (", frames / rate);
     say::number(b".", thousandths / 100);
     say::number(b"", thousandths / 10 % 10);
     say::number(b"", thousandths % 10);
     say::text(b" s)");
+}
+
+// A frame, and its time.
+fn say_place(frame: u64, plan: Plan)
+    requires { ⌜ InLimits (plan .rate) (plan .channels) ⌝ }
+{
+    say::number(b" frame ", frame);
+    say_time(frame, plan);
+}
+
+// A text, so many frames behind it, and their time.
+fn say_frames(before: &[u8], frames: u64, plan: Plan)
+    requires { ⌜ InLimits (plan .rate) (plan .channels) ⌝ }
+{
+    say::number(before, frames);
+    say::text(b" frames");
+    say_time(frames, plan);
 }
 
 // The bytes at the end that are no whole frame, if there are any.
@@ -68,6 +85,41 @@ fn say_stall(reel: Reel, plan: Plan)
     say::number(b"skim: not skimmed: the ", after);
     say::number(b" frames from there on, and ", reel.stream.tail.0 as u64);
     say::text(b" stretched frames before them, in the tail\n");
+}
+
+// The periods that writes passed over, and the frames of which nothing came out.
+fn say_passes(passes: Passes, plan: Plan)
+    requires { ⌜ InLimits (plan .rate) (plan .channels) ⌝ }
+{
+    if passes.periods > 0 {
+        say::number(
+            b"skim: pitch periods passed over, since they give no frame at this speed: ",
+            passes.periods,
+        );
+        say::text(b"\n");
+    }
+    if passes.frames > 0 {
+        let longest = passes.longest;
+        say_frames(b"skim: nothing came out of ", passes.frames, plan);
+        say_frames(b" of the reel; longest stretch: ", longest.frames, plan);
+        say::text(b" from");
+        say_place(longest.first, plan);
+        say::text(b" on\n");
+    }
+}
+
+// What the flush passed over, and what it gave.
+fn say_flush(reel: Reel, plan: Plan)
+    requires { ⌜ InLimits (plan .rate) (plan .channels) ⌝ }
+{
+    let held = std::num::wrapping_sub_u64(reel.frames_in, reel.from);
+    say_frames(b"skim: the flush of the last ", held, plan);
+    say::number(b" gave ", reel.gave);
+    say::number(
+        b" frames; pitch periods that it passed over, those of its own silence included: ",
+        reel.passed,
+    );
+    say::text(b"\n");
 }
 
 fn say_frame(name: &[u8], told: bool, frame: u64) {
@@ -108,6 +160,8 @@ fn say_summary(reel: Reel, status: u64) {
     say::number(b" refusal=", reel.refusal as u64);
     say::number(b" skipped=", balance.skipped);
     say::number(b" inserted=", balance.inserted);
+    say::number(b" passed=", reel.passes.periods);
+    say::number(b" passed_frames=", reel.passes.frames);
     say::number(b" status=", status);
     say::text(b"\n");
 }
@@ -121,6 +175,10 @@ pub fn run(reel: Reel, plan: Plan) -> u64
     say_partial(reel.partial as u64);
     if reel.stalled {
         say_stall(reel, plan);
+    }
+    say_passes(reel.passes, plan);
+    if reel.flushed && reel.passed > 0 {
+        say_flush(reel, plan);
     }
     if reel.refusal != refusals::ACCEPTED {
         refused(reel.refusal);

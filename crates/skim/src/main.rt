@@ -8,6 +8,7 @@ mod usage;
 
 use jobs::Asked;
 use jobs::Job;
+use libc::STDERR_FILENO;
 use plans::Service;
 use reels::reel::Reel;
 use stream::Opened;
@@ -15,6 +16,26 @@ use stream::SonicStream;
 
 // Where the status goes if it is asked for.
 const STATUS_FILENO: i32 = 3;
+
+// What `open_map` answers of a map that is wanted and cannot be written.
+const BAD_MAP: i32 = -2;
+
+// The descriptor of the map, `NO_MAP` if none is wanted, or `BAD_MAP`, and then it is told why. A descriptor of 0 to 2
+// would be that of a standard stream that was closed: what is told would go into the map.
+fn open_map(place: usize) -> i32 {
+    if place == 0 {
+        return Reel::NO_MAP;
+    }
+    let fd = jobs::open_map(place);
+    if fd < 0 {
+        return BAD_MAP;
+    }
+    if fd <= STDERR_FILENO {
+        usage::closed_stream();
+        return BAD_MAP;
+    }
+    fd
+}
 
 // Does a job and tells of it. Answers the status.
 fn run(job: Job) -> u64 {
@@ -35,7 +56,12 @@ fn run(job: Job) -> u64 {
                     usage::bad_usage()
                 }
                 Service::Planned(plan) => {
-                    let reel = skimming::skim(Reel::new(stream), plan);
+                    let map = open_map(job.map);
+                    if map == BAD_MAP {
+                        return usage::bad_usage();
+                    }
+                    let begun = Reel::new(stream, map).begin_map();
+                    let reel = skimming::skim(begun, plan);
                     reports::run(reel, plan)
                 }
             }

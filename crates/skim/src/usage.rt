@@ -2,7 +2,14 @@
 use reels::say;
 
 pub(crate) fn usage() {
-    say::line(b"usage: skim [--status] [RATE CHANNELS SPEED PITCH [VOLUME]] < in.pcm > out.pcm");
+    say_arguments();
+    say_report();
+}
+
+fn say_arguments() {
+    say::line(
+        b"usage: skim [--status] [--as-original] [--map FILE] [RATE CHANNELS SPEED PITCH [VOLUME]] < in.pcm > out.pcm",
+    );
     say::line(
         b"Changes speed, pitch and volume of 16-bit little-endian PCM, its channels interleaved.",
     );
@@ -11,21 +18,41 @@ pub(crate) fn usage() {
     say::line(b"  SPEED     0.05 to 20, with digits before and behind the point, as 20 or 1.25");
     say::line(b"  PITCH     0.05 to 20");
     say::line(b"  VOLUME    0.01 to 100, 1 if it is left out");
-    say::line(b"With no arguments: 8000 1 20 0.5.");
+    say::line(b"With no numbers: 8000 1 20 0.5.");
     say::line(
-        b"Standard error tells where the stretch stalled and what was left out. Its last line is for scripts:",
+        b"A pitch period that is too short to give a frame at this speed is passed over: nothing comes out of it.",
     );
+    say::line(
+        b"  --as-original  stops at the first such period, as the Rust original does: that is a stall",
+    );
+    say::line(
+        b"  --map FILE     writes to FILE a line for each stretch of the reel of which nothing came out:",
+    );
+    say::line(
+        b"                 first_frame, frames, start_seconds, length_seconds, with tabs between",
+    );
+}
+
+fn say_report() {
+    say::line(
+        b"Standard error tells what was passed over, where the stretch stalled, and what was left out. Its last",
+    );
+    say::line(b"line is for scripts:");
     say::line(
         b"  skim: frames_in=N frames_out=N stalls=N stalled_at=FRAME flush_stalled_at=FRAME refusal=N skipped=N",
     );
-    say::line(b"  inserted=N status=N");
+    say::line(b"  inserted=N passed=N passed_frames=N status=N");
     say::line(
         b"FRAME is none where nothing stalled. skipped, inserted: frames of pitch periods taken out and put in.",
     );
-    say::line(b"status: 0 fine; 1 stalled before the flush, refused, a partial");
     say::line(
-        b"frame at the end, or a read or a write failed; 2 bad usage, and then nothing was read.",
+        b"passed: pitch periods passed over before the flush. passed_frames: frames of the reel of which nothing",
     );
+    say::line(b"came out, without those behind a stall.");
+    say::line(
+        b"status: 0 fine; 1 stalled before the flush, refused, a partial frame at the end, or a read or a write",
+    );
+    say::line(b"failed; 2 bad usage or a FILE that cannot be opened, and then nothing was read.");
     say::line(b"With --status the status is written to descriptor 3 too.");
 }
 
@@ -35,15 +62,19 @@ pub(crate) fn bad_usage() -> u64 {
     2
 }
 
-// Which argument cannot be used; 0 for a wrong count of them.
+// Which number cannot be used; 0 for a wrong count of them, 6 and 7 for options.
 pub(crate) fn wrong_argument(place: usize) {
     match place {
-        0 => say::text(b"skim: give four or five arguments, or none\n"),
+        0 => say::text(b"skim: give four or five arguments behind the options, or none\n"),
         1 => say::text(b"skim: RATE has to be a whole number from 1000 to 500000\n"),
         2 => say::text(b"skim: CHANNELS has to be a whole number from 1 to 32\n"),
         3 => say::text(b"skim: SPEED has to be a number from 0.05 to 20, as 20 or 1.25\n"),
         4 => say::text(b"skim: PITCH has to be a number from 0.05 to 20, as 2 or 0.5\n"),
-        _ => say::text(b"skim: VOLUME has to be a number from 0.01 to 100, as 2 or 0.5\n"),
+        5 => say::text(b"skim: VOLUME has to be a number from 0.01 to 100, as 2 or 0.5\n"),
+        6 => say::text(
+            b"skim: before the numbers may stand --status, which comes first, --as-original and --map FILE, each once\n",
+        ),
+        _ => say::text(b"skim: --map has to be followed by the name of a file\n"),
     }
 }
 
@@ -51,4 +82,8 @@ pub(crate) fn no_room() {
     say::text(
         b"skim: no room for this job in the fixed areas: a lower rate, fewer channels or a higher speed need less\n",
     );
+}
+
+pub(crate) fn closed_stream() {
+    say::text(b"skim: --map needs standard input, output and error to be open\n");
 }

@@ -1,15 +1,17 @@
 -- What a whole run promises: no frame is lost unseen. In this order:
 --   flushes                        what a run is asked
---   Flushed, ReelReady, Complete   after the flush; before and after a whole run
+--   FlushAnswered, Flushed         after the flush
+--   ReelReady, Complete            before and after a whole run
 -- Definitions only. Assumes nothing.
 use mathlib.Core.Path.{_≡_}
 use mathlib.Core.Bool.{Bool, true, false, not, _&&_}
-use Prim.Native.Nat.{_%_}
+use Prim.Native.Nat.{ℕ, _%_}
 use lib.Dec.{eqb}
 use Rattle.adding.specs.declared.Wrote.{Wrote}
+use Rattle.adding.specs.Calls.{streamAfter}
 use Rattle.plans.specs.declared.Plan.{Plan}
 use Rattle.reels.specs.declared.reel.Reel.{Reel}
-use Rattle.reels.specs.Reels.{going, Answered}
+use Rattle.reels.specs.Reels.{going, firstHeld, refusalIn, notedFlush, Answered}
 
 -- frames were written, and nothing has stopped the stretching
 abbrev pub flushes : Reel → Bool
@@ -17,10 +19,18 @@ flushes r = going r && not (eqb (r .written) 0)
 
 -- ---- a whole run
 
+-- after a flush: if it gave no frame, those that were held are noted
+abbrev pub FlushAnswered : Reel → Wrote → Reel → Type 0
+FlushAnswered r answer r' =
+    let gave : ℕ = streamAfter answer .waiting .0 in
+    Answered (r .written) true
+    (notedFlush (r .passes) (refusalIn answer (r .refusal)) gave (firstHeld (r .written) (r .stream)) (r .written))
+    gave r answer r'
+
 -- after the flush, if there is one, with this answer
 pub record Flushed (answer : Wrote) (r r' : Reel) : Type 0 where
   pub skipped : flushes r ≡ false → r' ≡ r
-  pub done : flushes r ≡ true → Answered (r .written) true r answer r'
+  pub done : flushes r ≡ true → FlushAnswered r answer r'
 
 -- what a whole run begins with; blocks are of whole frames
 pub record ReelReady (p : Plan) (r : Reel) : Type 0 where

@@ -33,6 +33,9 @@ fn flush(
     let answer = sonic::flush(reel.stream, input, stage, output, scratch);
     reel = reel.answered(answer);
     reel.flushed = true;
+    reel.gave = reel.stream.waiting.0 as u64;
+    let passes = reel.noted_flush();
+    reel.passes = passes;
     reel
 }
 
@@ -72,8 +75,10 @@ fn run(
     if !reel.ended {
         reel.failed = true;
     }
+    let last = reel.passes.last;
     reel = flush(reel, input, stage, output, scratch);
-    reel.drain(1, output, values, bytes)
+    reel = reel.drain(1, output, values, bytes);
+    reel.end_map(last, plan)
 }
 
 // Does a job.

@@ -40,6 +40,8 @@ returns c =
       place-kept = refl;
       refusal-kept = refl;
       flushed-kept = refl;
+      notes-kept = record { from-same = refl; passed-same = refl; gave-same = refl; passes-same = refl };
+      map-kept = refl;
     }
 
 returns-2 : tie.Need-returns-2
@@ -57,6 +59,8 @@ returns-2 c =
       place-kept = refl;
       refusal-kept = refl;
       flushed-kept = refl;
+      notes-kept = record { from-same = refl; passed-same = refl; gave-same = refl; passes-same = refl };
+      map-kept = refl;
     }
 
 pub count-spec : {M : Type 1} → statement M

@@ -28,6 +28,11 @@ returns c =
       place-is = rw (e, s) (k .before .before .first-held .ensures);
       written-is = refl;
       flushed-is = refl;
+      from-is = k .before .before .first-held .ensures;
+      passed-is = rw e;
+      passes-is = refl;
+      gave-is = refl;
+      map-kept = refl;
       failed-kept = refl;
       out-kept = refl;
       input-kept = record { frames-same = refl; partial-same = refl; ended-same = refl };
@@ -43,6 +48,11 @@ returns-2 c =
       place-is = rw e;
       written-is = refl;
       flushed-is = refl;
+      from-is = c .before .before .before .first-held .ensures;
+      passed-is = rw e;
+      passes-is = refl;
+      gave-is = refl;
+      map-kept = refl;
       failed-kept = refl;
       out-kept = refl;
       input-kept = record { frames-same = refl; partial-same = refl; ended-same = refl };
@@ -59,6 +69,11 @@ returns-3 c =
       place-is = rw (e, s);
       written-is = refl;
       flushed-is = refl;
+      from-is = c .before .before .before .before .before .first-held .ensures;
+      passed-is = rw e;
+      passes-is = refl;
+      gave-is = refl;
+      map-kept = refl;
       failed-kept = refl;
       out-kept = refl;
       input-kept = record { frames-same = refl; partial-same = refl; ended-same = refl };

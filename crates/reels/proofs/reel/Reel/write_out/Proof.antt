@@ -66,6 +66,8 @@ returns c =
             flushed-kept = refl;
             stalled-kept = refl;
             place-kept = refl;
+            notes-kept = record { from-same = refl; passed-same = refl; gave-same = refl; passes-same = refl };
+            map-kept = refl;
             channels-kept = ap (λ (t : SonicStream). t .channels) (s .stream-same);
             failed-stays = λ e. e;
             refused-stays = λ e. absurd (omega (arith, s .numbered));
@@ -89,6 +91,8 @@ returns-2 c =
             flushed-kept = refl;
             stalled-kept = refl;
             place-kept = refl;
+            notes-kept = record { from-same = refl; passed-same = refl; gave-same = refl; passes-same = refl };
+            map-kept = refl;
             channels-kept = g .channels-kept;
             failed-stays = λ e. e;
             refused-stays = λ e. e;
@@ -109,6 +113,8 @@ returns-3 c =
             flushed-kept = refl;
             stalled-kept = refl;
             place-kept = refl;
+            notes-kept = record { from-same = refl; passed-same = refl; gave-same = refl; passes-same = refl };
+            map-kept = refl;
             channels-kept = given n .channels-kept;
             failed-stays = λ e. absurd (failed-once refl e);
             refused-stays = λ e. e;
