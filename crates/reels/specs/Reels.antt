@@ -11,7 +11,6 @@ use mathlib.Core.Path.{_≡_}
 use mathlib.Core.Bool.{Bool, true, false, not, cond, _&&_, _||_}
 use Prim.Native.Nat.{ℕ, _+_, _-_, _*_, _/_, _%_, _^_, _≤_, _<_}
 use lib.Dec.{eqb, ltb}
-use lib.IntN.{ℤ}
 use Rattle.fill.specs.declared.Outcome.{Outcome}
 use Rattle.fill.specs.declared.Outcome.the-variants.{Empty, Copied, Waiting, Stretched, Stalled}
 use Rattle.stream.specs.declared.SonicStream.{SonicStream}
@@ -40,7 +39,7 @@ isStalled Stretched = false
 isStalled Stalled = true
 
 -- a run that has not begun, and the descriptor of its map
-unfoldable pub freshReel : SonicStream → ℤ → Reel
+unfoldable pub freshReel : SonicStream → ℕ → Reel
 freshReel stream map =
     record {
       stream = stream;

@@ -21,6 +21,11 @@ fn span(first: u64, end: u64) -> Span
     }
 }
 
+// A descriptor as the system takes it; −1, which it refuses, for a number that is none.
+fn descriptor(map: u32) -> i32 {
+    if map < 0x8000_0000 { map as i32 } else { -1 }
+}
+
 impl Reel {
     // After a write: if it passed over a period, nothing came of the frames that left the input.
     pub fn noted_write(self) -> Passes
@@ -64,10 +69,10 @@ impl Reel {
     pub fn begin_map(self) -> Reel
         ensures { λ r. ⌜ MapWritten self r ⌝ }
     {
-        if self.map < 0 {
+        if self.map == Reel::NO_MAP {
             return self;
         }
-        self.mapped(map::write_head(self.map))
+        self.mapped(map::write_head(descriptor(self.map)))
     }
 
     // Writes the line of a stretch, if a map is wanted and the stretch has a frame.
@@ -75,10 +80,10 @@ impl Reel {
         requires { ⌜ InLimits (plan .rate) (plan .channels) ⌝ }
         ensures { λ r. ⌜ MapWritten self r ⌝ }
     {
-        if self.map < 0 || stretch.frames == 0 {
+        if self.map == Reel::NO_MAP || stretch.frames == 0 {
             return self;
         }
-        self.mapped(map::write_line(self.map, stretch, plan.rate))
+        self.mapped(map::write_line(descriptor(self.map), stretch, plan.rate))
     }
 
     // Writes the line of what was the last stretch before a call, if another has begun.

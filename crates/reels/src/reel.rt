@@ -40,7 +40,7 @@ pub struct Reel {
     pub gave: u64,
     // The frames of which nothing came out, and the descriptor of the map, or NO_MAP.
     pub passes: Passes,
-    pub map: i32,
+    pub map: u32,
 }
 
 fn is_stalled(outcome: Outcome) -> bool
@@ -73,9 +73,10 @@ fn write_values(values: &[f32], count: usize, bytes: &mut [u8]) -> bool
 }
 
 impl Reel {
-    pub const NO_MAP: i32 = -1;
+    // The descriptor of standard input, which no map is written to.
+    pub const NO_MAP: u32 = 0;
 
-    pub fn new(stream: SonicStream, map: i32) -> Reel
+    pub fn new(stream: SonicStream, map: u32) -> Reel
         ensures { λ r. ⌜ r ≡ freshReel stream map ⌝ }
     {
         Reel {

@@ -18,11 +18,11 @@ use stream::SonicStream;
 const STATUS_FILENO: i32 = 3;
 
 // What `open_map` answers of a map that is wanted and cannot be written.
-const BAD_MAP: i32 = -2;
+const BAD_MAP: u32 = 1;
 
 // The descriptor of the map, `NO_MAP` if none is wanted, or `BAD_MAP`, and then it is told why. A descriptor of 0 to 2
 // would be that of a standard stream that was closed: what is told would go into the map.
-fn open_map(place: usize) -> i32 {
+fn open_map(place: usize) -> u32 {
     if place == 0 {
         return Reel::NO_MAP;
     }
@@ -34,7 +34,7 @@ fn open_map(place: usize) -> i32 {
         usage::closed_stream();
         return BAD_MAP;
     }
-    fd
+    fd as u32
 }
 
 // Does a job and tells of it. Answers the status.

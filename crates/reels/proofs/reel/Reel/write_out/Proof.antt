@@ -46,7 +46,7 @@ given : (c : tie.After-n) → let a = start (done-read c) .args in Given (a .sel
 given c = let a = start (done-read c) .args in given-of (a .self .stream) (a .values .now) (a .output .now) _ _ (told c)
 
 samples-requires : tie.Need-samples-requires
-samples-requires c κs = omega (arith, given (c .before) .fits)
+samples-requires c κs = let s = start (done-read (c .before)) in omega (arith, given (c .before) .fits, s .good .1 .1 .0)
 
 write-values-requires : tie.Need-write-values-requires
 write-values-requires c κs =
