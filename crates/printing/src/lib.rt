@@ -1,6 +1,7 @@
 // An answer's line of stored runs (docs/VECTORS.md): what a call answers, then every field of the stream that it hands
 // back, and the sums over the samples kept.
 use fill::Outcome;
+use fill::Told;
 use frames::Frames;
 use libc::STDOUT_FILENO;
 use scripts::sums::area_sum;
@@ -42,7 +43,7 @@ pub fn print_refused(number: u32) {
 }
 
 // Prints the outcome of a write or a flush.
-pub fn print_outcome(outcome: Outcome) {
+fn print_outcome(outcome: Outcome) {
     match outcome {
         Outcome::Empty => print(b" empty"),
         Outcome::Copied => print(b" copied"),
@@ -52,7 +53,14 @@ pub fn print_outcome(outcome: Outcome) {
     }
 }
 
-// Prints what follows from the opening, and the settings.
+// Prints what is told of a write or a flush.
+pub fn print_told(told: Told) {
+    let outcome = told.outcome;
+    print_outcome(outcome);
+    print_count(told.passed as u64);
+}
+
+// Prints what follows from the opening, and speed, pitch and volume.
 fn print_settings(stream: SonicStream) {
     print(b" |");
     print_count(stream.rate as u64);
@@ -99,5 +107,6 @@ pub fn print_stream(stream: SonicStream, input: &[i16], stage: &[i16], output: &
     print_part(tail, stream.channels, stage);
     print_part(waiting, stream.channels, output);
     print_balance(stream.balance);
+    print_count(stream.step_over as u64);
     print(b"\n");
 }

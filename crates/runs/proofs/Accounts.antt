@@ -162,7 +162,7 @@ module _ (rate channels : ℕ) where
   unfolding entry writeWork flushWork joined cleared
   entry-of l (setting v) o =
       setting-cases (λ (s : State). Of (record { state = s; made = l .made; outcomes = l .outcomes })) (l .state)
-      (λ speed pitch volume at. record { rate-is = o .rate-is; channels-is = o .channels-is }) v
+      (λ speed pitch volume over at. record { rate-is = o .rate-is; channels-is = o .channels-is }) v
   entry-of l (write samples) o = record { rate-is = process-rate _ ∙ o .rate-is; channels-is = process-channels _ ∙ o .channels-is }
   entry-of l flush o = record { rate-is = process-rate _ ∙ o .rate-is; channels-is = process-channels _ ∙ o .channels-is }
   entry-of l (read most) o = o
@@ -175,7 +175,7 @@ module _ (rate channels : ℕ) where
       → Accounts (l .state) (entry l c .state) (addedBy c) (stepsOf l c) (clearedBy l c)
   unfolding entry writeWork flushWork stepsOf clearedBy framesIn silentIn
   entry-accounts l (setting v) o h q =
-      setting-cases (λ (s : State). Accounts (l .state) s 0 [] 0) (l .state) (λ speed pitch volume at. still refl refl) v
+      setting-cases (λ (s : State). Accounts (l .state) s 0 [] 0) (l .state) (λ speed pitch volume over at. still refl refl) v
   entry-accounts l (write samples) o h q =
       let whole : ℕ → List (List Float) = λ k. wholeFrames k samples in
       let number = length-map (whole (l .state .channels)) (map sampleIn) ∙ ap (λ (k : ℕ). length (whole k)) (o .channels-is) in

@@ -19,7 +19,7 @@ use Rattle.rate.specs.Conversion.{Conversion, convert, adjustRate}
 use Rattle.rate.proofs.Chunks.{andThen, convert-append}
 use Rattle.rate.proofs.Counts.{start-count}
 use Rattle.stream.specs.declared.Setting.{Setting}
-use Rattle.stream.specs.declared.Setting.the-variants.{Speed, Pitch, Volume}
+use Rattle.stream.specs.declared.Setting.the-variants.{Speed, Pitch, Volume, StepOver}
 use Rattle.stream.specs.State.{State}
 use Rattle.stream.specs.Settings.{withSetting}
 use Rattle.process.specs.Process.{wholeFrames}
@@ -103,6 +103,7 @@ module _ (rate channels : ℕ) (pitch : Float) (other : eq pitch one ≡ false) 
   setting-converts l fs (Speed x) n c = record { held = c .held; tail = c .tail; at = c .at; made = c .made }
   setting-converts l fs (Pitch x) n c = absurd n
   setting-converts l fs (Volume x) n c = record { held = c .held; tail = c .tail; at = c .at; made = c .made }
+  setting-converts l fs (StepOver on) n c = record { held = c .held; tail = c .tail; at = c .at; made = c .made }
 
   behind-counted : (cs : List Call) (l : Ledger) (fs : List Frame) → NothingHeld rate channels l → QuietCalls l cs
       → All NoPitch cs → All NoFlush cs → Converted rate pitch l fs
@@ -135,7 +136,7 @@ setting-untouched : (l : Ledger) (v : Setting) → Untouched l → Untouched (en
 unfolding entry
 setting-untouched l v t =
     setting-cases (λ (s : State). Untouched (record { state = s; made = l .made; outcomes = l .outcomes })) (l .state)
-    (λ speed pitch volume at. record { tail = t .tail; made = t .made }) v
+    (λ speed pitch volume over at. record { tail = t .tail; made = t .made }) v
 
 module _ (rate channels : ℕ) (x : Float) (other : eq (heldPitch x) one ≡ false) where
   -- setting the pitch puts p and n to 0

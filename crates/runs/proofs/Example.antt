@@ -48,7 +48,7 @@ use Rattle.runs.proofs.Claims.{ledger-claim}
 
 -- with this volume and so many frames waiting, all else fresh
 abbrev streamFor : Float → ℕ → SonicStream
-streamFor volume waiting = streamOf (withSettings (fresh 8000 1) one one volume start) waiting
+streamFor volume waiting = streamOf (withSettings (fresh 8000 1) one one volume 0 start) waiting
 
 opens : openCall 8000 1 ≡ Opened.Done (streamFor one 0)
 unfolding openCall rateBad channelsBad fresh
@@ -58,7 +58,7 @@ opens = refl
 
 -- what each of its accepted writes and flushes tells
 abbrev copying : Told
-copying = record { outcome = Copied }
+copying = record { outcome = Copied; passed = 0 }
 
 samples : List Float
 samples = one ∷ zero ∷ []
@@ -185,6 +185,7 @@ ledger-is :
         speed = one;
         pitch = one;
         volume = half;
+        «step_over» = 0;
         input = [];
         tail = [];
         at = record { old = 0; new = 0 };

@@ -56,7 +56,7 @@ use Rattle.runs.proofs.Balanced.{totals, balance, reconciled}
 -- at this speed, with frames held, a period found, the play time of the frames held, totals and frames waiting, all else fresh
 abbrev streamFor : Float → ℕ → ℕ → Float → Balance → ℕ → SonicStream
 streamFor speed held period play balance waiting =
-    let set : State = withSettings (fresh 1000 1) speed one one start in
+    let set : State = withSettings (fresh 1000 1) speed one one 0 start in
     streamOf (withBalance (withInput set (replicate held []) (record { period = period; «min_diff» = 0 }) play zero) balance) waiting
 
 opens : openCall 1000 1 ≡ Opened.Done (streamFor one 0 0 zero none 0)
@@ -79,7 +79,7 @@ abbrev held : List ℤ
 held = pos 32767 ∷ replicate 4 (pos 0)
 
 abbrev stretching : Told
-stretching = record { outcome = Stretched }
+stretching = record { outcome = Stretched; passed = 0 }
 
 -- ---- speed 2: the write skips one period of 5 frames, the flush two of them and eight of 2 frames in the silence
 
@@ -134,7 +134,7 @@ skipping = record {
 }
 
 -- its steps, added up
-skipping-tally : tallyOf skipping ≡ record { out = 31; used = 62; skipped = 31; inserted = 0 }
+skipping-tally : tallyOf skipping ≡ record { out = 31; used = 62; skipped = 31; inserted = 0; passed = 0 }
 unfolding skipping faster skips flushes pulse six
     fed acceptedIn unlessRead stepsFrom stepsOf begun entry withSetting fresh framesOf flat wholeFrames
     writeWork flushWork process counting counted stalled tally booked finished cleared
@@ -206,7 +206,7 @@ inserting = record {
   );
 }
 
-inserting-tally : tallyOf inserting ≡ record { out = 10; used = 5; skipped = 0; inserted = 5 }
+inserting-tally : tallyOf inserting ≡ record { out = 10; used = 5; skipped = 0; inserted = 5; passed = 0 }
 unfolding inserting slower inserts pulse six
     fed acceptedIn unlessRead stepsFrom stepsOf begun entry withSetting fresh framesOf flat wholeFrames
     writeWork process tally finished taken takenAt stretched joined

@@ -46,7 +46,7 @@ use Rattle.runs.proofs.Claims.{ledger-claim, same-frames, count}
 
 -- at this speed and pitch, with tail frames, positions and so many frames waiting, all else fresh
 abbrev streamFor : Float → Float → List Frame → Position → ℕ → SonicStream
-streamFor speed pitch tail at waiting = streamOf (withTail (withSettings (fresh 8000 1) speed pitch one at) tail at) waiting
+streamFor speed pitch tail at waiting = streamOf (withTail (withSettings (fresh 8000 1) speed pitch one 0 at) tail at) waiting
 
 opens : openCall 8000 1 ≡ Opened.Done (streamFor one one [] start 0)
 unfolding openCall rateBad channelsBad fresh
@@ -80,7 +80,7 @@ made = pos 1 ∷ pos 20505 ∷ []
 
 -- what each write and flush tells
 abbrev copying : Told
-copying = record { outcome = Copied }
+copying = record { outcome = Copied; passed = 0 }
 
 made-of-all : Wrote
 made-of-all = Wrote.Done copying (streamFor half half (replicate 12 []) (record { old = 1; new = 2 }) 2)

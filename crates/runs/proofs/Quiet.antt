@@ -14,7 +14,7 @@ use Rattle.floats.specs.Flush.{expectedFrames}
 use Rattle.period.specs.Rates.{maxRequired}
 use Rattle.stretch.specs.Speed.{stalled}
 use Rattle.stream.specs.declared.Setting.{Setting}
-use Rattle.stream.specs.declared.Setting.the-variants.{Speed, Pitch, Volume}
+use Rattle.stream.specs.declared.Setting.the-variants.{Speed, Pitch, Volume, StepOver}
 use Rattle.stream.specs.State.{State}
 use Rattle.stream.specs.Settings.{withSetting}
 use Rattle.fill.specs.declared.Outcome.{Outcome}
@@ -108,6 +108,7 @@ unfolding bare withSetting
 bare-setting (Speed x) s = refl
 bare-setting (Pitch x) s = refl
 bare-setting (Volume x) s = refl
+bare-setting (StepOver on) s = refl
 
 module _ {rate channels : ℕ} {l : Ledger} (h : NothingHeld rate channels l) where
   pub setting-passes : (v : Setting) → (passageIn (entry l (setting v)) ≡ passedSetting v (passageIn l)) × NothingHeld rate channels (entry l (setting v))
@@ -115,7 +116,7 @@ module _ {rate channels : ℕ} {l : Ledger} (h : NothingHeld rate channels l) wh
   setting-passes v = (
     ap (λ (s : State). record { state = s; made = l .made }) (bare-setting v (l .state)),
     setting-cases (λ (s : State). NothingHeld rate channels (record { state = s; made = l .made; outcomes = l .outcomes })) (l .state)
-        (λ speed pitch volume at. record { rate-is = h .rate-is; channels-is = h .channels-is; input = h .input; short = h .short }) v,
+        (λ speed pitch volume over at. record { rate-is = h .rate-is; channels-is = h .channels-is; input = h .input; short = h .short }) v,
   )
 
   pub write-passes : (samples : List Float) → QuietCall l (write samples)

@@ -13,7 +13,7 @@ use Rattle.floats.specs.Write.{sampleOut}
 use Rattle.rate.specs.declared.Position.{Position}
 use Rattle.stream.specs.declared.SonicStream.{SonicStream}
 use Rattle.stream.specs.declared.Setting.{Setting}
-use Rattle.stream.specs.declared.Setting.the-variants.{Speed, Pitch, Volume}
+use Rattle.stream.specs.declared.Setting.the-variants.{Speed, Pitch, Volume, StepOver}
 use Rattle.stream.specs.declared.Changed.{Changed}
 use Rattle.stream.specs.State.{State, withSettings}
 use Rattle.stream.specs.Stream.{stateOf, streamOf, unlent}
@@ -31,16 +31,17 @@ use Rattle.runs.proofs.Tracking.{Tracks}
 
 module _ (s : State) (w k : ℕ) where
   -- a stream tells of these only how many frames they hold
-  settings-unlent : (speed pitch volume : Float) (at : Position)
-      → streamOf (withSettings (unlent (streamOf s w)) speed pitch volume at) k ≡ streamOf (withSettings s speed pitch volume at) k
+  settings-unlent : (speed pitch volume : Float) (over : ℕ) (at : Position)
+      → streamOf (withSettings (unlent (streamOf s w)) speed pitch volume over at) k ≡ streamOf (withSettings s speed pitch volume over at) k
   unfolding streamOf stateOf
-  settings-unlent speed pitch volume at = simp length-framesOf
+  settings-unlent speed pitch volume over at = simp length-framesOf
 
   setting-unlent : (v : Setting) → streamOf (withSetting v (unlent (streamOf s w))) k ≡ streamOf (withSetting v s) k
   unfolding withSetting streamOf stateOf
-  setting-unlent (Speed x) = settings-unlent _ _ _ _
-  setting-unlent (Pitch x) = settings-unlent _ _ _ _
-  setting-unlent (Volume x) = settings-unlent _ _ _ _
+  setting-unlent (Speed x) = settings-unlent _ _ _ _ _
+  setting-unlent (Pitch x) = settings-unlent _ _ _ _ _
+  setting-unlent (Volume x) = settings-unlent _ _ _ _ _
+  setting-unlent (StepOver on) = settings-unlent _ _ _ _ _
 
 module _ {m : Moment} {l : Ledger} (h : Tracks m l) where
   abbrev ch : ℕ
@@ -55,9 +56,10 @@ module _ {m : Moment} {l : Ledger} (h : Tracks m l) where
   Settled x t =
       x ≡ streamOf t (h .waiting) → Tracks (afterSetting m (Changed.Done x)) (record { state = t; made = l .made; outcomes = l .outcomes })
 
-  settings-track : (x : SonicStream) (speed pitch volume : Float) (at : Position) → Settled x (withSettings (l .state) speed pitch volume at)
+  settings-track : (x : SonicStream) (speed pitch volume : Float) (over : ℕ) (at : Position)
+      → Settled x (withSettings (l .state) speed pitch volume over at)
   unfolding afterSetting
-  settings-track x speed pitch volume at e =
+  settings-track x speed pitch volume over at e =
       record {
         waiting = h .waiting;
         stream = e;
@@ -84,7 +86,7 @@ module _ {m : Moment} {l : Ledger} (h : Tracks m l) where
       (setting-cases (Settled x) (l .state) (settings-track x) v (setting-unlent (l .state) (h .waiting) (h .waiting) v))
   setting-tracks v r false e =
       let t : State = l .state in
-      subst (SettingTracks v) (sym e) (settings-track s (t .speed) (t .pitch) (t .volume) (t .at) refl)
+      subst (SettingTracks v) (sym e) (settings-track s (t .speed) (t .pitch) (t .volume) (t .«step_over») (t .at) refl)
 
   -- ---- a read
 
@@ -110,7 +112,7 @@ module _ {m : Moment} {l : Ledger} (h : Tracks m l) where
         frames-left ch left (m .output) (b .output) left-fits ∙ e .output in
         record {
           waiting = left;
-          stream = settings-unlent t (h .waiting) left (t .speed) (t .pitch) (t .volume) (t .at);
+          stream = settings-unlent t (h .waiting) left (t .speed) (t .pitch) (t .volume) (t .«step_over») (t .at);
           input = h .input;
           input-length = h .input-length;
           tail = h .tail;

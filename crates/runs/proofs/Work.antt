@@ -21,7 +21,7 @@ use Rattle.period.specs.Rates.{maxRequired}
 use Rattle.stretch.specs.declared.Stretch.{Stretch}
 use Rattle.stretch.specs.Speed.{answerFor}
 use Rattle.stream.specs.declared.Setting.{Setting}
-use Rattle.stream.specs.declared.Setting.the-variants.{Speed, Pitch, Volume}
+use Rattle.stream.specs.declared.Setting.the-variants.{Speed, Pitch, Volume, StepOver}
 use Rattle.stream.specs.Balance.{none}
 use Rattle.stream.specs.State.{State, withSettings, withInput, withBalance}
 use Rattle.stream.specs.Settings.{withSetting}
@@ -37,12 +37,13 @@ cond-cases P false x y f g = g refl
 -- ---- a setting
 
 -- what holds whatever settings and positions become
-pub setting-cases : (P : State → Type 0) (s : State) → ((speed pitch volume : Float) (at : Position) → P (withSettings s speed pitch volume at))
+pub setting-cases : (P : State → Type 0) (s : State) → ((speed pitch volume : Float) (over : ℕ) (at : Position) → P (withSettings s speed pitch volume over at))
     → (v : Setting) → P (withSetting v s)
 unfolding withSetting
-setting-cases P s f (Speed x) = f _ _ _ _
-setting-cases P s f (Pitch x) = f _ _ _ _
-setting-cases P s f (Volume x) = f _ _ _ _
+setting-cases P s f (Speed x) = f _ _ _ _ _
+setting-cases P s f (Pitch x) = f _ _ _ _ _
+setting-cases P s f (Volume x) = f _ _ _ _ _
+setting-cases P s f (StepOver on) = f _ _ _ _ _
 
 -- ---- copied or stretched frames
 

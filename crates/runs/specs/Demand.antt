@@ -13,7 +13,7 @@ use Rattle.rate.specs.Halving.{ratesOf}
 use Rattle.rate.specs.Tail.{ceilDiv}
 use Rattle.stream.specs.declared.SonicStream.{SonicStream}
 use Rattle.stream.specs.declared.Setting.{Setting}
-use Rattle.stream.specs.declared.Setting.the-variants.{Speed, Pitch, Volume}
+use Rattle.stream.specs.declared.Setting.the-variants.{Speed, Pitch, Volume, StepOver}
 use Rattle.stream.specs.declared.Opened.{Opened}
 use Rattle.stream.specs.Settings.{openCall}
 use Rattle.fill.specs.declared.Outcome.{Outcome}
@@ -92,6 +92,7 @@ abbrev pub NotPitch : Setting → Type 0
 NotPitch (Speed x) = Unit {0}
 NotPitch (Pitch x) = ⊥
 NotPitch (Volume x) = Unit {0}
+NotPitch (StepOver on) = Unit {0}
 
 -- sets no pitch
 abbrev pub NoPitch : Call → Type 0

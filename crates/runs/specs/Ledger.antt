@@ -24,8 +24,8 @@ pub record Fed : Type 0 where
   pub call : Call
   pub accepted : Bool
 
--- the state (rate, channels, settings, input, tail, p, n, period record, play time, time error, and document 02's
--- totals, without limit), the frames made and the outcomes
+-- the state (rate, channels, settings, document 02's stepping over among them, input, tail, p, n, period record, play
+-- time, time error, and document 02's totals, without limit), the frames made and the outcomes
 pub record Ledger : Type 0 where
   pub state : State
   pub made : List Frame

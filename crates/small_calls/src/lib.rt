@@ -76,6 +76,7 @@ pub fn small_call(stream: SonicStream, line: Line) -> SonicStream {
         b's' => set(stream, Setting::Speed(float(first))),
         b'p' => set(stream, Setting::Pitch(float(first))),
         b'v' => set(stream, Setting::Volume(float(first))),
+        b't' => set(stream, Setting::StepOver(first > 0)),
         _ => available(stream),
     }
 }

@@ -85,6 +85,7 @@ fn told_of(told: sonic::Told) -> Told
     let outcome = told.outcome;
     Told {
         outcome: outcome_number(outcome),
+        passed: told.passed,
     }
 }
 
@@ -95,7 +96,10 @@ pub(crate) fn wrote_of(answer: sonic::Wrote) -> Wrote
     match answer {
         sonic::Wrote::Refused(refusal, stream) => Wrote {
             refusal,
-            told: Told { outcome: 0 },
+            told: Told {
+                outcome: 0,
+                passed: 0,
+            },
             stream,
         },
         sonic::Wrote::Done(told, stream) => Wrote {

@@ -14,7 +14,8 @@ use stream::Setting;
 use stream::SonicStream;
 ghost use mathlib.Core.Path.{_≡_};
 ghost use Rattle.frames.specs.Areas.{areas};
-ghost use Rattle.stream.specs.declared.Setting.the-variants.{Speed, Pitch, Volume};
+ghost use Rattle.stream.specs.declared.Setting.the-variants.{Speed, Pitch, Volume, StepOver};
+ghost use Rattle.stream.specs.State.{stepsOver};
 ghost use Rattle.stream.specs.Settings.{openCall, setCall, availableCall};
 ghost use Rattle.adding.specs.Calls.{writeCall, flushCall};
 ghost use Rattle.read.specs.Reading.{readCall};
@@ -46,6 +47,13 @@ pub extern "C" fn kelpladder_set_volume(stream: SonicStream, volume: f32) -> Cha
     ensures { λ r. ⌜ r ≡ changedOf (setCall stream (Volume volume)) ⌝ }
 {
     changed_of(stream.set(Setting::Volume(volume)))
+}
+
+#[no_mangle]
+pub extern "C" fn kelpladder_set_step_over(stream: SonicStream, on: u32) -> Changed
+    ensures { λ r. ⌜ r ≡ changedOf (setCall stream (StepOver (stepsOver on))) ⌝ }
+{
+    changed_of(stream.set(Setting::StepOver(on > 0)))
 }
 
 #[no_mangle]

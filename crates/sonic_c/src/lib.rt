@@ -30,10 +30,11 @@ pub struct Available {
     pub stream: SonicStream,
 }
 
-// What is told of an accepted write or flush: the number of its outcome.
+// What is told of an accepted write or flush: the number of its outcome, and the periods passed over.
 #[repr(C)]
 pub struct Told {
     pub outcome: u32,
+    pub passed: usize,
 }
 
 // A write or a flush.

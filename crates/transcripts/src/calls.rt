@@ -5,8 +5,8 @@ use crate::lent::of_area;
 use crate::lent::of_slice;
 use frames::Frames;
 use printing::print_count;
-use printing::print_outcome;
 use printing::print_refused;
+use printing::print_told;
 use printing::print_word;
 use scripts::signal::Signal;
 use scripts::signal::fill;
@@ -26,8 +26,7 @@ fn wrote(answer: Wrote) -> SonicStream {
             after
         }
         Wrote::Done(told, after) => {
-            let outcome = told.outcome;
-            print_outcome(outcome);
+            print_told(told);
             after
         }
     }
