@@ -1,5 +1,6 @@
 -- From one step of a block to the next:
---   answered-with                        after a call, with its frames counted or the flush noted
+--   answered-with                        after a call, with its frames counted, the flush and what gave no frame noted
+--   noted-as                             what is noted after a write
 --   part-start, part-more, part-end      the writes of a block
 --   CountShows, samples-whole, turned    a block read; and written
 -- Assumes nothing.
@@ -12,20 +13,22 @@ use borrow.Author.Tests.{ltb-false}
 use Rattle.stream.specs.declared.SonicStream.{SonicStream}
 use Rattle.stream.proofs.InOrder.{neither}
 use Rattle.adding.specs.declared.Wrote.{Wrote}
+use Rattle.passes.specs.declared.Passes.{Passes}
 use Rattle.plans.specs.declared.Plan.{Plan}
 use Rattle.reels.specs.declared.reading.BlockRead.{BlockRead}
 use Rattle.reels.specs.declared.reel.Reel.{Reel}
-use Rattle.reels.specs.Reels.{going, Answered, WrittenOut, Drained, BlockReadAs}
+use Rattle.adding.specs.Calls.{streamAfter}
+use Rattle.reels.specs.Reels.{going, firstHeld, passedIn, notedWrite, Answered, WrittenOut, Drained, BlockReadAs, MapWritten}
 use Rattle.reels.proofs.Blocks.{counted, full-whole}
 use Rattle.reels.proofs.Going.{going-parts, going-of, same-input, input-trans, out-still}
-use Rattle.blocks.specs.Blocks.{PartWritten, BlockWritten, Turned}
+use Rattle.blocks.specs.Blocks.{WriteAnswered, PartWritten, BlockWritten, Turned}
 
 -- ---- a call
 
--- the reel t that a call left, with the frames written and whether it was flushed set
-module _ (t : Reel) (written : ℕ) (flushed : Bool) where
-  abbrev noted : Reel
-  noted =
+-- the reel t that a call left, with the frames written, whether it was flushed, and what is noted set
+module _ (t : Reel) (written : ℕ) (flushed : Bool) (passes : Passes) (gave : ℕ) where
+  abbrev set : Reel
+  set =
       record {
         stream = t .stream;
         «frames_in» = t .«frames_in»;
@@ -38,12 +41,17 @@ module _ (t : Reel) (written : ℕ) (flushed : Bool) where
         failed = t .failed;
         ended = t .ended;
         flushed = flushed;
+        from = t .from;
+        passed = t .passed;
+        gave = gave;
+        passes = passes;
+        map = t .map;
       }
 
-  pub answered-with : {r : Reel} {given answer : Wrote} {n : ℕ} {b : Bool} → given ≡ answer → written ≡ n → flushed ≡ b
-      → Answered (r .written) (r .flushed) r given t → Answered n b r answer noted
-  answered-with {r} same w f a =
-      let x = subst (λ (y : Wrote). Answered (r .written) (r .flushed) r y t) same a in
+  pub answered-with : {r : Reel} {given answer : Wrote} {n : ℕ} {b : Bool} {p : Passes} {g : ℕ} → given ≡ answer → written ≡ n → flushed ≡ b
+      → passes ≡ p → gave ≡ g → Answered (r .written) (r .flushed) (r .passes) (r .gave) r given t → Answered n b p g r answer set
+  answered-with {r} same w f p g a =
+      let x = subst (λ (y : Wrote). Answered (r .written) (r .flushed) (r .passes) (r .gave) r y t) same a in
       record {
         stream-is = x .stream-is;
         refusal-is = x .refusal-is;
@@ -51,6 +59,11 @@ module _ (t : Reel) (written : ℕ) (flushed : Bool) where
         place-is = x .place-is;
         written-is = w;
         flushed-is = f;
+        from-is = x .from-is;
+        passed-is = x .passed-is;
+        passes-is = p;
+        gave-is = g;
+        map-kept = x .map-kept;
         failed-kept = x .failed-kept;
         out-kept = x .out-kept;
         input-kept =
@@ -60,6 +73,13 @@ module _ (t : Reel) (written : ℕ) (flushed : Bool) where
               ended-same = x .input-kept .ended-same;
             };
       }
+
+-- what is noted after a write, by what the reel was before it and by its answer
+pub noted-as : {r t : Reel} {given answer : Wrote} {written n : ℕ} → Answered (r .written) (r .flushed) (r .passes) (r .gave) r given t
+    → given ≡ answer → written ≡ n
+    → notedWrite (t .passes) (t .passed) (t .from) (firstHeld written (t .stream))
+    ≡ notedWrite (r .passes) (passedIn answer) (firstHeld (r .written) (r .stream)) (firstHeld n (streamAfter answer))
+noted-as a same w = rw (a .passes-is, a .passed-is, a .from-is, a .stream-is, same, w)
 
 -- ---- the writes of a block
 
@@ -74,17 +94,18 @@ part-start {r} n z h =
       channels-kept = refl;
     }
 
--- one more write, and frames written out after it
-pub part-more : {r s t u : Reel} {answer : Wrote} (n k m : ℕ) → n + k ≡ m → going s ≡ true → PartWritten n r s
-    → Answered ((s .written + k) % 2 ^ 64) (s .flushed) s answer t → t .stream .channels ≡ s .stream .channels → WrittenOut t u → PartWritten m r u
-part-more {r} {s} n k m e g p w c o =
+-- one more write, a part of the map written and frames written out after it
+pub part-more : {r s t u v : Reel} {answer : Wrote} (n k m : ℕ) → n + k ≡ m → going s ≡ true → PartWritten n r s
+    → WriteAnswered ((s .written + k) % 2 ^ 64) s answer t → t .stream .channels ≡ s .stream .channels → MapWritten t u → WrittenOut u v
+    → PartWritten m r v
+part-more {r} {s} n k m e g p w c a o =
     record {
       still = λ h. p .still g;
       written-is =
-          λ h. o .written-kept ∙ w .written-is ∙ counted (r .written) n k (s .written) (p .written-is g) ∙ ap (λ (x : ℕ). (r .written + x) % 2 ^ 64) e;
-      input-kept = input-trans (p .input-kept) (input-trans (w .input-kept) (o .input-kept));
-      flushed-kept = o .flushed-kept ∙ w .flushed-is ∙ p .flushed-kept;
-      channels-kept = o .channels-kept ∙ c ∙ p .channels-kept;
+          λ h. o .written-kept ∙ a .written-kept ∙ w .written-is ∙ counted (r .written) n k (s .written) (p .written-is g) ∙ ap (λ (x : ℕ). (r .written + x) % 2 ^ 64) e;
+      input-kept = input-trans (p .input-kept) (input-trans (w .input-kept) (input-trans (a .input-kept) (o .input-kept)));
+      flushed-kept = o .flushed-kept ∙ a .flushed-kept ∙ w .flushed-is ∙ p .flushed-kept;
+      channels-kept = o .channels-kept ∙ ap (λ (x : SonicStream). x .channels) (a .stream-kept) ∙ c ∙ p .channels-kept;
     }
 
 -- the writes end with the block, or where the run has stopped

@@ -5,7 +5,7 @@ use Prim.Native.Nat.{ℕ, _+_, _%_, _^_}
 use Rattle.adding.specs.declared.Wrote.{Wrote}
 use Rattle.frames.specs.Areas.{areas}
 use Rattle.adding.specs.Calls.{writeCall}
-use Rattle.blocks.proofs.Parts.{answered-with}
+use Rattle.blocks.proofs.Parts.{answered-with, noted-as}
 use Rattle.blocks.proofs.write.Statement.{statement}
 use Rattle.blocks.proofs.write.Tie as tie
 
@@ -26,13 +26,17 @@ answer w =
 
 returns : tie.Need-returns
 returns c =
-    let n = c .before in
+    let u = c .before in
+    let n = u .before in
     let f = n .before in
     let w = after-write f in
     let t = n .answered .result in
-    let written = c .wrapping-add-u64 .ensures ∙ ap (λ (k : ℕ). (start w .args .reel .written + k) % 2 ^ 64) (f .frames .ensures) in
-    answered-with t (c .wrapping-add-u64 .result) (t .flushed) {answer = answer w} (w .write-f32 .ensures .0 .answer) written
-    (n .answered .ensures .flushed-is) (n .answered .ensures)
+    let a = n .answered .ensures in
+    let same = w .write-f32 .ensures .0 .answer in
+    let written = u .wrapping-add-u64 .ensures ∙ ap (λ (k : ℕ). (start w .args .reel .written + k) % 2 ^ 64) (f .frames .ensures) in
+    let noted = c .noted-write .ensures ∙ noted-as a same written in
+    answered-with t (u .wrapping-add-u64 .result) (t .flushed) (c .noted-write .result) (t .gave) {answer = answer w} same written (a .flushed-is) noted
+    (a .gave-is) a
 
 -- ---- what search closes
 
@@ -47,6 +51,9 @@ answered-requires c κs = search needs
 
 wrapping-add-u64-requires : tie.Need-wrapping-add-u64-requires
 wrapping-add-u64-requires c κs = search needs
+
+noted-write-requires : tie.Need-noted-write-requires
+noted-write-requires c κs = search needs
 
 same-length : tie.Need-same-length
 same-length c = search needs
@@ -68,6 +75,7 @@ write-spec =
     frames-requires
     answered-requires
     wrapping-add-u64-requires
+    noted-write-requires
     same-length
     same-length-2
     same-length-3

@@ -20,7 +20,7 @@ use Rattle.blocks.proofs.Parts.{part-start, part-more, part-end}
 use Rattle.blocks.proofs.write_block.Statement.{statement}
 use Rattle.blocks.proofs.write_block.Tie as tie
 
--- ---- the places: the loop; where a write ends, the write and the frames written out, in a turn; the end
+-- ---- the places: the loop; where a write ends, the write, the map and the frames written out, in a turn; the end
 
 module _ {I : tie.InvT-loop} {μ : tie.MeasureT-loop} where
   abbrev start : tie.At-loop I μ → tie.Start I μ
@@ -30,10 +30,16 @@ module _ {I : tie.InvT-loop} {μ : tie.MeasureT-loop} where
   turn-loop c = c .before .before .before
 
   abbrev after-end : tie.After-write-arg5 I μ → tie.After-write-end I μ
-  after-end c = c .before .before .before .before .before
+  after-end c = c .before .before .before .before .before .before
 
-  abbrev after-write : tie.After-drain-arg3 I μ → tie.After-write I μ
-  after-write c = c .before .before .before .before .before .before .before
+  abbrev after-put : tie.After-drain-arg3 I μ → tie.After-put-ended I μ
+  after-put c = c .before .before .before
+
+  abbrev written : tie.After-scratch I μ → tie.After-write I μ
+  written c = c .before .before .before .before
+
+  abbrev after-write : tie.After-put-ended I μ → tie.After-write I μ
+  after-write c = written (c .before)
 
   abbrev after-drain : tie.After-slice-known4 I μ → tie.After-drain I μ
   after-drain c = c .before .before .before .before .before
@@ -89,22 +95,26 @@ roomy l =
     let inv = l .loop .inv in
     (omega (arith, p .0, inv .5), omega (arith, p .1, inv .5, inv .6))
 
+put-ended-requires : tie.Need-put-ended-requires Inv-loop μ-loop
+put-ended-requires c κs = start (turn-loop (after-end (written c .before) .before)) .pre .0 .0 .limits
+
 drain-requires : tie.Need-drain-requires Inv-loop μ-loop
 drain-requires c κs =
-    let l = turn-loop (after-end (after-write c .before) .before) in
+    let l = turn-loop (after-end (after-write (after-put c) .before) .before) in
     let u = start l .pre .0 .0 .limits in
     let r = roomy l in
     (omega (arith, l .before .frames .ensures, few-least (start l .args .plan .channels) (u .channels-low) (u .channels-high)), r .0, r .1)
 
 loop-less : tie.Need-loop-less Inv-loop μ-loop
 loop-less c =
-    let e = after-end (after-write (after-drain c .before) .before) in
+    let e = after-end (after-write (after-put (after-drain c .before)) .before) in
     omega (arith, e .write-end .ensures .0, e .write-end .ensures .1)
 
 loop-again : tie.Need-loop-again Inv-loop μ-loop
 loop-again c =
     let d = after-drain c in
-    let w = after-write (d .before) in
+    let p = after-put (d .before) in
+    let w = after-write p in
     let e = after-end (w .before) in
     let l = turn-loop (e .before) in
     let inv = l .loop .inv in
@@ -127,7 +137,7 @@ loop-again c =
       omega (arith, d .drain .kept .1 .1 .1 .1 .0, inv .6),
       end .ensures .2,
       part-more {answer = writeCall (l .loop .reel .stream) samples lent .answer} _ _ _ frames goes (inv .8) (w .write .ensures) same
-          (d .drain .ensures .out),
+          (p .put-ended .ensures) (d .drain .ensures .out),
     )
 
 drain-requires-2 : tie.Need-drain-requires-2 Inv-loop μ-loop
@@ -196,6 +206,7 @@ write-block-spec =
     part-write-start
     part-write-end
     write-requires
+    put-ended-requires
     drain-requires
     loop-less
     loop-again

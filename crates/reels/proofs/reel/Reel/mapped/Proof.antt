@@ -1,7 +1,7 @@
 -- `reels::reel::Reel::mapped` meets its contract. Assumes nothing.
 use borrow.Author.Needs.{needs}
 use mathlib.Core.Path.{refl}
-use Rattle.reels.proofs.Going.{failed-once, map-same}
+use Rattle.reels.proofs.Going.{failed-once}
 use Rattle.reels.proofs.reel.Reel.mapped.Statement.{statement}
 use Rattle.reels.proofs.reel.Reel.mapped.Tie as tie
 
