@@ -2,9 +2,10 @@
 --   flush-none, flush-due, Ending          whether a run is flushed, and what that shows
 --   Level, level-start, level-again        what the turns keep
 --   Closed, closed-ended, closed-failed    a run before its flush
---   complete                               the whole run
+--   complete, complete-mapped              the whole run, and its map ended
+--   flush-noted                            what is noted after the flush
 -- Assumes nothing.
-use mathlib.Core.Path.{_≡_, refl, sym, _∙_}
+use mathlib.Core.Path.{_≡_, refl, sym, ap, _∙_}
 use mathlib.Core.Bool.{Bool, true, false, not, _&&_}
 use Prim.Native.Nat.{ℕ, _≤_}
 use native.Mathlib.Omega.{arith}
@@ -13,11 +14,13 @@ use lib.Dec.{eqb}
 use Rattle.adding.specs.declared.Wrote.{Wrote}
 use Rattle.plans.specs.declared.Plan.{Plan}
 use Rattle.reels.specs.declared.reel.Reel.{Reel}
-use Rattle.reels.specs.Reels.{going, SameInput, Drained}
+use Rattle.adding.specs.Calls.{streamAfter}
+use Rattle.reels.specs.Reels.{going, SameInput, Answered, Drained, MapWritten, firstHeld, refusalIn, notedFlush}
 use Rattle.blocks.specs.Blocks.{Turned}
 use Rattle.skimming.specs.Skimming.{flushes, Flushed, ReelReady, Complete}
+use Rattle.stream.specs.declared.SonicStream.{SonicStream}
 use Rattle.stream.proofs.InOrder.{both}
-use Rattle.reels.proofs.Going.{failed-once, going-parts, same-input, input-trans, out-still}
+use Rattle.reels.proofs.Going.{failed-once, going-parts, same-input, input-trans, out-still, map-still}
 
 -- ---- the flush
 
@@ -109,3 +112,22 @@ complete {r} {s} {t} few one c f d =
       partial-last = λ e. input .partial-same ∙ l .partial-last (sym (input .ended-same) ∙ e);
       none-waits = λ a z. omega (arith, d .fewer a z);
     }
+
+pub complete-mapped : {r t : Reel} → Complete r → MapWritten r t → Complete t
+complete-mapped a m =
+    let i = m .input-kept in
+    record {
+      flushed-all = λ e. m .written-kept ∙ a .flushed-all (sym (m .flushed-kept) ∙ e) ∙ sym (i .frames-same);
+      ended-all = λ e. i .ended-same ∙ a .ended-all (map-still m e);
+      written-all = λ e. m .written-kept ∙ a .written-all (map-still m e) ∙ sym (i .frames-same);
+      flushed-is = λ e. m .flushed-kept ∙ a .flushed-is (map-still m e) ∙ ap (λ (n : ℕ). not (eqb n 0)) (sym (m .written-kept));
+      partial-last = λ e. i .partial-same ∙ a .partial-last (sym (i .ended-same) ∙ e);
+      none-waits =
+          λ f z. ap (λ (s : SonicStream). s .waiting .0) (m .stream-kept) ∙ a .none-waits (m .failed-stays f) (sym (m .refusal-kept) ∙ z);
+    }
+
+-- what is noted after the flush, by what the reel was before it and by its answer
+pub flush-noted : {r t : Reel} {given answer : Wrote} → Answered (r .written) (r .flushed) (r .passes) (r .gave) r given t → given ≡ answer
+    → notedFlush (t .passes) (t .refusal) (t .stream .waiting .0) (t .from) (t .written)
+    ≡ notedFlush (r .passes) (refusalIn answer (r .refusal)) (streamAfter answer .waiting .0) (firstHeld (r .written) (r .stream)) (r .written)
+flush-noted a same = rw (a .passes-is, a .refusal-is, a .from-is, a .written-is, a .stream-is, same)

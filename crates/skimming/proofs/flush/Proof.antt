@@ -1,17 +1,18 @@
 -- `skimming::flush` meets its contract. Assumes nothing.
 use borrow.Author.Needs.{needs}
-use mathlib.Core.Path.{_≡_, refl, sym, _∙_}
+use mathlib.Core.Path.{_≡_, refl, sym, ap, _∙_}
 use mathlib.Core.Bool.{true, false, not}
 use borrow.Author.Tests.{not-true, not-false}
 use lib.Dec.{eqb}
 use Rattle.adding.specs.declared.Wrote.{Wrote}
 use Rattle.frames.specs.Areas.{areas}
-use Rattle.adding.specs.Calls.{flushCall}
+use Rattle.stream.specs.declared.SonicStream.{SonicStream}
+use Rattle.adding.specs.Calls.{flushCall, streamAfter}
 use Rattle.stream.proofs.InOrder.{both}
 use Rattle.reels.specs.Reels.{going}
 use Rattle.reels.proofs.Going.{failed-once}
 use Rattle.blocks.proofs.Parts.{answered-with}
-use Rattle.skimming.proofs.Turning.{flush-none, flush-due}
+use Rattle.skimming.proofs.Turning.{flush-none, flush-due, flush-noted}
 use Rattle.skimming.proofs.flush.Statement.{statement}
 use Rattle.skimming.proofs.flush.Tie as tie
 
@@ -46,15 +47,19 @@ returns-2 c =
 
 returns-3 : tie.Need-returns-3
 returns-3 c =
-    let f = after-flush c in
+    let n = c .before in
+    let f = after-flush n in
     let g = going-on f in
     let r = start (g .before) .args .reel in
-    let t = c .answered .result in
-    let a = c .answered .ensures in
+    let t = n .answered .result in
+    let a = n .answered .ensures in
+    let same = f .flush .ensures .0 .answer in
     let goes : going r ≡ true = sym (g .before .is-going .ensures) ∙ not-false _ (g .if2 .left) in
     record {
-      skipped = λ n. absurd (failed-once (flush-due (going r) (r .written) goes (g .before .before .if1 .left)) n);
-      done = λ d. answered-with t (t .written) true {answer = answer f} (f .flush .ensures .0 .answer) (a .written-is) refl a;
+      skipped = λ e. absurd (failed-once (flush-due (going r) (r .written) goes (g .before .before .if1 .left)) e);
+      done =
+          λ d. answered-with t (t .written) true (c .noted-flush .result) (t .stream .waiting .0) {answer = answer f} same (a .written-is) refl
+          (c .noted-flush .ensures ∙ flush-noted a same) (ap (λ (s : SonicStream). s .waiting .0) (a .stream-is) ∙ ap (λ (w : Wrote). streamAfter w .waiting .0) same) a;
     }
 
 -- ---- what search closes
@@ -67,6 +72,9 @@ flush-requires c κs = search needs
 
 answered-requires : tie.Need-answered-requires
 answered-requires c κs = search needs
+
+noted-flush-requires : tie.Need-noted-flush-requires
+noted-flush-requires c κs = search needs
 
 same-length : tie.Need-same-length
 same-length c = search needs
@@ -89,6 +97,7 @@ flush-spec =
     returns-2
     flush-requires
     answered-requires
+    noted-flush-requires
     same-length
     same-length-2
     same-length-3

@@ -8,11 +8,11 @@ use lib.ListN.{length}
 use Rattle.frames.specs.Areas.{Areas, areas}
 use Rattle.adding.specs.Calls.{flushCall}
 use Rattle.reels.specs.declared.reel.Reel.{Reel}
-use Rattle.skimming.proofs.Turning.{Level, level-start, level-again, Closed, closed-failed, closed-ended, complete}
+use Rattle.skimming.proofs.Turning.{Level, level-start, level-again, Closed, closed-failed, closed-ended, complete, complete-mapped}
 use Rattle.skimming.proofs.run.Statement.{statement}
 use Rattle.skimming.proofs.run.Tie as tie
 
--- ---- the places: before and after a turn, at the flush and at the end
+-- ---- the places: before and after a turn, at the flush, and at the end
 
 module _ {I : tie.InvT-loop} {μ : tie.MeasureT-loop} where
   abbrev start : tie.At-loop I μ → tie.Start I μ
@@ -28,7 +28,7 @@ module _ {I : tie.InvT-loop} {μ : tie.MeasureT-loop} where
   after-turn c = c .before .before .before .before .before .before .before .before .before .before
 
   abbrev closing : tie.After-flush I μ → tie.Joined3 I μ
-  closing f = f .before .before .before .before .before
+  closing f = f .before .before .before .before .before .before
 
   abbrev left-loop : tie.Joined3 I μ → tie.At-loop I μ
   left-loop j = j .before .before .before
@@ -36,8 +36,11 @@ module _ {I : tie.InvT-loop} {μ : tie.MeasureT-loop} where
   abbrev after-flush : tie.After-drain-arg3 I μ → tie.After-flush I μ
   after-flush c = c .before .before .before .before .before .before .before
 
-  abbrev after-drain : tie.After-slice-known8 I μ → tie.After-drain I μ
-  after-drain c = c .before .before .before .before .before
+  abbrev drained : tie.After-slice-known8 I μ → tie.After-drain I μ
+  drained c = c .before .before .before .before .before
+
+  abbrev after-drain : tie.After-end-map I μ → tie.After-drain I μ
+  after-drain c = drained (c .before)
 
 -- ---- the invariant: the lengths and what the turns keep
 
@@ -90,6 +93,9 @@ drain-requires c κs =
     let inv = l .loop .inv in
     (omega arith, omega (arith, p .1, inv .5), omega (arith, p .1, p .2, inv .5, inv .6))
 
+end-map-requires : tie.Need-end-map-requires Inv-loop μ-loop
+end-map-requires c κs = start (left-loop (closing (after-flush (drained c .before)))) .pre .0 .0 .limits
+
 returns : tie.Need-returns Inv-loop μ-loop
 returns c =
     let d = after-drain c in
@@ -109,7 +115,8 @@ returns c =
     (λ w. subst (Closed (start l .args .plan .channels)) (sym (w .1)) (closed-ended (inv .7) (not-false _ (w .0 .left))))
     (j .if3 .came) in
     let lent : Areas = areas (l .loop .input) (l .loop .stage) (l .loop .output) (l .loop .scratch) in
-    complete {answer = flushCall (j .if3 .reel .stream) lent .answer} _ (omega arith) closed (f .flush .ensures) (d .drain .ensures)
+    let done = complete {answer = flushCall (j .if3 .reel .stream) lent .answer} _ (omega arith) closed (f .flush .ensures) (d .drain .ensures) in
+    complete-mapped done (c .end-map .ensures)
 
 -- ---- what search closes
 
@@ -171,6 +178,7 @@ run-spec =
     loop-again
     flush-requires
     drain-requires
+    end-map-requires
     same-length
     same-length-2
     same-length-3

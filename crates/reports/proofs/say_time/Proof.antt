@@ -1,21 +1,17 @@
--- `reports::say_place` is safe. Assumes nothing.
+-- `reports::say_time` is safe. Assumes nothing.
 use borrow.Author.Needs.{needs}
 use native.Mathlib.Nat.{mod-lt}
 use native.Mathlib.Omega.{arith}
-use Rattle.reports.proofs.say_place.Statement.{statement}
-use Rattle.reports.proofs.say_place.Tie as tie
+use Rattle.reports.proofs.say_time.Statement.{statement}
+use Rattle.reports.proofs.say_time.Tie as tie
 
--- ---- needs
+rem-thousandths : tie.Need-rem-thousandths
+rem-thousandths c = search needs
 
 mul-thousandths : tie.Need-mul-thousandths
 mul-thousandths c =
     let l = c .pre in
-    record { fits = omega (arith, mod-lt (c .args .frame) {m = c .args .plan .rate} (omega (arith, l .rate-low)), l .rate-high) }
-
--- ---- what search closes
-
-rem-thousandths : tie.Need-rem-thousandths
-rem-thousandths c = search needs
+    record { fits = omega (arith, mod-lt (c .args .frames) {m = c .args .plan .rate} (omega (arith, l .rate-low)), l .rate-high) }
 
 div-thousandths : tie.Need-div-thousandths
 div-thousandths c = search needs
@@ -23,14 +19,14 @@ div-thousandths c = search needs
 slice-aggregate-number : tie.Need-slice-aggregate-number
 slice-aggregate-number c = search needs
 
+div-number : tie.Need-div-number
+div-number c = search needs
+
 number-requires : tie.Need-number-requires
 number-requires c κs = search needs
 
 slice-aggregate-number-2 : tie.Need-slice-aggregate-number-2
 slice-aggregate-number-2 c = search needs
-
-div-number : tie.Need-div-number
-div-number c = search needs
 
 number-requires-2 : tie.Need-number-requires-2
 number-requires-2 c κs = search needs
@@ -47,12 +43,6 @@ slice-aggregate-number-4 c = search needs
 number-requires-4 : tie.Need-number-requires-4
 number-requires-4 c κs = search needs
 
-slice-aggregate-number-5 : tie.Need-slice-aggregate-number-5
-slice-aggregate-number-5 c = search needs
-
-number-requires-5 : tie.Need-number-requires-5
-number-requires-5 c κs = search needs
-
 slice-aggregate-text : tie.Need-slice-aggregate-text
 slice-aggregate-text c = search needs
 
@@ -62,9 +52,22 @@ text-requires c κs = search needs
 returns : tie.Need-returns
 returns c = search needs
 
-pub say-place-spec : {M : Type 1} → statement M
-say-place-spec =
+pub say-time-spec : {M : Type 1} → statement M
+say-time-spec =
     tie.close
-    (tie.spec rem-thousandths mul-thousandths div-thousandths slice-aggregate-number number-requires slice-aggregate-number-2 div-number
-    number-requires-2 slice-aggregate-number-3 number-requires-3 slice-aggregate-number-4 number-requires-4 slice-aggregate-number-5 number-requires-5
-    slice-aggregate-text text-requires returns)
+    (tie.spec
+    rem-thousandths
+    mul-thousandths
+    div-thousandths
+    slice-aggregate-number
+    div-number
+    number-requires
+    slice-aggregate-number-2
+    number-requires-2
+    slice-aggregate-number-3
+    number-requires-3
+    slice-aggregate-number-4
+    number-requires-4
+    slice-aggregate-text
+    text-requires
+    returns)
