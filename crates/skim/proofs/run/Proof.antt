@@ -6,7 +6,7 @@ use Rattle.stream.proofs.Stays.{open-in-order}
 use Rattle.plans.specs.Plans.{Usable}
 use Rattle.skimming.specs.Skimming.{ReelReady}
 use Rattle.plans.proofs.Planning.{usable-of}
-use Rattle.skimming.proofs.Starting.{ready-of}
+use Rattle.skimming.proofs.Starting.{ready-of, ready-mapped}
 use Rattle.skim.proofs.run.Statement.{statement}
 use Rattle.skim.proofs.run.Tie as tie
 
@@ -20,25 +20,6 @@ usable c =
     usable-of (s .result) _ (limits-of (s .result) (s .ensures .0)) (sym (v .serve .ensures) ∙ c .plan .given .1)
 
 -- ---- needs
-
-settle-requires : tie.Need-settle-requires
-settle-requires c κs =
-    let k = c .before in
-    let n = k .before .before in
-    open-in-order (n .before .args .job .rate) (n .before .args .job .channels) _ (sym (n .new .ensures) ∙ k .fresh .given .1)
-
-skim-requires : tie.Need-skim-requires
-skim-requires c κs =
-    let k = c .before .before in
-    let v = k .before .before in
-    let s = v .before .settle .result in
-    let fresh = ready-of s (k .plan .given .0 .0) (sym (v .serve .ensures) ∙ k .plan .given .1) in
-    (usable k, subst (ReelReady (k .plan .given .0 .0)) (sym (c .new2 .ensures)) fresh)
-
-run-requires : tie.Need-run-requires
-run-requires c κs = usable (c .before .before .before) .limits
-
--- ---- what search closes
 
 new-requires : tie.Need-new-requires
 new-requires c κs = search needs
@@ -55,6 +36,12 @@ bad-usage-requires c κs = search needs
 enum-known-fresh : tie.Need-enum-known-fresh
 enum-known-fresh c = search needs
 
+settle-requires : tie.Need-settle-requires
+settle-requires c κs =
+    let k = c .before in
+    let n = k .before .before in
+    open-in-order (n .before .args .job .rate) (n .before .args .job .channels) _ (sym (n .new .ensures) ∙ k .fresh .given .1)
+
 serve-requires : tie.Need-serve-requires
 serve-requires c κs = search needs
 
@@ -70,11 +57,31 @@ bad-usage-requires-2 c κs = search needs
 enum-known-plan : tie.Need-enum-known-plan
 enum-known-plan c = search needs
 
-new-requires-2 : tie.Need-new-requires-2
-new-requires-2 c κs = search needs
+open-map-requires : tie.Need-open-map-requires
+open-map-requires c κs = search needs
+
+bad-usage-requires-3 : tie.Need-bad-usage-requires-3
+bad-usage-requires-3 c κs = search needs
 
 returns : tie.Need-returns
 returns c = search needs
+
+new-requires-2 : tie.Need-new-requires-2
+new-requires-2 c κs = search needs
+
+begin-map-requires : tie.Need-begin-map-requires
+begin-map-requires c κs = search needs
+
+skim-requires : tie.Need-skim-requires
+skim-requires c κs =
+    let k = c .before .before .before .before .before in
+    let v = k .before .before in
+    let s = v .before .settle .result in
+    let fresh = ready-of s (c .before .before .before .open-map .result) (k .plan .given .0 .0) (sym (v .serve .ensures) ∙ k .plan .given .1) in
+    (usable k, ready-mapped (subst (ReelReady (k .plan .given .0 .0)) (sym (c .before .new2 .ensures)) fresh) (c .begin-map .ensures))
+
+run-requires : tie.Need-run-requires
+run-requires c κs = usable (c .before .before .before .before .before .before) .limits
 
 returns-2 : tie.Need-returns-2
 returns-2 c = search needs
@@ -82,8 +89,31 @@ returns-2 c = search needs
 returns-3 : tie.Need-returns-3
 returns-3 c = search needs
 
+returns-4 : tie.Need-returns-4
+returns-4 c = search needs
+
 pub run-spec : {M : Type 1} → statement M
 run-spec =
     tie.close
-    (tie.spec new-requires enum-known-number refused-requires bad-usage-requires enum-known-fresh settle-requires serve-requires enum-told
-    no-room-requires bad-usage-requires-2 enum-known-plan new-requires-2 skim-requires run-requires returns returns-2 returns-3)
+    (tie.spec
+    new-requires
+    enum-known-number
+    refused-requires
+    bad-usage-requires
+    enum-known-fresh
+    settle-requires
+    serve-requires
+    enum-told
+    no-room-requires
+    bad-usage-requires-2
+    enum-known-plan
+    open-map-requires
+    bad-usage-requires-3
+    returns
+    new-requires-2
+    begin-map-requires
+    skim-requires
+    run-requires
+    returns-2
+    returns-3
+    returns-4)
