@@ -43,8 +43,8 @@ impl Outcome {
 pub struct Told {
     /// How it went.
     pub outcome: Outcome,
-    /// The periods passed over in this call, by a stream that [steps over](crate::SonicStream::set_step_over); 0 if it does not, or if the call
-    /// was not taken. A flush counts those of its own silence too.
+    /// The periods passed over in this call, by a stream that [steps over](crate::SonicStream::set_step_over); 0 if it does not, or if the
+    /// call was not taken. A flush counts those of its own silence too.
     pub passed: usize,
 }
 

@@ -30,8 +30,8 @@ fn frames_out_and_skipped_are_frames_used_and_inserted() {
     }
 }
 
-/// The law where periods are passed over: they are used and skipped, and nothing comes out of them. At 4,000 frames a second the silence has
-/// period 10 and gives no frame at speed 20.
+/// The law where periods are passed over: they are used and skipped, and nothing comes out of them. At 4,000 frames a second the silence
+/// has period 10 and gives no frame at speed 20.
 #[test]
 fn periods_passed_over_are_used_and_skipped() {
     let (mut stream, mut out, mut written, mut passed) = (SonicStream::new(4_000, 2).expect("in range"), 0, 0, 0);
