@@ -76,7 +76,7 @@ fn total(random: &mut Random, rate: u32) -> u64 {
 
 /// A value of the setting to step over; any but 0 is on.
 pub fn step_over(random: &mut Random) -> u32 {
-    random.one_of(&[0, 0, 0, 0, 1, 1, 2, 7, 1 << 31, u32::MAX])
+    if random.once_in(2) { 0 } else { random.one_of(&[1, 1, 2, 7, 1 << 31, u32::MAX]) }
 }
 
 /// The number of frames held.

@@ -147,7 +147,8 @@ impl Subject for Model {
     }
 
     fn set(&mut self, stream: Stream, setting: Setting) -> Changed {
-        if !self.in_order(&stream) && !self.wrong(Edit::SettingOfAnyStream) {
+        let refused = self.wrong(Edit::StepOverRefused) && matches!(setting, Setting::StepOver(_)) && stream.held > 0;
+        if refused || (!self.in_order(&stream) && !self.wrong(Edit::SettingOfAnyStream)) {
             return Changed { refusal: 3, stream };
         }
         Changed { refusal: 0, stream: self.changed(stream, setting) }

@@ -186,6 +186,7 @@ edits! {
     SettingAsItCame, "Stepping over", "the setting writes the number as it came";
     StepOverResetsPositions, "Stepping over", "the setting puts p and n to 0";
     StepOverClearsHeld, "Stepping over", "the setting clears what is held";
+    StepOverRefused, "Stepping over", "the setting refused while frames are held";
     PitchSwitchesOff, "Stepping over", "a pitch switches it off";
     SpeedSwitchesOff, "Stepping over", "a speed switches it off";
     FlushSwitchesOff, "Stepping over", "a flush switches it off";
