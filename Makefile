@@ -112,8 +112,14 @@ target/tests/header: tests/header.c include/kelpladder.h stream
 target/tests/skim_in_c: examples/skim.c include/kelpladder.h stream
 	$(CC) -std=c99 -O2 -Wall -Wextra -Wpedantic -Werror -I include $< target/staticlib/libsonic_c.a -o $@
 
+# The judge of a stream that steps over: the original's text without the return that ends a call at a step that gave no frame.
+target/passing.rs: tools/passing.py tests/passing.rs $(AT_HAND)
+	mkdir -p target
+	{ tools/passing.py $(ORIGINAL) && cat tests/passing.rs; } > $@.new
+	mv $@.new $@
+
 # The original's text with the test or the benchmark joined to it, so that its private fields and functions can be used.
-target/tests/differential: tests/differential.rs $(wildcard tests/differential/*.rs tests/differential/model/*.rs) stream
+target/tests/differential: tests/differential.rs $(wildcard tests/differential/*.rs tests/differential/model/*.rs) target/passing.rs stream
 	cat $(ORIGINAL) $< > $@.rs
 	$(RUSTC) -C overflow-checks=on -A warnings --cfg library $@.rs -o $@ $(LINK_STREAM)
 
@@ -132,13 +138,13 @@ target/bench/kernels: bench/kernels.rs kernels
 	cat $(ORIGINAL) $< > $@.rs
 	$(RUSTC) -A warnings $@.rs -o $@ $(LINK_KERNELS)
 
-target/bench/jobs: bench/jobs.rs stream
+target/bench/jobs: bench/jobs.rs $(if $(AT_HAND),target/passing.rs) stream
 	test -f $(ORIGINAL) || { echo "bench: no original at $(ORIGINAL)"; exit 1; }
 	cat $(ORIGINAL) $< > $@.rs
 	$(RUSTC) -A warnings $@.rs -o $@ $(LINK_STREAM)
 
 # The stored answers of crates/vectors, made again from the original's text with tools/vectors joined to it: they must be the stored ones.
-vectors:
+vectors: $(if $(AT_HAND),target/passing.rs)
 	test -f $(ORIGINAL) || { echo "vectors: no original at $(ORIGINAL)"; exit 1; }
 	mkdir -p target/vectors
 	cat $(ORIGINAL) tools/vectors/*.rs > target/vectors/make.rs

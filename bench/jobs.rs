@@ -1,22 +1,27 @@
 
-// ---- Whole jobs of Kelpladder beside the stream above. This text is joined to the original's, which is otherwise unchanged.
+// ---- Whole jobs of Kelpladder beside the stream above. This text is joined to the original's, which is otherwise unchanged. A job that steps
+// over is beside a copy of the original's text with one return taken out, the module `passing`.
 // `jobs` compares the frames of both sides and prints for each job and reel: its name, our time over the original's (medians of
 // interleaved rounds over the whole reel), and both medians in milliseconds. Times are processor times of the thread, so that other work
 // on the machine counts less. Both sides read in their own way: the original gives a new vector, ours fills a slice that is lent.
 // Then it times the skim tool beside the library, counts instructions by valgrind, where that is there, and paints a stack to see how much
 // of it the calls use.
-// `jobs JOB REEL` times one job only, `jobs tool` the tool, `jobs stack` measures the stack only. `jobs SIDE JOB REEL SECONDS` runs one job on one side (ours,
-// original), for a profiler.
+// `jobs JOB REEL` times one job only, `jobs tool` the tool, `jobs stack` measures the stack only. `jobs SIDE JOB REEL SECONDS` runs one job
+// on one side (ours, original), for a profiler.
 
 #[path = "../../bindings/rust/src/calls.rs"]
 #[allow(dead_code)]
 mod calls;
 #[path = "../../bench/jobs/instructions.rs"]
 mod instructions;
+#[path = "../passing.rs"]
+mod passing;
 #[path = "../../bench/jobs/reels.rs"]
 mod reels;
 #[path = "../../bench/jobs/sides.rs"]
 mod sides;
+#[path = "../../bench/jobs/speech.rs"]
+mod speech;
 #[path = "../../bench/jobs/stack.rs"]
 mod stack;
 #[path = "../../bench/jobs/times.rs"]
@@ -24,7 +29,7 @@ mod times;
 #[path = "../../bench/jobs/tool.rs"]
 mod tool;
 
-use reels::{samples_of, Job, Reel, JOBS, REELS};
+use reels::{pairs, samples_of, Job, Reel, JOBS, REELS, SPEECH, STEPPING};
 use sides::{Ours, Side};
 use std::hint::black_box;
 
@@ -33,7 +38,7 @@ const ROUNDS: usize = 15;
 /// The whole work of a job, from opening to the read after the flush.
 #[inline(never)]
 fn run<S: Side>(job: Job, reel: Reel, samples: &[f32], sink: &mut dyn FnMut(&[f32])) {
-    let mut side = S::open(reel.rate, reel.channels, job.speed, job.pitch);
+    let mut side = S::open(reel, job);
     for chunk in samples.chunks(job.chunk * reel.channels as usize) {
         side.write(chunk);
         side.read(job.most, sink);
@@ -59,15 +64,15 @@ fn line_name(job: Job, reel: Reel) -> String {
 }
 
 /// Compares the frames of both sides, then times them in turn; the side that begins changes from round to round.
-fn beside(job: Job, reel: Reel, samples: &[f32]) {
-    let (ours, original) = (frames_of::<Ours>(job, reel, samples), frames_of::<SonicStream>(job, reel, samples));
+fn beside<Original: Side>(job: Job, reel: Reel, samples: &[f32]) {
+    let (ours, original) = (frames_of::<Ours>(job, reel, samples), frames_of::<Original>(job, reel, samples));
     assert!(!ours.is_empty() && ours == original, "{} {}: the frames differ", job.name, reel.name);
     let (mut a, mut b) = (Vec::new(), Vec::new());
     for round in 0..ROUNDS {
         if round % 2 == 0 {
             a.push(time_of::<Ours>(job, reel, samples));
         }
-        b.push(time_of::<SonicStream>(job, reel, samples));
+        b.push(time_of::<Original>(job, reel, samples));
         if round % 2 == 1 {
             a.push(time_of::<Ours>(job, reel, samples));
         }
@@ -76,20 +81,23 @@ fn beside(job: Job, reel: Reel, samples: &[f32]) {
     println!("{:18} {:.2}  {a:.1} {b:.1}", line_name(job, reel), a / b);
 }
 
+/// The same with the original, or with its copy that steps over if the job does.
+fn beside_original(job: Job, reel: Reel) {
+    let samples = samples_of(reel);
+    if job.step_over { beside::<passing::SonicStream>(job, reel, &samples) } else { beside::<SonicStream>(job, reel, &samples) }
+}
+
 fn find_job(name: &str) -> Job {
-    *JOBS.iter().find(|job| job.name == name).expect("a job's name")
+    JOBS.into_iter().chain([STEPPING]).find(|job| job.name == name).expect("a job's name")
 }
 
 fn find_reel(name: &str) -> Reel {
-    *REELS.iter().find(|reel| reel.name == name).expect("a reel's name")
+    REELS.into_iter().chain([SPEECH]).find(|reel| reel.name == name).expect("a reel's name")
 }
 
 fn everything() {
-    for reel in REELS {
-        let samples = samples_of(reel);
-        for job in JOBS {
-            beside(job, reel, &samples);
-        }
+    for (job, reel) in pairs() {
+        beside_original(job, reel);
     }
     tool::beside_library();
     instructions::count_instructions();
@@ -104,7 +112,7 @@ fn main() {
             let reel = Reel { seconds: seconds.parse().expect("seconds"), ..find_reel(reel) };
             instructions::measured(*side == "ours", &find_job(job), &reel, &samples_of(reel));
         }
-        [job, reel] => beside(find_job(job), find_reel(reel), &samples_of(find_reel(reel))),
+        [job, reel] => beside_original(find_job(job), find_reel(reel)),
         ["tool"] => tool::beside_library(),
         ["stack"] => stack::measure_stack(),
         _ => everything(),

@@ -31,19 +31,19 @@ enum kelpladder_refusal {
     KELPLADDER_TOTAL_FULL = 12   /* a total of the balance would pass 64 bits */
 };
 
-/* How an accepted write or flush went. */
+/* How an accepted write or flush went. A stream that steps over does not stall. */
 enum kelpladder_outcome {
     KELPLADDER_EMPTY = 0,     /* nothing is held */
     KELPLADDER_COPIED = 1,    /* all frames held went on unstretched */
     KELPLADDER_WAITING = 2,   /* a stretch is due, and too few frames are held */
     KELPLADDER_STRETCHED = 3, /* stretched */
-    KELPLADDER_STALLED = 4    /* a step gave no frame: nothing left the input */
+    KELPLADDER_STALLED = 4    /* a step gave no frame and ended the call: nothing left the input */
 };
 
 /* Totals over all accepted writes and flushes that did not stall. Over these calls, frames out of the stretch or copy, before the rate
  * conversion, plus skipped equals frames used plus inserted; frames that a flush clears are not used. */
 typedef struct kelpladder_balance {
-    uint64_t skipped;         /* frames of periods skipped */
+    uint64_t skipped;         /* frames of periods skipped, those passed over among them */
     uint64_t inserted;        /* frames of periods inserted */
 } kelpladder_balance;
 
@@ -65,6 +65,7 @@ typedef struct kelpladder_stream {
     size_t tail;              /* frames in the stage */
     size_t waiting;           /* frames in the output area */
     kelpladder_balance balance;
+    uint32_t step_over;       /* 0: off; any other value: on */
 } kelpladder_stream;
 
 /* An opening: refused, `given` is the rate or the channels given, and every field of the stream is 0. */
@@ -90,6 +91,7 @@ typedef struct kelpladder_available {
 /* What is told of an accepted write or flush; every field is 0 if refused. */
 typedef struct kelpladder_told {
     uint32_t outcome;
+    size_t passed;            /* periods passed over in this call, those of a flush's own silence among them */
 } kelpladder_told;
 
 /* A write or a flush. */
@@ -113,6 +115,10 @@ kelpladder_opened kelpladder_open(uint32_t rate, uint32_t channels);
 kelpladder_changed kelpladder_set_speed(kelpladder_stream stream, float speed);
 kelpladder_changed kelpladder_set_pitch(kelpladder_stream stream, float pitch);
 kelpladder_changed kelpladder_set_volume(kelpladder_stream stream, float volume);
+
+/* Sets whether the stream steps over: 0 off, as at opening, any other number on; refusal 3. While it is on, a step that gives no frame
+ * uses up its period and makes nothing, and the call goes on behind it; no call stalls. */
+kelpladder_changed kelpladder_set_step_over(kelpladder_stream stream, uint32_t on);
 
 /* The frames waiting to be read; refusal 3. */
 kelpladder_available kelpladder_available_frames(kelpladder_stream stream);

@@ -1,7 +1,7 @@
 
 // ---- The differential test: the C interface of include/kelpladder.h beside the original, call by call. This text is joined to the
-// original's, which is otherwise unchanged, so that its private fields can be set and compared. Without `--cfg library` the model takes
-// the library's place.
+// original's, which is otherwise unchanged, so that its private fields can be set and compared. A stream that steps over is judged by a
+// copy of the original's text with one return taken out, the module `passing`. Without `--cfg library` the model takes the library's place.
 //
 //   differential fixed            the fixed runs
 //   differential long [SEED] [N]  N million calls of random runs, 2 unless told; the seed is that of the day unless told
@@ -9,7 +9,7 @@
 //   differential bites            the fixed runs find every wrong edit of the model
 //   differential bites alone      the same where the model that judges is wrong, too
 //   differential bites NUMBER     the smallest run that finds one
-//   differential reels            two reels, one of which stalls
+//   differential reels            two reels, one of which stalls unless the stream steps over
 //
 // With TRACE=FILE in the environment the calls of the run under way are written to the file before they are made.
 
@@ -36,6 +36,10 @@ mod made_up;
 mod model;
 #[path = "../../tests/differential/original.rs"]
 mod original;
+#[path = "../../tests/differential/passes.rs"]
+mod passes;
+#[path = "../passing.rs"]
+mod passing;
 #[path = "../../tests/differential/reels.rs"]
 mod reels;
 #[path = "../../tests/differential/run.rs"]

@@ -46,13 +46,13 @@ static int totals_are(kelpladder_stream stream, uint64_t skipped, uint64_t inser
 static int same(kelpladder_stream a, kelpladder_stream b)
 {
     return same_settings(a, b) && same_work(a, b) && a.held == b.held && a.tail == b.tail && a.waiting == b.waiting
-        && totals_are(a, b.balance.skipped, b.balance.inserted);
+        && totals_are(a, b.balance.skipped, b.balance.inserted) && a.step_over == b.step_over;
 }
 
 /* A stream with every field 0. */
 static kelpladder_stream zero(void)
 {
-    kelpladder_stream stream = {0, 0, 0, 0, 0, 0, 0, 0, 0, 0, 0, 0, 0, 0, 0, {0, 0}};
+    kelpladder_stream stream = {0, 0, 0, 0, 0, 0, 0, 0, 0, 0, 0, 0, 0, 0, 0, {0, 0}, 0};
     return stream;
 }
 
@@ -154,6 +154,8 @@ static void refuses_bad_streams(void)
     CHECK(kelpladder_set_speed(bad, 1.0f).refusal == KELPLADDER_BAD_STREAM);
     CHECK(kelpladder_set_pitch(zero(), 1.0f).refusal == KELPLADDER_BAD_STREAM);
     CHECK(same(kelpladder_set_volume(bad, 1.0f).stream, bad));
+    bad.step_over = 7;
+    CHECK(kelpladder_set_step_over(bad, 0).refusal == KELPLADDER_BAD_STREAM && same(kelpladder_set_step_over(bad, 0).stream, bad));
     available = kelpladder_available_frames(zero());
     CHECK(available.refusal == KELPLADDER_BAD_STREAM && available.frames == 0 && same(available.stream, zero()));
     gave = kelpladder_read_f32(bad, 1, slice, 1, output, AREA);
@@ -167,7 +169,7 @@ static void refuses_write(kelpladder_stream stream, size_t frames, size_t input_
 {
     kelpladder_wrote wrote = write_in(stream, voice, frames, input_length, stage_length, output_length, scratch_length);
     CHECK(wrote.refusal == refusal);
-    CHECK(wrote.told.outcome == 0);
+    CHECK(wrote.told.outcome == 0 && wrote.told.passed == 0);
     CHECK(same(wrote.stream, stream));
 }
 
@@ -364,6 +366,71 @@ static void accepts_full_totals(void)
     CHECK(kelpladder_available_frames(wrote.stream).refusal == KELPLADDER_ACCEPTED);
 }
 
+/* A stream for skim tracks with this value of the setting: silence has period 20 and gives no frame. */
+static kelpladder_stream skim(uint32_t step_over)
+{
+    kelpladder_stream stream = with(20.0f, 0.5f);
+    stream.step_over = step_over;
+    return stream;
+}
+
+/* The setting writes 0 or 1, and nothing else; other calls hand any value back. */
+static void sets_step_over(void)
+{
+    kelpladder_stream moved = skim(0), expected;
+    CHECK(fresh(1).step_over == 0);
+    moved.old_rate_position = 1;
+    moved.new_rate_position = 2;
+    expected = moved;
+    expected.step_over = 1;
+    CHECK(kelpladder_set_step_over(moved, 1).refusal == KELPLADDER_ACCEPTED);
+    CHECK(same(kelpladder_set_step_over(moved, 1).stream, expected));
+    CHECK(same(kelpladder_set_step_over(moved, UINT32_MAX).stream, expected));
+    CHECK(same(kelpladder_set_step_over(expected, 0).stream, moved));
+    CHECK(kelpladder_set_step_over(skim(7), 2).stream.step_over == 1);
+    CHECK(kelpladder_set_speed(skim(7), 2.0f).stream.step_over == 7);
+    CHECK(kelpladder_set_pitch(skim(7), 2.0f).stream.step_over == 7);
+    CHECK(kelpladder_set_volume(skim(7), 2.0f).stream.step_over == 7);
+    CHECK(kelpladder_available_frames(skim(7)).stream.step_over == 7);
+}
+
+/* Silence: 300 frames are 3 steps that give no frame. Off they stall; on their periods are used, skipped and counted. */
+static void steps_over(void)
+{
+    kelpladder_wrote wrote;
+    memset(voice, 0, 300 * sizeof *voice);
+    wrote = write_all(skim(0), voice, 300);
+    CHECK(wrote.told.outcome == KELPLADDER_STALLED && wrote.told.passed == 0 && wrote.stream.held == 300);
+    wrote = write_all(kelpladder_set_step_over(wrote.stream, 1).stream, voice, 0);
+    CHECK(wrote.told.outcome == KELPLADDER_STRETCHED && wrote.told.passed == 3 && wrote.stream.held == 240 && wrote.stream.waiting == 0);
+    CHECK(totals_are(wrote.stream, 60, 0) && wrote.stream.tail == 0 && wrote.stream.prev_period == 20);
+    wrote = write_all(skim(7), voice, 300);
+    CHECK(wrote.told.outcome == KELPLADDER_STRETCHED && wrote.told.passed == 3 && wrote.stream.step_over == 7);
+    wrote = write_in(skim(1), voice, 300, 300, 0, 0, REQUIRED);
+    CHECK(wrote.refusal == KELPLADDER_ACCEPTED && wrote.told.passed == 3);
+    wrote = flush_in(skim(1), AREA, AREA, AREA);
+    CHECK(wrote.told.outcome == KELPLADDER_STRETCHED && wrote.told.passed == 13 && totals_are(wrote.stream, 260, 0));
+    CHECK(wrote.stream.held == 0 && wrote.stream.step_over == 1);
+    wrote = write_all(with(1.0f, 1.0f), voice, 300);
+    CHECK(wrote.told.outcome == KELPLADDER_COPIED && wrote.told.passed == 0);
+}
+
+/* A refused call passes over nothing; a total may come to its end by periods passed over. */
+static void refuses_stepping_over(void)
+{
+    const uint64_t end = UINT64_MAX;
+    kelpladder_stream stream = skim(1);
+    memset(voice, 0, 300 * sizeof *voice);
+    refuses_write(stream, 300, 299, AREA, AREA, REQUIRED, KELPLADDER_INPUT_FULL);
+    stream.balance.skipped = end - 59;
+    refuses_write(stream, 300, AREA, AREA, AREA, REQUIRED, KELPLADDER_TOTAL_FULL);
+    stream.balance.skipped = end - 60;
+    CHECK(totals_are(write_all(stream, voice, 300).stream, end, 0));
+    stream.step_over = 0;
+    stream.balance.skipped = end;
+    CHECK(write_all(stream, voice, 300).told.outcome == KELPLADDER_STALLED);
+}
+
 int main(void)
 {
     speak(0, AREA, 62);
@@ -382,6 +449,9 @@ int main(void)
     counts_flushes_and_stalls();
     refuses_full_totals();
     accepts_full_totals();
+    sets_step_over();
+    steps_over();
+    refuses_stepping_over();
     printf("header: %u checks of the C interface hold\n", checks);
     return 0;
 }

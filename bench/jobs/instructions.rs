@@ -1,8 +1,8 @@
 //! Instructions, counted by valgrind in runs of this program.
 
-use crate::reels::{Job, Reel, JOBS, REELS};
+use crate::reels::{pairs, Job, Reel};
 use crate::sides::Ours;
-use crate::{line_name, run, SonicStream};
+use crate::{line_name, passing, run, SonicStream};
 use std::hint::black_box;
 use std::process::Command;
 
@@ -15,6 +15,8 @@ pub extern "C" fn measured(ours: bool, job: &Job, reel: &Reel, samples: &Vec<f32
     let mut sink = |frames: &[f32]| { black_box(frames); };
     if ours {
         run::<Ours>(*job, *reel, samples, &mut sink);
+    } else if job.step_over {
+        run::<passing::SonicStream>(*job, *reel, samples, &mut sink);
     } else {
         run::<SonicStream>(*job, *reel, samples, &mut sink);
     }
@@ -45,13 +47,11 @@ fn counts_of(job: Job, reel: Reel) -> Option<[f64; 3]> {
 pub fn count_instructions() {
     let longer = 4 * COUNTED_SECONDS;
     println!("instructions for {COUNTED_SECONDS} seconds: ratio, ours and the original's in millions; ours for {longer} seconds over ours");
-    for reel in REELS {
-        for job in JOBS {
-            let Some([ours, original, longer]) = counts_of(job, reel) else {
-                println!("not counted: valgrind is not there, or gave no count");
-                return;
-            };
-            println!("{:18} {:.2}  {:.2} {:.2}  {:.2}", line_name(job, reel), ours / original, ours / 1e6, original / 1e6, longer / ours);
-        }
+    for (job, reel) in pairs() {
+        let Some([ours, original, longer]) = counts_of(job, reel) else {
+            println!("not counted: valgrind is not there, or gave no count");
+            return;
+        };
+        println!("{:18} {:.2}  {:.2} {:.2}  {:.2}", line_name(job, reel), ours / original, ours / 1e6, original / 1e6, longer / ours);
     }
 }

@@ -1,17 +1,20 @@
 //! The jobs, and the recordings that are made for them.
 
+use crate::speech::speech;
+
 /// Settings, frames of a write, and the most frames of a read.
 #[derive(Clone, Copy)]
 pub struct Job {
     pub name: &'static str,
     pub speed: f32,
     pub pitch: f32,
+    pub step_over: bool,
     pub chunk: usize,
     pub most: usize,
 }
 
 pub const fn job(name: &'static str, speed: f32, pitch: f32) -> Job {
-    Job { name, speed, pitch, chunk: 4_096, most: usize::MAX }
+    Job { name, speed, pitch, step_over: false, chunk: 4_096, most: usize::MAX }
 }
 
 pub const JOBS: [Job; 6] = [
@@ -20,23 +23,41 @@ pub const JOBS: [Job; 6] = [
     job("speed-0.5", 0.5, 1.0),
     job("pitch-0.5", 1.0, 0.5),
     job("copy", 1.0, 1.0),
-    Job { name: "short", speed: 2.0, pitch: 1.0, chunk: 160, most: 160 },
+    Job { chunk: 160, most: 160, ..job("short", 2.0, 1.0) },
 ];
 
-/// A recording to be made: its voice has a period in frames.
+/// A skim track that steps over.
+pub const STEPPING: Job = Job { step_over: true, ..job("step-over", 20.0, 0.5) };
+
+/// What is to be heard: a voice of one period in frames, or speech of several voices with noise and pauses, for one channel.
+#[derive(Clone, Copy)]
+pub enum Sound {
+    Voice(usize),
+    Speech,
+}
+
+/// A recording to be made.
 #[derive(Clone, Copy)]
 pub struct Reel {
     pub name: &'static str,
     pub rate: u32,
     pub channels: u32,
     pub seconds: usize,
-    pub period: usize,
+    pub sound: Sound,
 }
 
 pub const REELS: [Reel; 2] = [
-    Reel { name: "mono", rate: 8_000, channels: 1, seconds: 600, period: 62 },
-    Reel { name: "stereo", rate: 44_100, channels: 2, seconds: 60, period: 341 },
+    Reel { name: "mono", rate: 8_000, channels: 1, seconds: 600, sound: Sound::Voice(62) },
+    Reel { name: "stereo", rate: 44_100, channels: 2, seconds: 60, sound: Sound::Voice(341) },
 ];
+
+/// A reel at which a skim track stalls unless it steps over.
+pub const SPEECH: Reel = Reel { name: "speech", rate: 8_000, channels: 1, seconds: 600, sound: Sound::Speech };
+
+/// Every job with every reel, and the one that steps over with the reel made for it.
+pub fn pairs() -> impl Iterator<Item = (Job, Reel)> {
+    REELS.into_iter().flat_map(|reel| JOBS.map(|job| (job, reel))).chain([(STEPPING, SPEECH)])
+}
 
 /// One period of a voice with eight overtones.
 pub fn period_of(frames: usize) -> Vec<f64> {
@@ -44,19 +65,28 @@ pub fn period_of(frames: usize) -> Vec<f64> {
     (0..frames).map(|f| value(f as f64 / frames as f64)).collect()
 }
 
-/// A voice with some noise; the channels differ in loudness.
-pub fn samples_of(reel: Reel) -> Vec<f32> {
-    let tone = period_of(reel.period);
-    let channels = reel.channels as usize;
-    let frames = reel.rate as usize * reel.seconds;
-    let mut noise = 12345u32;
-    let mut all = Vec::with_capacity(frames * channels);
-    for f in 0..frames {
-        for c in 0..channels {
-            noise = noise.wrapping_mul(1_664_525).wrapping_add(1_013_904_223);
-            let rustle = f64::from(noise >> 16) / 65_536.0 - 0.5;
-            all.push((tone[f % reel.period] * 0.3 / (c + 1) as f64 + rustle * 0.008) as f32);
-        }
+/// Noise from -0.5 to 0.5.
+pub struct Noise(pub u32);
+
+impl Noise {
+    pub fn next(&mut self) -> f64 {
+        self.0 = self.0.wrapping_mul(1_664_525).wrapping_add(1_013_904_223);
+        f64::from(self.0 >> 16) / 65_536.0 - 0.5
     }
-    all
+}
+
+/// A voice with some noise; the channels differ in loudness.
+fn voice(period: usize, frames: usize, channels: usize) -> Vec<f32> {
+    let (tone, mut noise) = (period_of(period), Noise(12345));
+    let sample = |f: usize, c: usize, rustle: f64| (tone[f % period] * 0.3 / (c + 1) as f64 + rustle * 0.008) as f32;
+    (0..frames * channels).map(|i| sample(i / channels, i % channels, noise.next())).collect()
+}
+
+/// The samples of a recording.
+pub fn samples_of(reel: Reel) -> Vec<f32> {
+    let frames = reel.rate as usize * reel.seconds;
+    match reel.sound {
+        Sound::Voice(period) => voice(period, frames, reel.channels as usize),
+        Sound::Speech => speech(frames),
+    }
 }

@@ -1,6 +1,8 @@
 //! The two implementations, as a job uses them.
 
 use crate::calls;
+use crate::passing;
+use crate::reels::{Job, Reel};
 use crate::SonicStream;
 use std::hint::black_box;
 
@@ -8,7 +10,7 @@ const STALLED: u32 = 4;
 
 /// One of the two implementations, as a job uses it. Frames read are handed to `sink`.
 pub trait Side {
-    fn open(rate: u32, channels: u32, speed: f32, pitch: f32) -> Self;
+    fn open(reel: Reel, job: Job) -> Self;
     fn write(&mut self, samples: &[f32]);
     fn read(&mut self, most: usize, sink: &mut dyn FnMut(&[f32]));
     fn flush(&mut self);
@@ -38,11 +40,12 @@ impl Ours {
 }
 
 impl Side for Ours {
-    fn open(rate: u32, channels: u32, speed: f32, pitch: f32) -> Self {
-        let required = 2 * (rate as usize / 65);
-        let length = (8 * required * channels as usize).max(65_536);
-        let faster = calls::set_speed(calls::open(rate, channels).stream, speed);
-        let stream = calls::set_pitch(faster.stream, pitch).stream;
+    fn open(reel: Reel, job: Job) -> Self {
+        let required = 2 * (reel.rate as usize / 65);
+        let length = (8 * required * reel.channels as usize).max(65_536);
+        let faster = calls::set_speed(calls::open(reel.rate, reel.channels).stream, job.speed);
+        let lower = calls::set_pitch(faster.stream, job.pitch);
+        let stream = calls::set_step_over(lower.stream, u32::from(job.step_over)).stream;
         let area = || vec![0i16; length];
         Ours { stream, input: area(), stage: area(), output: area(), scratch: vec![0; required], frames: vec![0.0; length] }
     }
@@ -59,30 +62,38 @@ impl Side for Ours {
         sink(&self.frames[..answer.frames * self.stream.channels as usize]);
     }
 
-    // At speed 20 the silence of a flush stalls: its period is the least of the range.
+    // At speed 20 the silence of a flush stalls, unless the stream steps over: its period is the least of the range.
     fn flush(&mut self) {
         let answer = calls::flush(self.stream, self.lend());
         self.accept(answer);
     }
 }
 
-impl Side for SonicStream {
-    fn open(rate: u32, channels: u32, speed: f32, pitch: f32) -> Self {
-        let mut stream = SonicStream::new(rate, channels).expect("in range");
-        stream.set_speed(black_box(speed));
-        stream.set_pitch(black_box(pitch));
-        stream
-    }
+/// Makes a stream of the original, or of its copy that steps over, a side.
+macro_rules! original_side {
+    ($stream:ty) => {
+        impl Side for $stream {
+            fn open(reel: Reel, job: Job) -> Self {
+                let mut stream = <$stream>::new(reel.rate, reel.channels).expect("in range");
+                stream.set_speed(black_box(job.speed));
+                stream.set_pitch(black_box(job.pitch));
+                stream
+            }
 
-    fn write(&mut self, samples: &[f32]) {
-        self.write_f32(samples);
-    }
+            fn write(&mut self, samples: &[f32]) {
+                self.write_f32(samples);
+            }
 
-    fn read(&mut self, most: usize, sink: &mut dyn FnMut(&[f32])) {
-        sink(&self.read_f32(most));
-    }
+            fn read(&mut self, most: usize, sink: &mut dyn FnMut(&[f32])) {
+                sink(&self.read_f32(most));
+            }
 
-    fn flush(&mut self) {
-        SonicStream::flush(self);
-    }
+            fn flush(&mut self) {
+                <$stream>::flush(self);
+            }
+        }
+    };
 }
+
+original_side!(SonicStream);
+original_side!(passing::SonicStream);

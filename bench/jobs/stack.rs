@@ -1,7 +1,7 @@
 //! The stack that the calls use: a painted one, looked at afterwards.
 
 use crate::instructions::measured;
-use crate::reels::{samples_of, Reel, JOBS, REELS};
+use crate::reels::{pairs, samples_of, Reel, Sound, JOBS, STEPPING};
 use std::alloc::{alloc, dealloc, Layout};
 use std::ffi::c_void;
 use std::ptr::null_mut;
@@ -17,13 +17,13 @@ extern "C" {
     fn pthread_join(thread: u64, answer: *mut *mut c_void) -> i32;
 }
 
-/// Two seconds of every job on every reel, and a flush at the highest rate with the most channels, all on our side.
+/// Two seconds of every job on its reels, and a flush at the highest rate with the most channels, all on our side.
 extern "C" fn every_call(_: *mut c_void) -> *mut c_void {
-    let widest = Reel { name: "widest", rate: 500_000, channels: 32, seconds: 0, period: 4_000 };
-    for job in JOBS {
-        for reel in REELS {
-            measured(true, &job, &reel, &samples_of(Reel { seconds: 2, ..reel }));
-        }
+    let widest = Reel { name: "widest", rate: 500_000, channels: 32, seconds: 0, sound: Sound::Voice(4_000) };
+    for (job, reel) in pairs() {
+        measured(true, &job, &reel, &samples_of(Reel { seconds: 2, ..reel }));
+    }
+    for job in JOBS.into_iter().chain([STEPPING]) {
         measured(true, &job, &widest, &Vec::new());
     }
     null_mut()

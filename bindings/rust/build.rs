@@ -13,6 +13,9 @@ const REPOSITORY: &str = "../..";
 /// The original, from this package; KELPLADDER_ORIGINAL names another place.
 const ORIGINAL: &str = "../../../shared/docs/src/src/lib.rs";
 
+/// What ends a call of the original at a step that gave no frame. Without it, the original steps over.
+const RETURN: &str = "                if new_samples == 0 {\n                    return;\n                }\n";
+
 fn package() -> PathBuf {
     PathBuf::from(env::var_os("CARGO_MANIFEST_DIR").expect("cargo names the package's folder"))
 }
@@ -55,7 +58,14 @@ fn link() {
     println!("cargo::rustc-link-lib=static=sonic_c");
 }
 
-/// Writes the module that the tests include: the original's text, in its place, if it is there.
+/// Writes a copy of the original that steps over.
+fn write_passing(original: &Path, copy: &Path) {
+    let text = fs::read_to_string(original).expect("the original can be read");
+    assert_eq!(text.matches(RETURN).count(), 1, "one place of {} ends a call at a step that gave no frame", original.display());
+    fs::write(copy, text.replace(RETURN, "")).expect("the copy can be written");
+}
+
+/// Writes the modules that the tests include: the original's text, in its place, if it is there, and a copy that steps over.
 fn find_original() {
     let path = env::var_os("KELPLADDER_ORIGINAL").map_or_else(|| package().join(ORIGINAL), PathBuf::from);
     println!("cargo::rerun-if-env-changed=KELPLADDER_ORIGINAL");
@@ -63,7 +73,10 @@ fn find_original() {
     println!("cargo::rustc-check-cfg=cfg(original)");
     if let Ok(path) = path.canonicalize() {
         let folder = PathBuf::from(env::var_os("OUT_DIR").expect("cargo names a folder for this script"));
-        let text = format!("#[allow(dead_code)]\n#[path = {path:?}]\nmod original;\n");
+        let passing = folder.join("passing.rs");
+        write_passing(&path, &passing);
+        let module = |name, path: &Path| format!("#[allow(dead_code, unused_variables)]\n#[path = {path:?}]\nmod {name};\n");
+        let text = module("original", &path) + &module("passing", &passing);
         fs::write(folder.join("original.rs"), text).expect("the module can be written");
         println!("cargo::rustc-cfg=original");
     }

@@ -32,7 +32,7 @@ fn stream_in_order() -> Stream {
 }
 
 /// Fields at their ends.
-const AT_THE_ENDS: [(&str, Edit); 18] = [
+const AT_THE_ENDS: [(&str, Edit); 21] = [
     ("lowest speed", |s| s.speed = 0.05),
     ("highest speed", |s| s.speed = 20.0),
     ("lowest volume", |s| s.volume = 0.01),
@@ -51,6 +51,9 @@ const AT_THE_ENDS: [(&str, Edit); 18] = [
     ("waiting absurd", |s| s.waiting = usize::MAX),
     ("skipped at its end", |s| s.balance.skipped = u64::MAX),
     ("inserted at its end", |s| s.balance.inserted = u64::MAX),
+    ("step over 1", |s| s.step_over = 1),
+    ("step over 2", |s| s.step_over = 2),
+    ("step over at its end", |s| s.step_over = u32::MAX),
 ];
 
 /// Fields just past their ends.
@@ -90,7 +93,7 @@ const PAST_THE_ENDS: [(&str, Edit); 30] = [
 /// Each kind of call on a stream, in areas with room.
 fn every_call() -> Vec<Call> {
     let areas = Lengths { input: 40_000, stage: 90_000, output: 90_000, scratch: 300 };
-    let settings = [Setting::Speed(1.5), Setting::Pitch(0.5), Setting::Volume(2.0)].map(Call::Set);
+    let settings = [Setting::Speed(1.5), Setting::Pitch(0.5), Setting::Volume(2.0), Setting::StepOver(0), Setting::StepOver(1)].map(Call::Set);
     let others = [Call::Available, Call::Write { samples: vec![0.5; 64], areas }, Call::Read { most: 1, slice: 40, output: 90_000 }];
     settings.into_iter().chain(others).chain([Call::Flush { areas }]).collect()
 }

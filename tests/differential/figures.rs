@@ -7,21 +7,24 @@ use crate::balances::balances;
 use crate::interface::{Balance, Setting, Stream, COPIED, STALLED, STRETCHED, WAITING};
 use crate::model::numbers::sample_period;
 use crate::model::search::max_required;
+use crate::passes::passes;
 use crate::run::{Call, Kept, Lengths};
 
-/// A run with the refusal, the outcome and the frames of its last call, and the samples that it leaves in the output, if few, or the totals
-/// that it leaves.
+/// A run with the refusal, the outcome and the frames of its last call, and, where they are known, the samples that it leaves in the output,
+/// the totals that it leaves, the periods passed over in its last call, and the setting to step over that it leaves.
 pub struct Figure {
     pub name: &'static str,
     pub calls: Vec<Call>,
     pub wanted: (u32, u32, usize),
     pub output: Option<Vec<i16>>,
     pub balance: Option<Balance>,
+    pub passed: Option<usize>,
+    pub step_over: Option<u32>,
 }
 
 /// A figure.
 pub fn figure(name: &'static str, calls: Vec<Call>, wanted: (u32, u32, usize)) -> Figure {
-    Figure { name, calls, wanted, output: None, balance: None }
+    Figure { name, calls, wanted, output: None, balance: None, passed: None, step_over: None }
 }
 
 /// A figure with known samples, all copied in the last call.
@@ -242,7 +245,7 @@ fn absurd() -> Vec<Figure> {
 
 /// Every figure.
 pub fn figures() -> Vec<Figure> {
-    let all = [samples(), refusals(), local_speeds(), steps(), conversions(), balances(), absurd(), tables(), longest()];
+    let all = [samples(), refusals(), local_speeds(), steps(), conversions(), balances(), passes(), absurd(), tables(), longest()];
     all.into_iter().flatten().collect()
 }
 

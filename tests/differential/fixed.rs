@@ -14,7 +14,8 @@ const FIXED_RUNS: u64 = 5_000;
 /// Made-up streams whose calls are tried in areas just long enough and one sample short.
 const BORDER_SEEDS: u64 = 300;
 
-/// Plays a figure; its last answer has to be the one known, and the samples left in the output and the totals, where they are known.
+/// Plays a figure; its last answer has to be the one known, and so have the periods passed over, the samples left in the output, the totals
+/// and the setting to step over, where they are known.
 fn play_figure(bench: &mut Bench<'_>, figure: Figure) -> Result<(), Failure> {
     let answer = bench.play(&figure.calls)?;
     let answered = (answer.refusal, answer.outcome, answer.frames);
@@ -22,8 +23,12 @@ fn play_figure(bench: &mut Bench<'_>, figure: Figure) -> Result<(), Failure> {
         format!("{answer:?} in place of {:?}", figure.wanted)
     } else if figure.output.as_ref().is_some_and(|output| *output != bench.output) {
         format!("{:?} in place of {:?}", bench.output, figure.output)
-    } else if figure.balance.is_some_and(|balance| balance != bench.balance) {
-        format!("{:?} in place of {:?}", bench.balance, figure.balance)
+    } else if figure.balance.is_some_and(|balance| balance != bench.stream.balance) {
+        format!("{:?} in place of {:?}", bench.stream.balance, figure.balance)
+    } else if figure.passed.is_some_and(|passed| passed != answer.passed) {
+        format!("{} passed over in place of {:?}", answer.passed, figure.passed)
+    } else if figure.step_over.is_some_and(|value| value != bench.stream.step_over) {
+        format!("step_over {} in place of {:?}", bench.stream.step_over, figure.step_over)
     } else {
         return Ok(());
     };

@@ -14,7 +14,7 @@ pub const COPIED: u32 = 1;
 pub const WAITING: u32 = 2;
 /// Stretched.
 pub const STRETCHED: u32 = 3;
-/// A step gave no frame.
+/// A step gave no frame, and ended the call.
 pub const STALLED: u32 = 4;
 
 /// The names of the float fields, in the order of `floats`.
@@ -52,8 +52,11 @@ impl Stream {
                 return Some(format!("{name} {a:?} ({:08x}) in place of {b:?} ({:08x})", a.to_bits(), b.to_bits()));
             }
         }
-        let wholes = |stream: &Stream| stream.wholes().map(|whole| whole as u64).into_iter().chain(stream.totals());
-        let names = WHOLE_NAMES.iter().chain(&TOTAL_NAMES);
+        let wholes = |stream: &Stream| {
+            let totals = stream.totals().into_iter().chain([u64::from(stream.step_over)]);
+            stream.wholes().map(|whole| whole as u64).into_iter().chain(totals)
+        };
+        let names = WHOLE_NAMES.iter().chain(&TOTAL_NAMES).chain(&["step_over"]);
         let fields = names.zip(wholes(self).zip(wholes(other)));
         fields.filter(|(_, (a, b))| a != b).map(|(name, (a, b))| format!("{name} {a} in place of {b}")).next()
     }
@@ -64,19 +67,20 @@ pub fn same_float(a: f32, b: f32) -> bool {
     a.to_bits() == b.to_bits() || (a.is_nan() && b.is_nan())
 }
 
-/// One of the three settings.
+/// One of the four settings.
 #[derive(Clone, Copy, Debug)]
 pub enum Setting {
     Speed(f32),
     Pitch(f32),
     Volume(f32),
+    StepOver(u32),
 }
 
 /// What answers the calls.
 pub trait Subject {
     /// Opens a stream.
     fn open(&mut self, rate: u32, channels: u32) -> Opened;
-    /// Sets the speed, the pitch or the volume.
+    /// Sets the speed, the pitch, the volume or whether it steps over.
     fn set(&mut self, stream: Stream, setting: Setting) -> Changed;
     /// Counts the frames waiting.
     fn available(&mut self, stream: Stream) -> Available;

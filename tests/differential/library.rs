@@ -15,6 +15,7 @@ impl Subject for Library {
             Setting::Speed(speed) => calls::set_speed(stream, speed),
             Setting::Pitch(pitch) => calls::set_pitch(stream, pitch),
             Setting::Volume(volume) => calls::set_volume(stream, volume),
+            Setting::StepOver(on) => calls::set_step_over(stream, on),
         }
     }
 

@@ -74,6 +74,11 @@ fn total(random: &mut Random, rate: u32) -> u64 {
     }
 }
 
+/// A value of the setting to step over; any but 0 is on.
+pub fn step_over(random: &mut Random) -> u32 {
+    if random.once_in(2) { 0 } else { random.one_of(&[1, 1, 2, 7, 1 << 31, u32::MAX]) }
+}
+
 /// The number of frames held.
 fn held(random: &mut Random, rate: u32) -> usize {
     let required = max_required(rate);
@@ -104,6 +109,7 @@ pub fn in_order(random: &mut Random, judge: &Model, rate: u32, channels: u32, si
     stream.tail = random.one_of(&[0, 0, 1, 11, 12, 13, 40]);
     stream.waiting = random.one_of(&[0, 0, 1, 7, 100]);
     stream.balance = Balance { skipped: total(random, rate), inserted: total(random, rate) };
+    stream.step_over = step_over(random);
     let period = random.between(min_period(rate), max_period(rate));
     let s = aimed_speed(random, period);
     stream.input_play_time = play_time(random, &stream, s);

@@ -1,5 +1,5 @@
 //! Two reels at 8,000 Hz mono, speed 20, pitch 0.5. A voice of period 62 runs to its end; a voice that goes over to period 34 stalls,
-//! and each later write says so, while the original only lets its input grow.
+//! and each later write says so, while the original only lets its input grow. A stream that steps over runs to the end of both.
 
 use crate::interface::{Setting, STALLED};
 use crate::run::{Call, Lengths};
@@ -19,6 +19,7 @@ struct Played {
     stalled: Vec<usize>,
     held: Vec<usize>,
     frames: usize,
+    passed: usize,
 }
 
 /// The samples of a reel: a voice of one period, and from a write on of another.
@@ -28,15 +29,16 @@ fn reel(first: usize, second: usize, from: usize) -> Vec<Vec<f32>> {
     (0..WRITES).map(|write| voices[usize::from(write >= from)].frames(&mut random, BLOCK, 1)).collect()
 }
 
-/// Plays a reel; every answer is compared with the original.
-fn play(blocks: Vec<Vec<f32>>) -> Result<Played, String> {
+/// Plays a reel on a stream that steps over or does not; every answer is compared with the original.
+fn play(blocks: Vec<Vec<f32>>, step_over: u32) -> Result<Played, String> {
     let (_, mut subject) = subject();
     let mut bench = Bench::new(&mut *subject);
     let mut session = bench.session();
     session.step(&Call::Open { rate: 8_000, channels: 1 })?;
     session.step(&Call::Set(Setting::Speed(20.0)))?;
     session.step(&Call::Set(Setting::Pitch(0.5)))?;
-    let mut played = Played { stalled: Vec::new(), held: Vec::new(), frames: 0 };
+    session.step(&Call::Set(Setting::StepOver(step_over)))?;
+    let mut played = Played { stalled: Vec::new(), held: Vec::new(), frames: 0, passed: 0 };
     for (write, samples) in blocks.into_iter().enumerate() {
         let answer = session.step(&Call::Write { samples, areas: ROOM })?;
         if answer.refusal != 0 {
@@ -47,6 +49,7 @@ fn play(blocks: Vec<Vec<f32>>) -> Result<Played, String> {
         }
         played.held.push(session.stream.held);
         played.frames += answer.frames;
+        played.passed += answer.passed;
     }
     Ok(played)
 }
@@ -60,7 +63,7 @@ fn only_grows_from(held: &[usize]) -> Option<usize> {
 
 /// Says how reel one went; it must not stall.
 fn reel_one() -> Result<bool, String> {
-    let played = play(reel(62, 62, 0))?;
+    let played = play(reel(62, 62, 0), 0)?;
     let left = played.held[WRITES - 1];
     let stalled = played.stalled.len();
     println!("reel one: {WRITES} writes of {BLOCK} frames, {stalled} stalled; {} frames made, {left} held at the end", played.frames);
@@ -69,7 +72,7 @@ fn reel_one() -> Result<bool, String> {
 
 /// Says how reel two went; it must stall from the write on from which the original only lets its input grow.
 fn reel_two() -> Result<bool, String> {
-    let played = play(reel(62, 34, WRITES / 2))?;
+    let played = play(reel(62, 34, WRITES / 2), 0)?;
     let (stalled, left) = (played.stalled.len(), played.held[WRITES - 1]);
     let first = played.stalled.first().copied();
     println!(
@@ -81,10 +84,21 @@ fn reel_two() -> Result<bool, String> {
     Ok(first.is_some() && first == only_grows_from(&played.held) && Some(WRITES - stalled) == first)
 }
 
-/// Plays both reels.
+/// Says how both reels went on a stream that steps over: nothing stalls, and it passes over the second voice of reel two alone.
+fn stepping_over() -> Result<bool, String> {
+    let (one, two) = (play(reel(62, 62, 0), 1)?, play(reel(62, 34, WRITES / 2), 1)?);
+    for (name, played) in [("one", &one), ("two", &two)] {
+        let (passed, left) = (played.passed, played.held[WRITES - 1]);
+        println!("reel {name}, stepping over: {passed} periods passed over; {} frames made, {left} held at the end", played.frames);
+    }
+    let ran = |played: &Played| played.stalled.is_empty() && played.held[WRITES - 1] < BLOCK;
+    Ok(ran(&one) && ran(&two) && one.passed == 0 && two.passed > 1_000)
+}
+
+/// Plays both reels, then both stepping over.
 pub fn reels() -> bool {
-    let both = reel_one().and_then(|one| reel_two().map(|two| one && two));
-    both.unwrap_or_else(|difference| {
+    let played = [reel_one(), reel_two(), stepping_over()].into_iter().collect::<Result<Vec<bool>, String>>();
+    played.map(|all| all.into_iter().all(|right| right)).unwrap_or_else(|difference| {
         println!("reels: {difference}");
         false
     })

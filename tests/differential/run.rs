@@ -60,7 +60,7 @@ fn made_text(s: &Stream, kept: &Kept) -> String {
     let floats = [s.speed, s.pitch, s.volume, s.sample_period, s.input_play_time, s.time_error];
     let wholes = [s.old_rate_position, s.new_rate_position, s.prev_period, s.prev_min_diff, s.held, s.tail, s.waiting];
     let totals = [s.balance.skipped, s.balance.inserted];
-    let wholes = wholes.iter().map(usize::to_string).chain(totals.iter().map(u64::to_string));
+    let wholes = wholes.iter().map(usize::to_string).chain(totals.iter().map(u64::to_string)).chain([s.step_over.to_string()]);
     let fields: Vec<String> = floats.iter().map(|v| format!("{v:?}")).chain(wholes).collect();
     let parts = [("input", &kept.input), ("tail", &kept.tail), ("output", &kept.output)];
     let parts: Vec<String> = parts.iter().map(|(name, values)| format!("{name}{}", samples(values))).collect();
@@ -75,6 +75,7 @@ impl std::fmt::Display for Call {
             Call::Set(Setting::Speed(value)) => write!(f, "speed {value:?}"),
             Call::Set(Setting::Pitch(value)) => write!(f, "pitch {value:?}"),
             Call::Set(Setting::Volume(value)) => write!(f, "volume {value:?}"),
+            Call::Set(Setting::StepOver(value)) => write!(f, "step_over {value}"),
             Call::Available => write!(f, "available"),
             Call::Write { samples, areas } => {
                 write!(f, "write {areas} samples{}", list(samples, |a, b| a.to_bits() == b.to_bits()))
@@ -139,6 +140,7 @@ fn made(words: &mut Words<'_>) -> Result<Call, String> {
         tail: value(words)?,
         waiting: value(words)?,
         balance: Balance { skipped: value(words)?, inserted: value(words)? },
+        step_over: value(words)?,
     };
     expect(words, "input")?;
     let input = values(words)?;
@@ -174,6 +176,7 @@ fn call(line: &str) -> Result<Call, String> {
         Some("speed") => Ok(Call::Set(Setting::Speed(value(words)?))),
         Some("pitch") => Ok(Call::Set(Setting::Pitch(value(words)?))),
         Some("volume") => Ok(Call::Set(Setting::Volume(value(words)?))),
+        Some("step_over") => Ok(Call::Set(Setting::StepOver(value(words)?))),
         Some("available") => Ok(Call::Available),
         Some("write") => write(words),
         Some("read") => read(words),

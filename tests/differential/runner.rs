@@ -5,7 +5,7 @@ use std::io::Write;
 use std::panic::{catch_unwind, AssertUnwindSafe};
 use std::sync::atomic::{AtomicBool, Ordering};
 
-use crate::interface::{Balance, Subject};
+use crate::interface::{Stream, Subject};
 use crate::lending::Buffers;
 use crate::model::Model;
 use crate::model_with;
@@ -20,14 +20,14 @@ pub struct Failure {
     pub what: String,
 }
 
-/// What takes part in a comparison: the subject, the model that judges, the counts, the output and the totals that the last run left, and
+/// What takes part in a comparison: the subject, the model that judges, the counts, the output and the stream that the last run left, and
 /// the areas.
 pub struct Bench<'a> {
     subject: &'a mut dyn Subject,
     pub judge: Model,
     pub tally: Tally,
     pub output: Vec<i16>,
-    pub balance: Balance,
+    pub stream: Stream,
     buffers: Buffers,
 }
 
@@ -64,8 +64,8 @@ impl<'a> Bench<'a> {
 
     /// A comparison with a model of one's choice as the judge.
     pub fn judged_by(subject: &'a mut dyn Subject, judge: Model) -> Bench<'a> {
-        let (tally, output, balance, buffers) = (Tally::default(), Vec::new(), Balance::default(), Buffers::new());
-        Bench { subject, judge, tally, output, balance, buffers }
+        let (tally, output, stream, buffers) = (Tally::default(), Vec::new(), Stream::default(), Buffers::new());
+        Bench { subject, judge, tally, output, stream, buffers }
     }
 
     /// A run that has not begun.
@@ -91,7 +91,7 @@ impl<'a> Bench<'a> {
             Ok(())
         }));
         RUNNING.store(false, Ordering::Relaxed);
-        (self.balance, self.output) = (session.stream.balance, session.kept.output);
+        (self.stream, self.output) = (session.stream, session.kept.output);
         self.tally.runs += 1;
         match ended {
             Ok(Ok(())) => Ok(last),

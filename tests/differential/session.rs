@@ -1,7 +1,7 @@
 //! One run under way: each call goes to the subject, to the model, which says whether it is refused and how it goes, and, if it is
 //! accepted, to the original. After every call all that document 01 does not leave free is compared.
 
-use crate::interface::{same_float, Gave, Setting, Stream, Subject, Wrote};
+use crate::interface::{same_float, Gave, Setting, Stream, Subject, Told, Wrote};
 use crate::lending::{slice_with_guard, Buffers, Leftovers};
 use crate::model::Model;
 use crate::original::Original;
@@ -11,12 +11,13 @@ use crate::tally::Tally;
 /// Samples that a part can keep in this test; a stream that claims more cannot be told by the original.
 const KEPT_AT_MOST: usize = 1 << 25;
 
-/// The answer of a call: its refusal, its outcome, and its frames.
+/// The answer of a call: its refusal, its outcome, its frames, and the periods passed over.
 #[derive(Clone, Copy, Debug, Default)]
 pub struct Answer {
     pub refusal: u32,
     pub outcome: u32,
     pub frames: usize,
+    pub passed: usize,
 }
 
 /// A run under way.
@@ -168,7 +169,7 @@ impl<'a> Session<'a> {
             equal("frames waiting in the original", got.frames, self.original()?.available())?;
         }
         self.take(got.stream, said.stream, got.refusal)?;
-        Ok(Answer { refusal: got.refusal, frames: got.frames, outcome: 0 })
+        Ok(Answer { refusal: got.refusal, frames: got.frames, ..Answer::default() })
     }
 
     /// Makes the areas of a call, for the subject and for the judge with different leftovers.
@@ -194,19 +195,23 @@ impl<'a> Session<'a> {
     }
 
     /// Compares what a write or a flush gave. The original tells refusal 12 from its own totals.
-    fn settle(&mut self, said: Wrote, got: Wrote, original: impl FnOnce(&mut Original) -> Result<u32, u32>) -> Result<Answer, String> {
-        let outcome = got.told.outcome;
+    fn settle(&mut self, said: Wrote, got: Wrote, original: impl FnOnce(&mut Original) -> Result<Told, u32>) -> Result<Answer, String> {
+        let Told { outcome, passed } = got.told;
         equal("refusal", got.refusal, said.refusal)?;
         equal("outcome", outcome, said.told.outcome)?;
+        equal("periods passed over", passed, said.told.passed)?;
         let waiting = self.stream.waiting;
+        let mut told = Told::default();
         if [0, 12].contains(&got.refusal) {
-            let told = original(self.original()?);
-            equal("refusal by the original", got.refusal, told.err().unwrap_or(0))?;
-            equal("outcome of the original", outcome, told.unwrap_or(0))?;
+            let answer = original(self.original()?);
+            equal("refusal by the original", got.refusal, answer.err().unwrap_or(0))?;
+            told = answer.unwrap_or_default();
         }
+        equal("outcome of the original", outcome, told.outcome)?;
+        equal("periods that the original passes over", passed, told.passed)?;
         self.take(got.stream, said.stream, got.refusal)?;
         self.compare_kept(got.refusal)?;
-        Ok(Answer { refusal: got.refusal, outcome, frames: self.stream.waiting.wrapping_sub(waiting) })
+        Ok(Answer { refusal: got.refusal, outcome, frames: self.stream.waiting.wrapping_sub(waiting), passed })
     }
 
     /// Compares the kept parts of the areas: with the original's if the call was accepted, with those lent if it was refused.
@@ -261,6 +266,6 @@ impl<'a> Session<'a> {
         let reach = if got.refusal == 0 { kept.len() } else { kept.len().min(area.len()) };
         equal_samples("output", area.get(..reach).ok_or("more kept than the area takes")?, &kept[..reach])?;
         self.buffers.lent.check_guards()?;
-        Ok(Answer { refusal: got.refusal, frames: got.frames, outcome: 0 })
+        Ok(Answer { refusal: got.refusal, frames: got.frames, ..Answer::default() })
     }
 }

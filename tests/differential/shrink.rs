@@ -83,6 +83,7 @@ fn plainer_streams(stream: &Stream) -> Vec<Stream> {
     all.push(Stream { old_rate_position: 0, new_rate_position: 0, ..*stream });
     all.push(Stream { balance: Balance { skipped: 0, ..stream.balance }, ..*stream });
     all.push(Stream { balance: Balance { inserted: 0, ..stream.balance }, ..*stream });
+    all.extend((0..stream.step_over.min(2)).map(|step_over| Stream { step_over, ..*stream }));
     all.retain(|other| other.difference(stream).is_some());
     let floats: [fn(&mut Stream) -> &mut f32; 5] =
         [|s| &mut s.speed, |s| &mut s.pitch, |s| &mut s.volume, |s| &mut s.input_play_time, |s| &mut s.time_error];
@@ -146,6 +147,7 @@ fn simpler(call: &Call) -> Vec<Call> {
         Call::Set(Setting::Speed(value)) => set(plainer_float(*value), Setting::Speed),
         Call::Set(Setting::Pitch(value)) => set(plainer_float(*value), Setting::Pitch),
         Call::Set(Setting::Volume(value)) => set(plainer_float(*value), Setting::Volume),
+        Call::Set(Setting::StepOver(value)) => (0..(*value).min(2)).map(|on| Call::Set(Setting::StepOver(on))).collect(),
         Call::Write { samples, areas } => plainer_write(samples, areas),
         Call::Flush { areas } => plainer_lengths(areas).into_iter().map(|areas| Call::Flush { areas }).collect(),
         Call::Read { .. } | Call::Available => Vec::new(),

@@ -1,6 +1,6 @@
 //! Random runs: which call comes next, with which arguments and areas.
 
-use crate::interface::Setting;
+use crate::interface::{Setting, STALLED};
 use crate::made_up;
 use crate::model::search::max_required;
 use crate::run::{Call, Lengths};
@@ -112,10 +112,14 @@ impl Scenario {
         if random.once_in(3) {
             self.next.push(Call::Set(Setting::Volume(made_up::volume(random))));
         }
+        if random.once_in(if self.mood == Mood::Stall { 2 } else { 4 }) {
+            self.next.push(Call::Set(Setting::StepOver(1)));
+        }
         self.next.push(Call::Open { rate: self.rate, channels: self.channels });
     }
 
-    /// A call of a kind that fits the run; a stream out of order, or with a total at its end, is soon opened anew.
+    /// A call of a kind that fits the run; a stream out of order, or with a total at its end, is soon opened anew, and one that stalled may
+    /// step over.
     fn choose(&mut self, session: &Session<'_>) -> Call {
         let crowded = session.stream.waiting > 4_000;
         if std::mem::take(&mut self.after_made) && self.random.once_in(2) {
@@ -123,6 +127,10 @@ impl Scenario {
         }
         if [3, 12].contains(&session.last.refusal) && self.mood != Mood::Refused && self.random.once_in(3) {
             return Call::Open { rate: self.rate, channels: self.channels };
+        }
+        if session.last.outcome == STALLED && self.random.once_in(12) {
+            self.after_made = true;
+            return Call::Set(Setting::StepOver(made_up::step_over(&mut self.random)));
         }
         match self.random.below(100) {
             0..=4 if self.mood == Mood::Refused => Call::Open { rate: self.random.one_of(&RATES), channels: 1 + self.random.below(33) as u32 },
@@ -164,10 +172,11 @@ impl Scenario {
         let random = &mut self.random;
         let outside = random.once_in(6);
         let same = random.once_in(4);
-        let setting = match random.below(3) {
+        let setting = match random.below(4) {
             0 => Setting::Speed(if outside { random.one_of(&OUTSIDE) } else if same { session.stream.pitch } else { made_up::ratio(random) }),
             1 => Setting::Pitch(if outside { random.one_of(&OUTSIDE) } else if same { session.stream.pitch } else { made_up::ratio(random) }),
-            _ => Setting::Volume(if outside { random.one_of(&OUTSIDE) } else { made_up::volume(random) }),
+            2 => Setting::Volume(if outside { random.one_of(&OUTSIDE) } else { made_up::volume(random) }),
+            _ => Setting::StepOver(if same { session.stream.step_over } else { made_up::step_over(random) }),
         };
         Call::Set(setting)
     }

@@ -22,6 +22,7 @@ pub struct Tally {
     pub runs: u64,
     pub calls: u64,
     pub frames: u64,
+    passed: [u64; 6],
     refusals: [[u64; 13]; 6],
     outcomes: [[u64; 5]; 6],
 }
@@ -44,6 +45,7 @@ impl Tally {
         if answer.refusal == 0 && (kind == 3 || kind == 5) {
             self.outcomes[kind][answer.outcome as usize] += 1;
             self.frames += answer.frames as u64;
+            self.passed[kind] += answer.passed as u64;
         }
     }
 
@@ -57,6 +59,7 @@ impl Tally {
         for (kind, possible) in [(3, &OF_WRITE[..]), (5, &OF_FLUSH[..])] {
             let unmet = possible.iter().filter(|&&outcome| self.outcomes[kind][outcome as usize] == 0);
             all.extend(unmet.map(|&outcome| format!("{} answering {}", CALLS[kind], OUTCOMES[outcome as usize])));
+            all.extend((self.passed[kind] == 0).then(|| format!("{} passing over", CALLS[kind])));
         }
         all.extend(EVENTS.iter().filter(|(event, _)| judge.met(*event) == 0).map(|(_, words)| words.to_string()));
         all
@@ -71,6 +74,7 @@ impl Tally {
             if kind == 3 || kind == 5 {
                 let outcomes = OUTCOMES.iter().zip(self.outcomes[kind]).filter(|(_, count)| *count > 0);
                 print!("; {}", outcomes.map(|(name, count)| format!("{name} {count}")).collect::<Vec<_>>().join(", "));
+                print!("; periods passed over {}", self.passed[kind]);
             }
             println!();
         }

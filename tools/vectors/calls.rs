@@ -24,14 +24,14 @@ struct Tried {
 
 impl Session {
     fn new() -> Self {
-        Self { fields: [0; 17], original: None, lent: [0; 4], census: Census::new() }
+        Self { fields: [0; 18], original: None, lent: [0; 4], census: Census::new() }
     }
 
     fn open(&mut self, rate: u32, channels: u32) -> String {
         let (answer, fields, original) = match SonicStream::new(rate, channels) {
-            Ok(s) => (String::new(), fields_of(&s, [0; 2]), Some(s)),
-            Err(SonicError::SampleRateOutOfRange(given)) => (format!(" refused 1 {given}"), [0; 17], None),
-            Err(SonicError::ChannelsOutOfRange(given)) => (format!(" refused 2 {given}"), [0; 17], None),
+            Ok(s) => (String::new(), fields_of(&s, [0; 3]), Some(s)),
+            Err(SonicError::SampleRateOutOfRange(given)) => (format!(" refused 1 {given}"), [0; 18], None),
+            Err(SonicError::ChannelsOutOfRange(given)) => (format!(" refused 2 {given}"), [0; 18], None),
         };
         (self.fields, self.original) = (fields, original);
         answer
@@ -73,14 +73,24 @@ impl Session {
 
     /// The original's stream, which an accepted call needs to be the stream that the fields speak of.
     fn stream(&mut self) -> &mut SonicStream {
-        let totals = self.totals();
+        let others = self.others();
         let s = self.original.as_mut().expect("no stream");
-        assert_eq!(fields_of(s, totals), self.fields, "an accepted call on fields that the original does not have");
+        assert_eq!(fields_of(s, others), self.fields, "an accepted call on fields that the original does not have");
         s
     }
 
     fn totals(&self) -> [u64; 2] {
         [self.fields[SKIPPED], self.fields[INSERTED]]
+    }
+
+    /// The fields that the original does not have.
+    fn others(&self) -> [u64; 3] {
+        [self.fields[SKIPPED], self.fields[INSERTED], self.fields[STEP_OVER]]
+    }
+
+    /// Whether the stream steps over.
+    fn over(&self) -> bool {
+        self.fields[STEP_OVER] != 0
     }
 
     /// The totals after a call that adds to them, or none if one of them would pass 64 bits.
@@ -101,12 +111,12 @@ impl Session {
         let before = copy_of(self.stream());
         let mut added = copy_of(&before);
         add(&mut added);
-        let stretched = stretched(&added);
+        let stretched = stretched(&added, self.over());
         if !self.room((before.pitch_frames() + stretched.made) as u64, stage) {
             return Err(6);
         }
         let mut done = copy_of(&added);
-        done.process_stream_input();
+        done.process_as(self.over());
         let totals = self.totals_after(stretched.counted);
         if !self.room(done.output_frames() as u64, output) {
             if totals.is_none() {
@@ -114,22 +124,29 @@ impl Session {
             }
             return Err(7);
         }
+        if totals.is_none() && stretched.passed > 0 {
+            self.census.count("12 where periods would be passed over");
+        }
         Ok(Tried { before, added, done, stretched, totals: totals.ok_or(12u32)? })
     }
 
-    /// A write or a flush: `add` puts its frames behind those held, `call` is the original's call.
-    fn work(&mut self, frames: usize, add: impl Fn(&mut SonicStream), call: impl Fn(&mut SonicStream)) -> String {
+    /// A write or a flush: `add` puts its frames behind those held, `call` is the original's call, or that of the copy that steps over.
+    fn work(&mut self, frames: usize, add: impl Fn(&mut SonicStream), call: impl Fn(&mut SonicStream, bool)) -> String {
         let Tried { before, added, done, stretched, totals } = match self.tried(frames, add) {
             Ok(tried) => tried,
             Err(number) => return format!(" refused {number}"),
         };
+        let (over, step_over) = (self.over(), self.fields[STEP_OVER]);
         let s = self.stream();
-        call(s);
+        call(s, over);
         assert!(done.output.starts_with(&s.output) && done.prev_min_diff == s.prev_min_diff, "the original's call adds other frames");
-        self.fields = fields_of(s, totals);
-        self.census.steps(&added, stretched.counted, totals);
+        self.fields = fields_of(s, [totals[0], totals[1], step_over]);
+        if stretched.passed > 0 && (self.lent[1], self.lent[2]) == (0, 0) {
+            self.census.count("passes over without room for a frame");
+        }
+        self.census.steps(&added, &stretched, totals, over);
         self.census.rate(&before, &done, stretched.made);
-        format!(" {}", stretched.outcome)
+        format!(" {} {}", stretched.outcome, stretched.passed)
     }
 
     fn write(&mut self, samples: &[f32]) -> String {
@@ -139,7 +156,7 @@ impl Session {
             s.input.extend(samples[..frames * channels].iter().map(|&x| (x.clamp(-1.0, 1.0) * 32767.0) as i16));
             s.input_play_time += frames as f32 * s.sample_period / (s.speed / s.pitch);
         };
-        self.work(frames, add, |s| s.write_f32(samples))
+        self.work(frames, add, |s, over| s.write_as(over, samples))
     }
 
     fn flush(&mut self) -> String {
@@ -148,7 +165,7 @@ impl Session {
             s.input.resize(s.input.len() + frames * s.channels, 0);
             s.input_play_time += frames as f32 * s.sample_period / (s.speed / s.pitch);
         };
-        self.work(frames, add, SonicStream::flush)
+        self.work(frames, add, SonicStream::flush_as)
     }
 
     fn read(&mut self, most: u64, values: usize) -> String {
@@ -169,11 +186,20 @@ impl Session {
         if !in_order(&self.fields) {
             return " refused 3".to_string();
         }
-        let totals = self.totals();
+        let others = self.others();
         let s = self.stream();
         act(s);
-        self.fields = fields_of(s, totals);
+        self.fields = fields_of(s, others);
         String::new()
+    }
+
+    /// Refusal 3, or whether the stream steps over from now on.
+    fn set_step_over(&mut self, on: u64) -> String {
+        let answer = self.set(|_| ());
+        if answer.is_empty() {
+            self.fields[STEP_OVER] = u64::from(on != 0);
+        }
+        answer
     }
 
     fn available(&self) -> String {

@@ -10,7 +10,7 @@ struct Census(BTreeMap<String, usize>);
 const FULL: [u64; 2] = [u64::MAX; 2];
 
 /// What the runs have to touch.
-const TOUCHED: [&str; 59] = [
+const TOUCHED: [&str; 74] = [
     "write empty", "write copied", "write waiting", "write stretched", "write stalled", "flush copied", "flush stretched", "flush stalled",
     "open refused 1", "open refused 2", "speed refused 3", "pitch refused 3", "volume refused 3", "available refused 3",
     "read refused 3", "read refused 4",
@@ -20,6 +20,10 @@ const TOUCHED: [&str; 59] = [
     "write fills skipped", "write fills inserted", "flush fills skipped", "flush fills inserted",
     "empty with full totals", "copied with full totals", "waiting with full totals", "stalled with full totals",
     "step stall after frames with full totals",
+    "step over accepted", "step over refused 3", "write passes over", "flush passes over", "every step passed over",
+    "step passed over", "step passed over, s infinite", "step passed over after frames", "step passed over, previous period",
+    "passes over by another value than 1", "passes over what had stalled", "write fills skipped, passing over",
+    "flush fills skipped, passing over", "passes over without room for a frame", "12 where periods would be passed over",
     "step copying, s > 1", "step copying, s < 1", "step copying all that is left", "step skip, s < 2", "step skip, s >= 2", "step insert, s > 0.5",
     "step insert, s <= 0.5", "step insert of 1 frame", "step stall after frames", "previous period used",
     "search of samples", "search of averages, skip 1", "search twice, 1 channel", "search twice, more channels",
@@ -41,6 +45,7 @@ impl Census {
             b's' => "speed",
             b'p' => "pitch",
             b'v' => "volume",
+            b't' => "step over",
             b'a' => "available",
             b'w' => "write",
             b'f' => "flush",
@@ -52,6 +57,7 @@ impl Census {
             Some(word) if matches!(kind, "write" | "flush") => {
                 self.count(&format!("{kind} {word}"));
                 self.totals(kind, word, before, fields);
+                self.passes(kind, words[1], before, fields);
             }
             _ => self.count(&format!("{kind} accepted")),
         }
@@ -73,9 +79,26 @@ impl Census {
         }
     }
 
+    /// What an accepted write or flush passes over.
+    fn passes(&mut self, kind: &str, passed: &str, before: &Fields, after: &Fields) {
+        if passed == "0" {
+            return;
+        }
+        self.count(&format!("{kind} passes over"));
+        if before[STEP_OVER] != 1 {
+            self.count("passes over by another value than 1");
+        }
+        if kind == "write" && before[HELD] >= 2 * (before[RATE] / 65) {
+            self.count("passes over what had stalled");
+        }
+        if after[SKIPPED] == u64::MAX {
+            self.count(&format!("{kind} fills skipped, passing over"));
+        }
+    }
+
     /// The steps of a stretch, if it is due, in the order of `change_speed`. Their periods are what it adds to the totals.
-    fn steps(&mut self, added: &SonicStream, counted: [u64; 2], totals: [u64; 2]) {
-        let (held, mut position, mut periods) = (added.input_frames(), 0, [0; 2]);
+    fn steps(&mut self, added: &SonicStream, stretched: &Stretched, totals: [u64; 2], over: bool) {
+        let (held, mut position, mut periods, mut passed) = (added.input_frames(), 0, [0; 2], 0);
         let Some(speed) = due(added) else { return };
         let (mut s, mut whole) = (copy_of(added), copy_of(added));
         while position + s.max_required <= held {
@@ -89,7 +112,10 @@ impl Census {
                 continue;
             }
             let (period, k) = self.step(&mut s, speed, position);
-            if k == 0 {
+            if k == 0 && over {
+                self.passed(speed, s.output.len() > added.output.len(), period != s.prev_period as usize);
+                passed += 1;
+            } else if k == 0 {
                 self.count(match position {
                     0 => "step stall",
                     _ if totals == FULL => "step stall after frames with full totals",
@@ -101,9 +127,26 @@ impl Census {
             position += if speed > 1.0 { period + k } else { k };
             periods[usize::from(speed < 1.0)] += period as u64;
         }
-        assert_eq!(periods, counted, "the periods are counted wrong");
-        whole.change_speed(speed);
+        assert_eq!((periods, passed), (stretched.counted, stretched.passed), "the periods are counted wrong");
+        if passed > 0 && s.output == added.output {
+            self.count("every step passed over");
+        }
+        whole.change_speed_as(over, speed);
         assert!(whole.output == s.output && bits(whole.time_error) == bits(s.time_error), "the steps are counted wrong");
+    }
+
+    /// A period passed over: behind frames made in the same call or not, the previous one or the one found.
+    fn passed(&mut self, speed: f32, after_frames: bool, previous: bool) {
+        self.count("step passed over");
+        if previous {
+            self.count("step passed over, previous period");
+        }
+        if speed.is_infinite() {
+            self.count("step passed over, s infinite");
+        }
+        if after_frames {
+            self.count("step passed over after frames");
+        }
     }
 
     /// A skip or an insert at a position: its period, and k.

@@ -1,13 +1,17 @@
 
 // ---- Answers to the calls of crates/vectors/stdin, by the functions above: this text is joined to the original's, which is otherwise
 // unchanged. The original has neither refusals nor outcomes nor totals: a refusal is decided by document 01's table with the original's
-// own counts, an outcome and what a call adds to the totals by the original's state before and after.
+// own counts, an outcome and what a call adds to the totals by the original's state before and after. A stream that steps over is worked on
+// by a copy of the original's text with one return taken out, the module `passing`; the periods passed over are counted step by step.
+
+#[path = "../passing.rs"]
+mod passing;
 
 /// The most samples of an area, of a write and of a read, as in crates/vectors/src/main.rt.
 const ROOM: usize = 32_768;
 
 /// A stream's fields in the order of the library's struct, floats as their bits.
-type Fields = [u64; 17];
+type Fields = [u64; 18];
 
 const RATE: usize = 0;
 const CHANNELS: usize = 1;
@@ -26,6 +30,7 @@ const TAIL: usize = 13;
 const WAITING: usize = 14;
 const SKIPPED: usize = 15;
 const INSERTED: usize = 16;
+const STEP_OVER: usize = 17;
 
 /// The bits of a float, those of one NaN for every NaN.
 fn bits(x: f32) -> u64 {
@@ -46,12 +51,12 @@ fn copy_of(s: &SonicStream) -> SonicStream {
     }
 }
 
-/// A stream's fields, with the totals of frames skipped and inserted.
-fn fields_of(s: &SonicStream, [skipped, inserted]: [u64; 2]) -> Fields {
+/// A stream's fields, with what the original does not have: the totals of frames skipped and inserted, and whether it steps over.
+fn fields_of(s: &SonicStream, [skipped, inserted, step_over]: [u64; 3]) -> Fields {
     [
         s.sample_rate as u64, s.channels as u64, bits(s.speed), bits(s.pitch), bits(s.volume), bits(s.sample_period), bits(s.input_play_time),
         bits(s.time_error), s.old_rate_position as u64, s.new_rate_position as u64, s.prev_period as u64, s.prev_min_diff as u64,
-        s.input_frames() as u64, s.pitch_frames() as u64, s.output_frames() as u64, skipped, inserted,
+        s.input_frames() as u64, s.pitch_frames() as u64, s.output_frames() as u64, skipped, inserted, step_over,
     ]
 }
 
@@ -80,22 +85,36 @@ fn due(added: &SonicStream) -> Option<f32> {
     (f64::from(speed) > 1.00001 || f64::from(speed) < 0.99999).then_some(speed)
 }
 
-/// What a call does to a stream whose frames are added: its outcome, the frames of its stretch or copy, and the frames of periods that it
-/// skips and inserts.
+/// What a call does to a stream whose frames are added: its outcome, the frames of its stretch or copy, the frames of periods that it skips
+/// and inserts, and the periods that it passes over.
 struct Stretched {
     outcome: &'static str,
     made: usize,
     counted: [u64; 2],
+    passed: usize,
 }
 
-fn stretched(added: &SonicStream) -> Stretched {
+/// The periods that a stretch passes over. From a local speed of 2 on every step is a skip; below, none gives no frame.
+fn passed_over(added: &SonicStream, speed: f32) -> usize {
+    let (mut s, mut position, mut passed) = (copy_of(added), 0, 0);
+    while speed >= 2.0 && position + s.max_required <= s.input_frames() {
+        let period = s.find_pitch_period(position, true) as usize;
+        let k = s.skip_pitch_period(speed, position, period);
+        position += period + k;
+        passed += usize::from(k == 0);
+    }
+    passed
+}
+
+/// What a call does, on a stream that steps over if `over`.
+fn stretched(added: &SonicStream, over: bool) -> Stretched {
     let held = added.input_frames();
     if held == 0 {
-        return Stretched { outcome: "empty", made: 0, counted: [0; 2] };
+        return Stretched { outcome: "empty", made: 0, counted: [0; 2], passed: 0 };
     }
-    let Some(speed) = due(added) else { return Stretched { outcome: "copied", made: held, counted: [0; 2] } };
+    let Some(speed) = due(added) else { return Stretched { outcome: "copied", made: held, counted: [0; 2], passed: 0 } };
     let mut after = copy_of(added);
-    after.change_speed(speed);
+    after.change_speed_as(over, speed);
     let (used, made) = (held - after.input_frames(), after.output_frames() - added.output_frames());
     let (outcome, counted) = match used {
         _ if held < added.max_required => ("waiting", [0; 2]),
@@ -103,5 +122,5 @@ fn stretched(added: &SonicStream) -> Stretched {
         _ if speed > 1.0 => ("stretched", [(used - made) as u64, 0]),
         _ => ("stretched", [0, (made - used) as u64]),
     };
-    Stretched { outcome, made, counted }
+    Stretched { outcome, made, counted, passed: if over { passed_over(added, speed) } else { 0 } }
 }

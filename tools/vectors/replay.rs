@@ -52,6 +52,7 @@ impl Session {
             b's' => self.set(|s| s.set_speed(float(n[0]))),
             b'p' => self.set(|s| s.set_pitch(float(n[0]))),
             b'v' => self.set(|s| s.set_volume(float(n[0]))),
+            b't' => self.set_step_over(n[0]),
             b'a' => self.available(),
             b'w' => self.write(&signal(n[0], n[1] as u32, n[2] as u32, n[3] as u16, (n[4] as usize).min(ROOM))),
             b'f' => self.flush(),

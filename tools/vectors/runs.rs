@@ -54,6 +54,10 @@ impl Runs {
         self.line(format_args!("v x{:08x}", value.to_bits()))
     }
 
+    fn step_over(&mut self, on: u64) -> &mut Self {
+        self.line(format_args!("t {on}"))
+    }
+
     /// Writes so many samples of a signal at two thirds of full scale.
     fn write(&mut self, kind: u64, seed: u32, period: usize, count: usize) -> &mut Self {
         self.write_loud(kind, seed, period, 49_152, count)

@@ -6,7 +6,7 @@
 #[repr(C)]
 #[derive(Debug, Default, Clone, Copy, PartialEq, Eq, Hash)]
 pub struct Balance {
-    /// Frames of the periods that were skipped.
+    /// Frames of the periods that were skipped, those passed over among them.
     pub skipped: u64,
     /// Frames of the periods that were inserted.
     pub inserted: u64,
@@ -32,6 +32,7 @@ pub struct Stream {
     pub tail: usize,
     pub waiting: usize,
     pub balance: Balance,
+    pub step_over: u32,
 }
 
 /// An opening.
@@ -65,6 +66,7 @@ pub struct Available {
 #[derive(Debug, Default, Clone, Copy)]
 pub struct Told {
     pub outcome: u32,
+    pub passed: usize,
 }
 
 /// A write or a flush.
@@ -98,6 +100,7 @@ extern "C" {
     fn kelpladder_set_speed(stream: Stream, speed: f32) -> Changed;
     fn kelpladder_set_pitch(stream: Stream, pitch: f32) -> Changed;
     fn kelpladder_set_volume(stream: Stream, volume: f32) -> Changed;
+    fn kelpladder_set_step_over(stream: Stream, on: u32) -> Changed;
     fn kelpladder_available_frames(stream: Stream) -> Available;
     fn kelpladder_write_f32(
         stream: Stream,
@@ -150,6 +153,11 @@ pub fn set_pitch(stream: Stream, pitch: f32) -> Changed {
 
 pub fn set_volume(stream: Stream, volume: f32) -> Changed {
     unsafe { kelpladder_set_volume(stream, volume) }
+}
+
+/// Sets stepping over: 0 off, any other number on.
+pub fn set_step_over(stream: Stream, on: u32) -> Changed {
+    unsafe { kelpladder_set_step_over(stream, on) }
 }
 
 /// Counts the frames waiting.

@@ -24,6 +24,8 @@
 //!   because code that only swaps the module would then warn at every write. Where a call's value was used as `()`, as the last expression
 //!   of a function or in an arm of a match, it now needs a semicolon.
 //! - [`balance`](SonicStream::balance) is not in libsonic-rs: it gives the frames of the periods skipped and inserted so far.
+//! - [`set_step_over`](SonicStream::set_step_over) is not in libsonic-rs: a stream that steps over does not stall. A new one does not step
+//!   over.
 //! - A stream has a limit. Frames held, frames between two steps and frames waiting each have at most [`MAX_SAMPLES`] samples, and a
 //!   write or flush that would pass this answers [`Outcome::Full`] and changes nothing. In libsonic-rs they grow until memory ends.
 //! - The texts of [`SonicError`] are worded differently.
@@ -62,7 +64,7 @@ pub struct SonicStream {
 }
 
 impl SonicStream {
-    /// Opens a stream of `channels` channels at `sample_rate` frames a second. Speed, pitch and volume are 1.
+    /// Opens a stream of `channels` channels at `sample_rate` frames a second. Speed, pitch and volume are 1, and it does not step over.
     ///
     /// # Errors
     ///
@@ -93,6 +95,13 @@ impl SonicStream {
         self.value = calls::set_volume(self.value, volume).stream;
     }
 
+    /// Sets whether the stream steps over: where a step gives no frame, because the voice's period is too short for speed over pitch, the
+    /// stream uses up this period, makes nothing, and goes on behind it. No call answers [`Outcome::Stalled`] then, and [`Told::passed`]
+    /// counts the periods passed over. Switched on after a stall, the next write, even of no samples, goes on over what is held.
+    pub fn set_step_over(&mut self, on: bool) {
+        self.value = calls::set_step_over(self.value, u32::from(on)).stream;
+    }
+
     /// Writes the whole frames of `samples` and makes frames of what is held. A partial last frame is dropped. Each sample is held to
     /// −1 to 1, and a NaN counts as 0.
     ///
@@ -110,7 +119,8 @@ impl SonicStream {
     /// Makes frames of what is held, filled up with silence, and clears what is held. In the middle of a word this can be heard.
     ///
     /// The outcome tells of the held frames and the silence together. Where speed over pitch is so high that the shortest period gives
-    /// no frame (above 21 at 8,000 frames a second), the silence alone answers [`Outcome::Stalled`], and nothing is amiss.
+    /// no frame (above 21 at 8,000 frames a second), the silence alone answers [`Outcome::Stalled`], and nothing is amiss. A stream that
+    /// steps over passes over the silence's periods too, and [`Told::passed`] counts them with the others.
     pub fn flush(&mut self) -> Told {
         self.work(calls::flush)
     }
@@ -120,7 +130,8 @@ impl SonicStream {
         calls::available_frames(self.value).frames
     }
 
-    /// The frames of the periods skipped and inserted, over all writes and flushes that were taken and did not stall. No call lowers them.
+    /// The frames of the periods skipped and inserted, over all writes and flushes that were taken and did not stall. Periods passed over
+    /// count as skipped. No call lowers them.
     pub fn balance(&self) -> Balance {
         self.value.balance
     }

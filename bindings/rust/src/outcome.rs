@@ -15,6 +15,7 @@ pub enum Outcome {
     Stretched,
     /// A step gave no frame: the voice's period is too short for speed over pitch. Nothing has left what is held. Every later write begins
     /// at the same frames, makes those before the stall again, and stalls there too, whatever is written. A flush clears what is held.
+    /// A stream that [steps over](crate::SonicStream::set_step_over) does not stall.
     Stalled,
     /// Not taken: more than [`MAX_SAMPLES`](crate::MAX_SAMPLES) samples would be held, be between two steps, or wait. The stream is as
     /// before the call. Frames that wait can be read and the call made again; a shorter write may fit; a flush clears what is held.
@@ -42,14 +43,17 @@ impl Outcome {
 pub struct Told {
     /// How it went.
     pub outcome: Outcome,
+    /// The periods passed over in this call, by a stream that [steps over](crate::SonicStream::set_step_over); 0 if it does not, or if the
+    /// call was not taken. A flush counts those of its own silence too.
+    pub passed: usize,
 }
 
 impl Told {
     /// What is told of a call that was not taken.
-    pub(crate) const FULL: Self = Self { outcome: Outcome::Full };
+    pub(crate) const FULL: Self = Self { outcome: Outcome::Full, passed: 0 };
 
     /// What the C interface tells of an accepted call.
     pub(crate) fn of_answer(told: calls::Told) -> Self {
-        Self { outcome: Outcome::of_number(told.outcome) }
+        Self { outcome: Outcome::of_number(told.outcome), passed: told.passed }
     }
 }

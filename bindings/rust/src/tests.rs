@@ -1,4 +1,4 @@
-//! Tests of the balance that look at the frames held, or set the totals, which no caller can.
+//! Tests of the balance and of stepping over that look at the frames held, or set the totals, which no caller can.
 
 use crate::{Balance, Outcome, SonicStream};
 
@@ -28,6 +28,24 @@ fn frames_out_and_skipped_are_frames_used_and_inserted() {
         let Balance { skipped, inserted } = stream.balance();
         assert_eq!((skipped > 0, inserted > 0), (speed > 1.0, speed < 1.0));
     }
+}
+
+/// The law where periods are passed over: they are used and skipped, and nothing comes out of them. At 4,000 frames a second the silence
+/// has period 10 and gives no frame at speed 20.
+#[test]
+fn periods_passed_over_are_used_and_skipped() {
+    let (mut stream, mut out, mut written, mut passed) = (SonicStream::new(4_000, 2).expect("in range"), 0, 0, 0);
+    stream.set_speed(20.0);
+    stream.set_step_over(true);
+    for chunk in [voice(3_000), vec![0.0; 6_000], voice(3_000)].concat().chunks(2 * 700) {
+        let told = stream.write_f32(chunk);
+        assert_eq!(told.outcome, Outcome::Stretched);
+        passed += told.passed;
+        written += chunk.len() / 2;
+        out += stream.read_f32(usize::MAX).len() / 2;
+        assert_eq!(out as u64 + stream.balance().skipped, (written - stream.value.held) as u64);
+    }
+    assert!(passed > 250 && out > 0);
 }
 
 #[test]

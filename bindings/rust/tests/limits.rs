@@ -45,6 +45,15 @@ fn a_stretch_that_is_too_long_is_not_taken() {
 }
 
 #[test]
+fn a_call_that_is_not_taken_passes_over_nothing() {
+    let mut stream = stream(20.0, 0.5);
+    stream.set_step_over(true);
+    let told = stream.write_f32(&vec![0.0; MAX_SAMPLES + 1]);
+    assert_eq!((told.outcome, told.passed), (Outcome::Full, 0));
+    assert_eq!(stream.balance().skipped, 0);
+}
+
+#[test]
 fn a_full_stall_can_be_flushed() {
     let (mut stream, quarter) = (stream(20.0, 0.5), voice(0, QUARTER, 1, 34, 0));
     for _ in 0..3 {

@@ -4,25 +4,61 @@
 mod common;
 
 use common::{run, summary, voice, Dice, Stretcher, CASES};
-use kelpladder::SonicStream;
+use kelpladder::{Outcome, SonicStream};
 
 include!(concat!(env!("OUT_DIR"), "/original.rs"));
 
 stretcher!(SonicStream);
 stretcher!(original::SonicStream);
+stretcher!(passing::SonicStream);
+
+/// Ours, stepping over from the opening on.
+struct SteppingOver(SonicStream);
+
+impl Stretcher for SteppingOver {
+    fn open(rate: u32, channels: u32) -> Self {
+        let mut stream: SonicStream = Stretcher::open(rate, channels);
+        stream.set_step_over(true);
+        SteppingOver(stream)
+    }
+
+    fn set(&mut self, speed: f32, pitch: f32, volume: f32) {
+        self.0.set(speed, pitch, volume);
+    }
+
+    fn write(&mut self, samples: &[f32]) {
+        assert_ne!(self.0.write_f32(samples).outcome, Outcome::Stalled);
+    }
+
+    fn flush(&mut self) {
+        assert_ne!(self.0.flush().outcome, Outcome::Stalled);
+    }
+
+    fn available(&self) -> usize {
+        self.0.available_frames()
+    }
+
+    fn read(&mut self, most: usize) -> Vec<f32> {
+        self.0.read_f32(most)
+    }
+}
 
 fn bits(samples: &[f32]) -> Vec<u32> {
     samples.iter().map(|x| x.to_bits()).collect()
 }
 
 /// Both streams, given the same calls.
-struct Pair {
-    ours: SonicStream,
-    theirs: original::SonicStream,
+struct Pair<A, B> {
+    ours: A,
+    theirs: B,
     channels: usize,
 }
 
-impl Pair {
+/// Ours and the original; ours stepping over, and the original's copy that does.
+type Plain = Pair<SonicStream, original::SonicStream>;
+type Passing = Pair<SteppingOver, passing::SonicStream>;
+
+impl<A: Stretcher, B: Stretcher> Pair<A, B> {
     fn open(rate: u32, channels: u32) -> Self {
         Pair { ours: Stretcher::open(rate, channels), theirs: Stretcher::open(rate, channels), channels: channels as usize }
     }
@@ -39,8 +75,8 @@ impl Pair {
     }
 
     fn flush(&mut self) {
-        Stretcher::flush(&mut self.ours);
-        Stretcher::flush(&mut self.theirs);
+        self.ours.flush();
+        self.theirs.flush();
         assert_eq!(self.ours.available(), self.theirs.available());
     }
 
@@ -68,7 +104,7 @@ fn samples(dice: &mut Dice, channels: usize) -> Vec<f32> {
     all
 }
 
-fn call(pair: &mut Pair, dice: &mut Dice) {
+fn call<A: Stretcher, B: Stretcher>(pair: &mut Pair<A, B>, dice: &mut Dice) {
     match dice.below(12) {
         0 => pair.set(setting(dice), setting(dice), setting(dice)),
         1 => pair.flush(),
@@ -81,30 +117,51 @@ fn call(pair: &mut Pair, dice: &mut Dice) {
     }
 }
 
+/// The pseudorandom run of a seed.
+fn random<A: Stretcher, B: Stretcher>(seed: u32) {
+    const RATES: [u32; 8] = [1_000, 3_999, 4_000, 8_000, 8_000, 11_025, 22_050, 44_100];
+    let mut dice = Dice(seed);
+    dice.throw();
+    let mut pair: Pair<A, B> = Pair::open(RATES[dice.below(RATES.len())], 1 + dice.below(4) as u32);
+    for _ in 0..30 {
+        call(&mut pair, &mut dice);
+    }
+    pair.read(usize::MAX);
+}
+
 #[test]
 fn pseudorandom_calls_give_the_same() {
-    const RATES: [u32; 8] = [1_000, 3_999, 4_000, 8_000, 8_000, 11_025, 22_050, 44_100];
-    for seed in 0..150 {
-        let mut dice = Dice(seed);
-        dice.throw();
-        let mut pair = Pair::open(RATES[dice.below(RATES.len())], 1 + dice.below(4) as u32);
-        for _ in 0..30 {
-            call(&mut pair, &mut dice);
-        }
-        pair.read(usize::MAX);
+    (0..150).for_each(random::<SonicStream, original::SonicStream>);
+}
+
+#[test]
+fn pseudorandom_calls_stepping_over_give_the_same() {
+    (0..50).for_each(random::<SteppingOver, passing::SonicStream>);
+}
+
+#[test]
+fn skim_tracks_stepping_over_give_the_same() {
+    let mut pair = Passing::open(8_000, 1);
+    pair.set(20.0, 0.5, 1.0);
+    for (period, noise) in [(62, 0), (34, 300), (20, 0), (90, 3_000), (34, 0), (75, 300)] {
+        voice(0, 9_000, 1, period, noise).chunks(700).for_each(|chunk| pair.write(chunk));
+        pair.write(&[0.0; 2_000]);
     }
+    pair.flush();
+    pair.read(usize::MAX);
 }
 
 #[test]
 fn runs_give_the_same() {
     for case in &CASES {
         assert_eq!(bits(&run::<SonicStream>(case)), bits(&run::<original::SonicStream>(case)), "{}", case.name);
+        assert_eq!(bits(&run::<SteppingOver>(case)), bits(&run::<passing::SonicStream>(case)), "{}, stepping over", case.name);
     }
 }
 
 #[test]
 fn one_long_write_gives_the_same() {
-    let mut pair = Pair::open(8_000, 2);
+    let mut pair = Plain::open(8_000, 2);
     pair.set(0.3, 0.7, 1.0);
     pair.write(&voice(0, 200_000, 2, 62, 300));
     pair.flush();
@@ -113,7 +170,7 @@ fn one_long_write_gives_the_same() {
 
 #[test]
 fn most_channels_give_the_same() {
-    let mut pair = Pair::open(8_000, 32);
+    let mut pair = Plain::open(8_000, 32);
     pair.set(1.7, 1.2, 0.4);
     pair.write(&voice(0, 3_000, 32, 62, 300));
     pair.flush();

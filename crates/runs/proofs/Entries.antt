@@ -94,6 +94,24 @@ module _ (P : Outcome → Type 0) where
       let first = entry-tells l c (rest .1) in
       ((first .0, rest .0), first .1)
 
+  -- and back
+
+  all-both : (xs ys : List Outcome) → All P xs → All P ys → All P (xs ++ ys)
+  all-both [] ys p q = q
+  all-both (x ∷ xs) ys p q = (p .0, all-both xs ys (p .1) q)
+
+  entry-told : (l : Ledger) (c : Call) → Tells P l c → All P (l .outcomes) → All P (entry l c .outcomes)
+  unfolding entry
+  entry-told l (setting v) t q = q
+  entry-told l (write samples) t q = all-both (l .outcomes) _ q (t, tt)
+  entry-told l flush t q = all-both (l .outcomes) _ q (t, tt)
+  entry-told l (read most) t q = q
+
+  pub entries-told : (l : Ledger) (cs : List Call) → EachCall (Tells P) l cs → All P (l .outcomes) → All P (entries l cs .outcomes)
+  unfolding entries
+  entries-told l [] t q = q
+  entries-told l (c ∷ cs) t q = entries-told (entry l c) cs (t .1) (entry-told l c (t .0) q)
+
 -- ---- the joined frames pass through
 
 unfoldable pub passedMark : Mark → Passage → Passage

@@ -11,6 +11,8 @@ mod Counting
 mod Accounts
 pub mod Claims
 pub mod Balanced
+pub mod SteppedOver
 mod Example
 mod ExampleParts
 mod ExampleBalance
+mod ExampleStepOver

@@ -112,6 +112,10 @@ module _ (s : State) where
   unfolding process finished counting bare
   process-channels = ap (λ (t : State). t .channels) (taken-leaves s .rest)
 
+  pub process-over : process s .state .«step_over» ≡ s .«step_over»
+  unfolding process finished counting bare
+  process-over = ap (λ (t : State). t .«step_over») (taken-leaves s .rest)
+
   pub process-input : length (process s .state .input) ≤ length (s .input)
   unfolding process finished counting
   process-input = taken-leaves s .input

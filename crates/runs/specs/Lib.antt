@@ -2,3 +2,4 @@ pub mod Ledger
 pub mod Run
 pub mod Demand
 pub mod Balance
+pub mod StepOver

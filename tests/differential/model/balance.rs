@@ -12,7 +12,7 @@ pub struct Step {
 }
 
 impl Model {
-    /// Counts a skip step.
+    /// Counts a skip step; of one that gave no frame, k is 0.
     pub fn count_skip(&self, work: &mut Work, step: Step) {
         let frames = match step {
             Step { k, .. } if self.wrong(Edit::SkipCountsK) => k,

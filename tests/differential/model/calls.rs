@@ -7,16 +7,22 @@ use super::search::max_required;
 use super::{Model, Room, Work};
 use crate::interface::{Areas, Available, Balance, Changed, Gave, Opened, Setting, Stream, Subject, Told, Wrote, EMPTY, WAITING};
 
-/// What a call needs: frames in the stage, frames that it makes, and what it adds to the totals.
+/// What a call needs: frames in the stage, frames that it makes, and what it adds to the totals; and the periods that it passes over.
 pub struct Needs {
     pub staged: usize,
     pub made: usize,
     pub counted: Balance,
+    pub passed: usize,
 }
 
 /// A fresh stream.
 fn fresh(rate: u32, channels: u32) -> Stream {
     Stream { rate, channels, speed: 1.0, pitch: 1.0, volume: 1.0, sample_period: sample_period(rate), ..Stream::default() }
+}
+
+/// The samples of silence that a flush adds.
+fn silence(stream: &Stream) -> Vec<i16> {
+    vec![0; 2 * max_required(stream.rate) * stream.channels as usize]
 }
 
 impl Model {
@@ -39,6 +45,7 @@ impl Model {
         if self.wrong(Edit::SettingClearsBalance) {
             stream.balance = Balance::default();
         }
+        self.keep_step_over(&mut stream, setting);
         match setting {
             Setting::Speed(speed) => {
                 stream.speed = self.held_to(speed, SPEEDS);
@@ -48,6 +55,7 @@ impl Model {
                 }
             }
             Setting::Volume(volume) => stream.volume = self.held_to(volume, VOLUMES),
+            Setting::StepOver(on) => self.set_step_over(&mut stream, on),
             Setting::Pitch(pitch) => {
                 let before = stream.pitch;
                 stream.pitch = self.held_to(pitch, PITCHES);
@@ -92,13 +100,13 @@ impl Model {
         grown.input_play_time = self.play_time_grown(&stream, added.len() / stream.channels as usize);
         let room = Room { stage: stream.tail + cap, output: cap };
         let work = self.process(Work::new(grown, [input, added].concat(), tail.to_vec()), room).ok()?;
-        Some(Needs { staged: work.staged, made: work.made.len() / work.channels(), counted: work.stream.balance })
+        Some(Needs { staged: work.staged, made: work.made.len() / work.channels(), counted: work.stream.balance, passed: work.passed })
     }
 
     /// The frames that a flush makes: those of its answer, before trimming counts for 7.
     fn flush_work(&self, stream: Stream, areas: &Areas<'_>) -> Result<Work, u32> {
         let expected = self.expected_frames(&stream);
-        let silence = vec![0; 2 * max_required(stream.rate) * stream.channels as usize];
+        let silence = silence(&stream);
         if self.wrong(Edit::FlushTrimsBeforeRoom) {
             return self.flush_late(stream, &silence, areas, expected);
         }
@@ -126,6 +134,7 @@ impl Model {
 impl Subject for Model {
     fn open(&mut self, rate: u32, channels: u32) -> Opened {
         let left = if self.wrong(Edit::RefusedOpeningIsFresh) { fresh(rate.max(1), channels) } else { Stream::default() };
+        let left = if self.wrong(Edit::RefusedOpeningStepsOver) { Stream { step_over: 1, ..left } } else { left };
         if self.rate_refused(rate) {
             return Opened { refusal: 1, given: rate, stream: left };
         }
@@ -133,11 +142,13 @@ impl Subject for Model {
             let given = if self.wrong(Edit::GivenIsTheRate) { rate } else { channels };
             return Opened { refusal: 2, given, stream: left };
         }
-        Opened { refusal: 0, given: 0, stream: fresh(rate, channels) }
+        let step_over = u32::from(self.wrong(Edit::FreshStepsOver));
+        Opened { refusal: 0, given: 0, stream: Stream { step_over, ..fresh(rate, channels) } }
     }
 
     fn set(&mut self, stream: Stream, setting: Setting) -> Changed {
-        if !self.in_order(&stream) && !self.wrong(Edit::SettingOfAnyStream) {
+        let refused = self.wrong(Edit::StepOverRefused) && matches!(setting, Setting::StepOver(_)) && stream.held > 0;
+        if refused || (!self.in_order(&stream) && !self.wrong(Edit::SettingOfAnyStream)) {
             return Changed { refusal: 3, stream };
         }
         Changed { refusal: 0, stream: self.changed(stream, setting) }
@@ -157,7 +168,7 @@ impl Subject for Model {
         }
         let added = self.samples_in(samples, stream.channels as usize);
         if added.is_empty() && self.wrong(Edit::EmptyWriteIgnored) {
-            return Wrote { refusal: 0, told: Told { outcome: if stream.held == 0 { EMPTY } else { WAITING } }, stream };
+            return Wrote { refusal: 0, told: Told { outcome: if stream.held == 0 { EMPTY } else { WAITING }, passed: 0 }, stream };
         }
         let mut entering = stream;
         if self.wrong(Edit::PlayTimeOfPartialFrame) && samples.len() % stream.channels as usize > 0 {
@@ -165,9 +176,14 @@ impl Subject for Model {
         }
         match self.add(entering, &added, &areas) {
             Ok(_) if self.wrong(Edit::RefusesAlways) => self.refused(7, stream, areas),
-            Ok(work) if self.wrong(Edit::StreamAsItCame) => Wrote { refusal: 0, told: Told { outcome: work.outcome }, stream },
-            Ok(work) => self.commit(work, areas),
-            Err(refusal) => self.refused(refusal, stream, areas),
+            Ok(work) if self.wrong(Edit::StreamAsItCame) => {
+                Wrote { refusal: 0, told: Told { outcome: work.outcome, passed: work.passed }, stream }
+            }
+            Ok(work) => {
+                let passed = self.passed_told(&work, false);
+                self.commit(work, passed, areas)
+            }
+            Err(refusal) => self.refused_late(refusal, stream, &added, areas),
         }
     }
 
@@ -200,11 +216,14 @@ impl Subject for Model {
             return self.refused(refusal, stream, areas);
         }
         if stream.held == 0 && stream.tail == 0 && self.wrong(Edit::EmptyFlushIgnored) {
-            return Wrote { refusal: 0, told: Told { outcome: EMPTY }, stream };
+            return Wrote { refusal: 0, told: Told::default(), stream };
         }
         match self.flush_work(stream, &areas) {
-            Ok(work) => self.commit(work, areas),
-            Err(refusal) => self.refused(refusal, stream, areas),
+            Ok(work) => {
+                let passed = self.passed_told(&work, true);
+                self.commit(work, passed, areas)
+            }
+            Err(refusal) => self.refused_late(refusal, stream, &silence(&stream), areas),
         }
     }
 }

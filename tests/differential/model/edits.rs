@@ -1,5 +1,5 @@
 //! The wrong edits, numbered from 1: each stands at one place of the model. They are in the order of document 01's parts; "Contracts"
-//! are the wrong programs that it says each contract has to rule out, "Balance" is request C-16.
+//! are the wrong programs that it says each contract has to rule out, "Balance" is request C-16, "Stepping over" C-18.
 
 /// Makes the edits and the table of them from one list.
 macro_rules! edits {
@@ -164,4 +164,32 @@ edits! {
     TrimmedCountedOff, "Balance", "a flush counts off the frames that it trims away";
     SettingClearsBalance, "Balance", "a setting clears the totals";
     ReadClearsBalance, "Balance", "a read clears the totals";
+    PassedUsesNothing, "Stepping over", "a period passed over uses nothing";
+    PassedUsesOneMore, "Stepping over", "a period passed over uses a frame more";
+    PassedUsesFound, "Stepping over", "the period found passed over in place of the previous one used";
+    PassedMakesSilence, "Stepping over", "a period passed over makes a silent frame";
+    PassedMovesError, "Stepping over", "a period passed over moves the time error";
+    PassedTellsStalled, "Stepping over", "a call that passed over tells stalled";
+    PassedAloneKeepsInput, "Stepping over", "a call without frames removes nothing";
+    OnePassedAtMost, "Stepping over", "a second step without a frame stalls";
+    InfiniteSpeedStalls, "Stepping over", "s = infinity stalls";
+    CallCountedForPeriods, "Stepping over", "the call counted and not the periods";
+    FramesToldForPeriods, "Stepping over", "frames skipped told in place of periods";
+    FlushTellsNone, "Stepping over", "a flush tells none of the periods passed over";
+    RefusedTellsPassed, "Stepping over", "a refused call tells the periods that it would pass over";
+    PassedNotCounted, "Stepping over", "the totals do not count a period passed over";
+    PassedWhenOff, "Stepping over", "passed over when off";
+    TwoIsOff, "Stepping over", "the value 2 is off";
+    TwoOutOfOrder, "Stepping over", "3 refuses the value 2";
+    WorkNormalizes, "Stepping over", "a write or flush hands the value 2 back as 1";
+    RefusalNormalizes, "Stepping over", "a refused write or flush hands the value 2 back as 1";
+    SettingAsItCame, "Stepping over", "the setting writes the number as it came";
+    StepOverResetsPositions, "Stepping over", "the setting puts p and n to 0";
+    StepOverClearsHeld, "Stepping over", "the setting clears what is held";
+    StepOverRefused, "Stepping over", "the setting refused while frames are held";
+    PitchSwitchesOff, "Stepping over", "a pitch switches it off";
+    SpeedSwitchesOff, "Stepping over", "a speed switches it off";
+    FlushSwitchesOff, "Stepping over", "a flush switches it off";
+    FreshStepsOver, "Stepping over", "a fresh stream steps over";
+    RefusedOpeningStepsOver, "Stepping over", "a refused opening's stream steps over";
 }

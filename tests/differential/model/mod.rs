@@ -1,11 +1,12 @@
-//! The module of document 01 in plain Rust, written from the document and request C-16 alone. It says which calls are refused and how the
-//! accepted ones go. A model may carry one wrong edit, by its number: such a model has to be found out by the comparison.
+//! The module of document 01 in plain Rust, written from the document and requests C-16 and C-18 alone. It says which calls are refused and
+//! how the accepted ones go. A model may carry one wrong edit, by its number: such a model has to be found out by the comparison.
 
 pub mod balance;
 pub mod calls;
 pub mod edits;
 pub mod numbers;
 pub mod order;
+pub mod passing;
 pub mod rate;
 pub mod search;
 pub mod stretch;
@@ -29,6 +30,10 @@ pub enum Event {
     InsertOne,
     StalledAtOnce,
     StalledLater,
+    PassedOver,
+    PassedInfinite,
+    PassedAlone,
+    PassedAndMade,
     SecondSearch,
     PreviousPeriod,
     PositionsWrapped,
@@ -37,7 +42,7 @@ pub enum Event {
 }
 
 /// Every event with the words for it.
-pub const EVENTS: [(Event, &str); 15] = [
+pub const EVENTS: [(Event, &str); 19] = [
     (Event::CopyingFast, "copying steps, s above 1"),
     (Event::CopyingSlow, "copying steps, s below 1"),
     (Event::CopyingAll, "copying steps of all frames left"),
@@ -48,6 +53,10 @@ pub const EVENTS: [(Event, &str); 15] = [
     (Event::InsertOne, "insert steps of one frame"),
     (Event::StalledAtOnce, "stalls at the first step"),
     (Event::StalledLater, "stalls after frames were made"),
+    (Event::PassedOver, "periods passed over"),
+    (Event::PassedInfinite, "periods passed over, s infinite"),
+    (Event::PassedAlone, "calls that passed over every step"),
+    (Event::PassedAndMade, "calls that passed over some steps"),
     (Event::SecondSearch, "second searches"),
     (Event::PreviousPeriod, "previous periods used"),
     (Event::PositionsWrapped, "times both positions became 0"),
@@ -70,7 +79,7 @@ pub struct Room {
 }
 
 /// A call under way: the stream, what is held, the tail, what was made, the frames that were in the stage, the frames of periods that its
-/// steps have skipped and inserted, and the outcome.
+/// steps have skipped and inserted, the periods passed over, and the outcome.
 pub struct Work {
     pub stream: Stream,
     pub input: Vec<i16>,
@@ -78,13 +87,15 @@ pub struct Work {
     pub made: Vec<i16>,
     pub staged: usize,
     pub counted: Balance,
+    pub passed: usize,
     pub outcome: u32,
 }
 
 impl Work {
     /// A call that starts with a stream, its held samples with those added, and its tail.
     pub fn new(stream: Stream, input: Vec<i16>, tail: Vec<i16>) -> Work {
-        Work { stream, input, tail, made: Vec::new(), staged: stream.tail, counted: Balance::default(), outcome: EMPTY }
+        let (made, staged, counted) = (Vec::new(), stream.tail, Balance::default());
+        Work { stream, input, tail, made, staged, counted, passed: 0, outcome: EMPTY }
     }
 
     /// The channels.

@@ -138,7 +138,7 @@ impl Model {
     }
 
     /// The time error moved by a step that made some frames and used others, held being those at the start of the call.
-    fn error_moved(&self, stream: &Stream, made: usize, used: usize, held: usize) -> f32 {
+    pub fn error_moved(&self, stream: &Stream, made: usize, used: usize, held: usize) -> f32 {
         let made_time = made as f32 * stream.sample_period;
         let used_time = (used as f32 * stream.input_play_time) / held as f32;
         if self.wrong(Edit::ErrorOrder) {

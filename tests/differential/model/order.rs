@@ -28,6 +28,7 @@ impl Model {
             && self.settings_in_order(stream)
             && self.record_in_order(stream)
             && self.positions_in_order(stream)
+            && !(self.wrong(Edit::TwoOutOfOrder) && stream.step_over > 1)
             && !(self.wrong(Edit::FullTotalOutOfOrder) && stream.balance.skipped.max(stream.balance.inserted) == u64::MAX)
     }
 

@@ -46,13 +46,13 @@ impl Model {
         count
     }
 
-    /// A skip step: the frames used, or none if it gave no frame.
+    /// A skip step: the frames used, or none if it gave no frame and ends the call.
     fn skip_step(&self, work: &mut Work, frames: &mut Vec<i16>, s: f32, position: usize) -> Option<usize> {
         let period = self.period_at(work, position);
         let k = self.skip_count(s, period);
         self.saw(if s < 2.0 { Event::SkipWhole } else { Event::SkipPart });
         if k == 0 {
-            return None;
+            return self.pass_over(work, frames, s, period);
         }
         let (near, far) = (position, position + period);
         let (down, up) = if self.wrong(Edit::SkipFadesBackward) { (far, near) } else { (near, far) };
@@ -122,12 +122,18 @@ impl Model {
                 break;
             }
         }
+        if work.passed > 0 {
+            self.saw(if frames.is_empty() { Event::PassedAlone } else { Event::PassedAndMade });
+        }
+        if frames.is_empty() && self.wrong(Edit::PassedAloneKeepsInput) {
+            return Ok(frames);
+        }
         work.remove(position);
         work.stream.input_play_time = self.play_time_left(work.stream.input_play_time, held - position, held);
         Ok(frames)
     }
 
-    /// The step at a position: the frames used, or none if it gave no frame.
+    /// The step at a position: the frames used, or none if it gave no frame and ends the call.
     fn one_step(&self, work: &mut Work, frames: &mut Vec<i16>, s: f32, position: usize) -> Option<usize> {
         if self.copying_due(s, work.stream.time_error) {
             return Some(self.copying_step(work, frames, s, position));

@@ -96,8 +96,8 @@ impl Model {
         if flush && self.wrong(Edit::FlushRoomOnce) { frames / 2 } else { frames }
     }
 
-    /// Puts what a call gave into the areas, behind the frames waiting, and hands the stream back.
-    pub fn commit(&self, mut work: Work, areas: Areas<'_>) -> Wrote {
+    /// Puts what a call gave into the areas, behind the frames waiting, and hands the stream back; so many periods were passed over.
+    pub fn commit(&self, mut work: Work, passed: usize, areas: Areas<'_>) -> Wrote {
         let channels = work.channels();
         let from = work.stream.waiting * channels;
         areas.input[..work.input.len()].copy_from_slice(&work.input);
@@ -111,12 +111,26 @@ impl Model {
         work.stream.waiting += work.made.len() / channels;
         let invented = self.wrong(Edit::InventedFrame) && work.stream.waiting < areas.output.len() / channels;
         work.stream.waiting += usize::from(invented);
-        let outcome = if self.wrong(Edit::OneFixedOutcome) { STRETCHED } else { work.outcome };
-        Wrote { refusal: 0, told: Told { outcome }, stream: work.stream }
+        if self.wrong(Edit::WorkNormalizes) {
+            work.stream.step_over = work.stream.step_over.min(1);
+        }
+        let stalled = self.wrong(Edit::PassedTellsStalled) && work.passed > 0;
+        let outcome = if self.wrong(Edit::OneFixedOutcome) { STRETCHED } else if stalled { STALLED } else { work.outcome };
+        Wrote { refusal: 0, told: Told { outcome, passed }, stream: work.stream }
+    }
+
+    /// A write or flush refused for want of room or by a total.
+    pub fn refused_late(&self, refusal: u32, stream: Stream, added: &[i16], areas: Areas<'_>) -> Wrote {
+        let passed = if refusal > 5 { self.passed_refused(stream, added, &areas) } else { 0 };
+        let wrote = self.refused(refusal, stream, areas);
+        Wrote { told: Told { passed, ..wrote.told }, ..wrote }
     }
 
     /// A refused write or flush.
     pub fn refused(&self, refusal: u32, mut stream: Stream, areas: Areas<'_>) -> Wrote {
+        if self.wrong(Edit::RefusalNormalizes) {
+            stream.step_over = stream.step_over.min(1);
+        }
         if self.wrong(Edit::RefusalGrowsPlayTime) && refusal >= 5 {
             stream.input_play_time = self.play_time_grown(&stream, 1);
         }
@@ -162,6 +176,9 @@ impl Model {
         }
         if self.wrong(Edit::FlushClearsBalance) {
             work.stream.balance = Balance::default();
+        }
+        if self.wrong(Edit::FlushSwitchesOff) {
+            work.stream.step_over = 0;
         }
     }
 }
