@@ -127,10 +127,9 @@ target/tests/skim: tests/skim.rs
 	cat $(ORIGINAL) $< > $@.rs
 	$(RUSTC) -C overflow-checks=on -A warnings $@.rs -o $@
 
-# The same with the copy of the original that steps over.
-target/tests/skim_step_over: tests/skim.rs tools/step_over_original.py
-	tools/step_over_original.py < $(ORIGINAL) > target/step_over.rs
-	cat target/step_over.rs $< > $@.rs
+# The same with the original's text without that return.
+target/tests/skim_step_over: tests/skim.rs tools/passing.py
+	{ tools/passing.py $(ORIGINAL) && cat $<; } > $@.rs
 	$(RUSTC) -C overflow-checks=on -A warnings $@.rs -o $@
 
 target/bench/kernels: bench/kernels.rs kernels

@@ -1,5 +1,5 @@
-/* The user's job in C: 8,000 Hz mono 16-bit PCM from standard input to standard output, at speed 20 and pitch 0.5, for a little-endian
- * machine. Exit status: 0, 1 if a write stalled, 2 if a call was refused or a file failed.
+/* The user's job in C: 8,000 Hz mono 16-bit PCM from standard input to standard output, at speed 20 and pitch 0.5, stepping over pitch
+ * periods that give no frame, for a little-endian machine. Exit status: 0, or 2 if a call was refused or a file failed.
  *
  *   rt staticlib sonic_c
  *   cc -I include examples/skim.c target/staticlib/libsonic_c.a -o skim */
@@ -24,11 +24,12 @@ static int write_out(kelpladder_stream *stream, int16_t *output) {
 int main(void) {
     static int16_t input[AREA], stage[AREA], output[AREA], scratch[SCRATCH], block[FRAMES];
     static float samples[FRAMES];
-    size_t count;
+    size_t count, passed = 0;
 
     kelpladder_stream stream = kelpladder_open(8000, 1).stream;
     stream = kelpladder_set_speed(stream, 20).stream;
     stream = kelpladder_set_pitch(stream, 0.5f).stream;
+    stream = kelpladder_set_step_over(stream, 1).stream;
 
     while ((count = fread(block, sizeof *block, FRAMES, stdin)) > 0) {
         for (size_t i = 0; i < count; i++) {
@@ -40,11 +41,9 @@ int main(void) {
             fprintf(stderr, "refusal %u, or no output\n", wrote.refusal);
             return 2;
         }
-        if (wrote.told.outcome == KELPLADDER_STALLED) {
-            fprintf(stderr, "stalled: nothing further on this reel can be skimmed at this speed\n");
-            return 1;
-        }
+        passed += wrote.told.passed;
     }
+    fprintf(stderr, "%zu pitch periods passed over, the flush apart\n", passed);
     kelpladder_wrote wrote = kelpladder_flush(stream, input, AREA, stage, AREA, output, AREA, scratch, SCRATCH);
     stream = wrote.stream;
     return wrote.refusal == KELPLADDER_ACCEPTED && write_out(&stream, output) && !ferror(stdin) ? 0 : 2;

@@ -9,10 +9,17 @@ import pty
 import re
 import subprocess
 import sys
+import tempfile
+from pathlib import Path
 
 COMMAND, EXAMPLE, MAKE_REEL = sys.argv[1:4]
-ONE = "skim: frames_in=40000 frames_out=1246 stalls=0 stalled_at=none flush_stalled_at=39816 refusal=0 skipped=39184 inserted=0 status=0"
-TWO = "skim: frames_in=40000 frames_out=796 stalls=1 stalled_at=25732 flush_stalled_at=none refusal=0 skipped=25322 inserted=0 status=1"
+# The last line of reel one and of reel two, stepping over and as the original does.
+UNSTALLED = "stalls=0 stalled_at=none flush_stalled_at=none refusal=0"
+ONE = f"skim: frames_in=40000 frames_out=1246 {UNSTALLED} skipped=39630 inserted=0 passed=0 passed_frames=0 status=0"
+TWO = f"skim: frames_in=40000 frames_out=1170 {UNSTALLED} skipped=39661 inserted=0 passed=99 passed_frames=3366 status=0"
+ONE_CUT = "stalls=0 stalled_at=none flush_stalled_at=39816 refusal=0 skipped=39184 inserted=0 passed=0 passed_frames=0 status=0"
+TWO_CUT = "stalls=1 stalled_at=25732 flush_stalled_at=none refusal=0 skipped=25322 inserted=0 passed=0 passed_frames=0 status=1"
+HEAD = "first_frame\tframes\tstart_seconds\tlength_seconds"
 
 
 def reel(*parts):
@@ -25,15 +32,88 @@ def skim(data, *words):
     return done.stdout, done.stderr.decode().splitlines(), done.returncode
 
 
+def skim_with_map(data, *words):
+    """The lines of standard error, the status, and the map's lines as first frame and frames."""
+    with tempfile.TemporaryDirectory() as folder:
+        path = Path(folder, "map")
+        _, told, status = skim(data, "--map", path, *words)
+        head, *lines = path.read_text().splitlines()
+    assert head == HEAD, head
+    rows = [line.split("\t") for line in lines]
+    for first, frames, start, length in rows:
+        for count, seconds in ((first, start), (frames, length)):
+            assert seconds == f"{int(count) // 8000}.{int(count) % 8000 * 1000 // 8000:03}", rows
+    return told, status, [(int(first), int(frames)) for first, frames, _, _ in rows]
+
+
 def test_reels():
     one, told, status = skim(reel("62:40000"))
     assert (told[-1], status, len(one)) == (ONE, 0, 2 * 1246), told
+    assert told[:-1] == ["skim: the flush of the last 184 frames (0.023 s) gave 6 frames; pitch periods that it passed over, those of "
+                         "its own silence included: 13"], told
     two, told, status = skim(reel("62:24000", "34:16000"))
-    assert (told[-1], status, len(two)) == (TWO, 1, 2 * 796), told
-    assert told[0].startswith("skim: stalled at frame 25732 (3.216 s): ") and "nothing after it can be skimmed" in told[0], told
-    assert told[1].startswith("skim: not skimmed: the 14268 frames from there on"), told
+    assert (told[-1], status, len(two)) == (TWO, 0, 2 * 1170), told
+    assert told[0] == "skim: pitch periods passed over, since they give no frame at this speed: 99", told
+    assert told[1] == ("skim: nothing came out of 3366 frames (0.420 s) of the reel; longest stretch: 170 frames (0.021 s) from frame "
+                       "30492 (3.811 s) on"), told
+    assert told[2].startswith("skim: the flush of the last 212 frames (0.026 s) gave 6 frames; "), told
     # The first three seconds are the same, and so is what is made of them.
     assert one[:1400] == two[:1400]
+
+
+def test_as_original():
+    one, told, status = skim(reel("62:40000"), "--as-original")
+    assert told[-1] == f"skim: frames_in=40000 frames_out=1246 {ONE_CUT}" and (status, len(one)) == (0, 2 * 1246), told
+    two, told, status = skim(reel("62:24000", "34:16000"), "--as-original")
+    assert told[-1] == f"skim: frames_in=40000 frames_out=796 {TWO_CUT}" and (status, len(two)) == (1, 2 * 796), told
+    assert told[0].startswith("skim: stalled at frame 25732 (3.216 s): ") and "nothing after it can be skimmed" in told[0], told
+    assert told[1].startswith("skim: not skimmed: the 14268 frames from there on"), told
+    # What comes before the stall is the same.
+    assert skim(reel("62:24000", "34:16000"))[0].startswith(two)
+
+
+def test_map():
+    told, status, lines = skim_with_map(reel("62:24000", "34:16000"))
+    assert (told[-1], status, lines[0], len(lines)) == (TWO, 0, (25732, 34), 51), (told, lines)
+    assert sum(frames for _, frames in lines) == 3366 and max(frames for _, frames in lines) == 170 and (30492, 170) in lines, lines
+    assert all(first + frames < then for (first, frames), (then, _) in zip(lines, lines[1:])), lines
+    # A voice that gives frames has no line. Silence gives none at this speed, and its last frames, which the flush takes, are noted too.
+    assert skim_with_map(reel("62:40000"))[2] == []
+    told, status, lines = skim_with_map(reel("0:8000"))
+    assert (lines, status) == ([(0, 8000)], 0) and " passed=388 passed_frames=8000 status=0" in told[-1], (told, lines)
+    told, _, lines = skim_with_map(reel("62:24000", "0:8000", "62:24000"))
+    assert f" passed_frames={sum(frames for _, frames in lines)} " in told[-1] and 24000 < lines[0][0] < 24200, (told, lines)
+    # Nothing is passed over where every period gives a frame; nor is there a map of a reel without frames.
+    assert skim_with_map(reel("62:24000", "34:16000", "0:8000"), "8000", "1", "2", "1")[2] == []
+    assert skim_with_map(b"")[2] == []
+
+
+def test_map_as_original():
+    data = reel("62:24000", "34:16000")
+    told, status, lines = skim_with_map(data, "--as-original")
+    assert (lines, status) == ([(25732, 14268)], 1) and " passed=0 passed_frames=0 " in told[-1], (told, lines)
+    with tempfile.TemporaryDirectory() as folder:
+        path = Path(folder, "map")
+        first = skim(data, "--map", path, "--as-original", "8000", "1", "20", "0.5"), path.read_text()
+        other = skim(data, "--as-original", "--map", path, "8000", "1", "20", "0.5"), path.read_text()
+    assert first == other and other[1].splitlines() == [HEAD, "25732\t14268\t3.216\t1.783"], (first[0][1], other[0][1])
+
+
+def test_map_not_taken():
+    data = reel("62:24000", "34:16000")
+    out, told, status = skim(data, "--map", "/nowhere/map")
+    assert (out, status, told[0], told[-1]) == (b"", 2, "skim: --map: No such file or directory", "skim: status=2"), told
+    out, told, status = skim(data, "--map", "m" * 5000)
+    assert (out, status, told[0]) == (b"", 2, "skim: --map: File name too long"), told
+    # A map that cannot be written is a write that failed, before anything was read.
+    out, told, status = skim(data, "--map", "/dev/full")
+    assert (out, status, told[0]) == (b"", 1, "skim: the map: No space left on device") and "frames_in=0 " in told[-1], told
+    # A closed descriptor does not become the map's.
+    for closed in ("0<&-", "2>&-"):
+        with tempfile.TemporaryDirectory() as folder:
+            path = Path(folder, "map")
+            done = subprocess.run(["sh", "-c", f'"$0" --map "$1" {closed}', COMMAND, path], input=data, capture_output=True)
+            assert (done.returncode, path.read_text()) == (2, ""), (closed, done)
 
 
 def test_balance():
@@ -46,16 +126,18 @@ def test_balance():
         # What a flush does with its silence is all that lies between.
         assert abs(frames_in - skipped + inserted - frames_out * pitch) <= silence, told
     # A flush that stalls counts nothing; then only the conversion's last twelve frames lie between.
-    _, told, _ = skim(reel("62:40000"))
+    _, told, _ = skim(reel("62:40000"), "--as-original")
     assert "flush_stalled_at=39816 refusal=0 skipped=39184 " in told[-1] and 0 <= 2 * (39816 - 39184) - 1246 <= 24, told
 
 
 def test_example_in_c():
     for parts in (("62:40000",), ("62:24000", "34:16000")):
         data = reel(*parts)
-        track, _, status = skim(data)
+        track, told, status = skim(data)
         done = subprocess.run([EXAMPLE], input=data, capture_output=True)
         assert (done.stdout, done.returncode) == (track, status), done.stderr
+        passed = re.search(r" passed=(\d+) ", told[-1]).group(1)
+        assert done.stderr.decode() == f"{passed} pitch periods passed over, the flush apart\n", (told, done.stderr)
 
 
 def test_default_job():
@@ -90,8 +172,12 @@ def test_bad_usage():
         "SPEED": ("8000 1 0.04 1", "8000 1 20.01 1", "8000 1 nan 1", "8000 1 .5 1", "8000 1 1. 1", "8000 1 1e1 1"),
         "PITCH": ("8000 1 1 0", "8000 1 1 21", "8000 1 1 1,5"),
         "VOLUME": ("8000 1 1 1 0", "8000 1 1 1 100.1"),
-        "arguments": ("8000", "8000 1 1", "8000 1 1 1 1 1", "-h"),
-        "no room": ("500000 32 0.05 1",),
+        "arguments": ("8000", "8000 1 1", "8000 1 1 1 1 1", "-h", "--map /dev/null 8000", "8000 1 1 1 1 --map /dev/null"),
+        "no room": ("500000 32 0.05 1", "--map /dev/null 500000 32 0.05 1"),
+        "before the numbers may stand": ("--as-original --as-original", "--map /dev/null --map /dev/null", "--other", "--help --as-original",
+                                         "--as-original --status", "8000 1 1 1 --as-original", "8000 1 1 1 --map /dev/null",
+                                         "--as-original --map /dev/null --as-original 8000 1 1 1"),
+        "--map has to be followed": ("--map", "--as-original --map", "--map --as-original", "--map --help"),
     }
     for name, lines in wrong.items():
         for line in lines:
@@ -102,6 +188,8 @@ def test_bad_usage():
 def test_help():
     out, told, status = skim(b"", "--help")
     assert out.startswith(b"usage: skim ") and (told, status) == ([], 0), (out, told)
+    assert all(len(line) <= 110 for line in out.splitlines()), out
+    assert skim(b"", "--as-original", "--help") == (out, [], 0)
 
 
 def test_closed_output():

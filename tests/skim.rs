@@ -1,4 +1,4 @@
-// Joined to the text of the Rust original, or to the copy of it that steps over (tools/step_over_original.py): either one driven through
+// Joined to the text of the Rust original, or to the copy of it that steps over (tools/passing.py): either one driven through
 // the writes that the skim tool makes, with --as-original or without. Arguments and files are the tool's, and --map FILE may stand before
 // them; standard error gets the tool's last line, without its status.
 use std::io::{Read, Write};

@@ -31,6 +31,7 @@ fn open_map(place: usize) -> u32 {
         return BAD_MAP;
     }
     if fd <= STDERR_FILENO {
+        libc::close(fd);
         usage::closed_stream();
         return BAD_MAP;
     }

@@ -16,6 +16,9 @@ open-map-requires c κs = search needs
 returns-2 : tie.Need-returns-2
 returns-2 c = search needs
 
+close-requires : tie.Need-close-requires
+close-requires c κs = search needs
+
 closed-stream-requires : tie.Need-closed-stream-requires
 closed-stream-requires c κs = search needs
 
@@ -40,6 +43,7 @@ open-map-spec =
     returns
     open-map-requires
     returns-2
+    close-requires
     closed-stream-requires
     returns-3
     cast-result
