@@ -153,7 +153,7 @@ vectors: $(if $(AT_HAND),target/passing.rs)
 	cmp target/vectors/stdout crates/vectors/stdout
 	tail -n 1 target/vectors/touched
 
-# The picture of reel one and reel two in the README, drawn by gnuplot, a Debian package.
+# The picture in the README of reel two, stopped and stepped over, drawn by gnuplot, a Debian package.
 picture: skim
 	command -v gnuplot > target/gnuplot.log || apt-get install --yes gnuplot-nox >> target/gnuplot.log
 	tools/draw_reels.py target/bin/skim docs/reels.png

@@ -1,15 +1,18 @@
 #!/usr/bin/env python3
-"""Draws reel one and reel two: input, frames out, and where the stretch stalled. draw_reels.py TOOL PICTURE.
+"""Draws reel two, as the original skims it and stepped over: input, frames out, and what was left out. draw_reels.py TOOL PICTURE.
 
-TOOL is the skim program. It skims each reel up to ever later ends, and its last lines give the frames out and the stall. Gnuplot draws.
+TOOL is the skim program. It skims the reel up to ever later ends, its last lines give the frames out, and its map what is shaded. Gnuplot
+draws.
 """
 import re
 import subprocess
 import sys
+import tempfile
 from pathlib import Path
 
 RATE = 8000
-REELS = (("Reel one", ("62:40000",)), ("Reel two", ("62:24000", "34:16000")))
+REEL = ("62:24000", "34:16000")
+COLUMNS = (("Reel two, stopped at the stall (--as-original)", ["--as-original"]), ("Reel two, stepped over", []))
 COLOURS = {"62": "#5b7fa6", "34": "#9a6aa8"}
 # Frames between two ends that are tried, and frames of a column of the input.
 STEP, WIDTH = 400, 100
@@ -53,29 +56,34 @@ def samples_of(data):
     return [int.from_bytes(data[i:i + 2], "little", signed=True) for i in range(0, len(data), 2)]
 
 
-def skim(tool, data):
-    """Frames out, and the frame of the stall or None."""
-    last = subprocess.run([tool], input=data, capture_output=True, check=True).stderr.decode().splitlines()[-1]
-    stall = re.search(r"stalled_at=(\d+) flush", last)
-    return int(re.search(r"frames_out=(\d+)", last).group(1)), int(stall.group(1)) if stall else None
+def skim(tool, options, data):
+    """The counts of the last line, by their names, and the map's lines as first frame and frames."""
+    with tempfile.NamedTemporaryFile("r") as drawn:
+        words = [tool, *options, "--map", drawn.name]
+        last = subprocess.run(words, input=data, capture_output=True, check=True).stderr.decode().splitlines()[-1]
+        rows = [tuple(map(int, line.split("\t")[:2])) for line in drawn.read().splitlines()[1:]]
+    return {name: int(n) for name, n in re.findall(r"(\w+)=(\d+)", last)}, rows
 
 
 def lines(rows):
     return "\n".join(" ".join(f"{x:g}" for x in row) for row in rows)
 
 
-def shade(stall):
-    """A shade over what was not skimmed, and a line where that begins."""
+def shade(n, first, frames):
+    """A shade over frames of which nothing came out, and a line where they begin; a short, thin line for a few frames."""
+    start = first / RATE
+    if frames < RATE / 10:
+        return f'set arrow {n} from {start},graph 0 to {start},graph 0.14 nohead linecolor "#b03020" linewidth 0.7'
     return "\n".join((
-        f'set object 1 rectangle from {stall / RATE},graph 0 to 5,graph 1 fillcolor "#f6dcd8" fillstyle solid noborder behind',
-        f'set arrow 1 from {stall / RATE},graph 0 to {stall / RATE},graph 1 nohead linecolor "#b03020" linewidth 2',
+        f'set object {n} rectangle from {start},graph 0 to {start + frames / RATE},graph 1 fillcolor "#f6dcd8" fillstyle solid noborder behind',
+        f'set arrow {n} from {start},graph 0 to {start},graph 1 nohead linecolor "#b03020" linewidth 2',
     ))
 
 
-def input_panel(title, parts, values, stall):
+def input_panel(title, values, rows):
     """Each part of the reel in its colour, with its period above it."""
-    marks, plots, envelopes, begin = [shade(stall)] if stall else [], [], [], 0
-    for n, part in enumerate(parts):
+    marks, plots, envelopes, begin = [shade(n + 1, *row) for n, row in enumerate(rows)], [], [], 0
+    for n, part in enumerate(REEL):
         period, frames = part.split(":")
         end = begin + int(frames)
         chunks = [(i, values[i:i + WIDTH]) for i in range(begin, end, WIDTH)]
@@ -86,22 +94,24 @@ def input_panel(title, parts, values, stall):
     return INPUT.format(title=title, marks="\n".join(marks), plots=", ".join(plots), envelopes="\n".join(envelopes))
 
 
-def output_panel(tool, data, stall):
-    counts = lines((end / RATE, skim(tool, data[:2 * end])[0]) for end in range(0, len(data) // 2 + 1, STEP))
-    told = f"stalled at {stall / RATE:.3f} s:\\nnothing after it\\nis skimmed" if stall else ""
-    mark = f'set label 1 "{told}" at {stall / RATE + 0.08},1250 textcolor "#b03020"' if stall else ""
-    return OUTPUT.format(marks=mark, counts=counts)
+def output_panel(tool, options, data, counts, rows):
+    drawn = lines((end / RATE, skim(tool, options, data[:2 * end])[0]["frames_out"]) for end in range(0, len(data) // 2 + 1, STEP))
+    told, at = f"stalled at {rows[0][0] / RATE:.3f} s:\\nnothing after it\\nis skimmed", rows[0][0] / RATE + 0.08
+    if not counts["stalls"]:
+        frames = f"{counts['passed_frames']:,} of {counts['frames_in']:,} frames"
+        told, at = f"{counts['passed']} periods passed over:\\nnothing came out of {frames},\\nin {len(rows)} stretches", 0.2
+    return OUTPUT.format(marks=f'set label 1 "{told}" at {at},1250 textcolor "#b03020"', counts=drawn)
 
 
-def column(tool, title, parts):
-    data = subprocess.run([sys.executable, Path(__file__).with_name("make_reel.py"), *parts], capture_output=True, check=True).stdout
-    stall = skim(tool, data)[1]
-    return input_panel(title, parts, samples_of(data), stall) + output_panel(tool, data, stall)
+def column(tool, data, title, options):
+    counts, rows = skim(tool, options, data)
+    return input_panel(title, samples_of(data), rows) + output_panel(tool, options, data, counts, rows)
 
 
 def main():
     tool, picture = sys.argv[1:3]
-    script = LAYOUT.format(picture=picture) + "".join(column(tool, *reel) for reel in REELS) + "unset multiplot\n"
+    data = subprocess.run([sys.executable, Path(__file__).with_name("make_reel.py"), *REEL], capture_output=True, check=True).stdout
+    script = LAYOUT.format(picture=picture) + "".join(column(tool, data, *way) for way in COLUMNS) + "unset multiplot\n"
     subprocess.run(["gnuplot"], input=script.encode(), check=True)
 
 
