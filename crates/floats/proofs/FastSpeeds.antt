@@ -1,14 +1,14 @@
 -- At a local speed of 2 and more no copying step is due; below that a skip gives as many frames as its period has. Assumes nothing.
 use mathlib.Core.Path.{_≡_, refl}
-use mathlib.Core.Bool.{Bool, true, false, cond, _&&_, _||_}
+use mathlib.Core.Bool.{Bool, true, false, _&&_, _||_}
 use Prim.Native.Nat.{ℕ, _*_, _≤_}
 use native.Mathlib.Omega.{arith}
 use borrow.Author.Tests.{le-ltb}
 use lib.Dec.{T}
 use lib.IntN.{ℤ, pos}
-use lib.Ieee.{Float, nan, inf, fin, up, down, lt, le, eq}
+use lib.Ieee.{Float, nan, inf, fin, up, down, lt, le}
 use lib.Ieee.Positive.{above-of-le}
-use Rattle.floats.specs.Numbers.{zero, half, one, two}
+use Rattle.floats.specs.Numbers.{one, two}
 use Rattle.floats.specs.Steps.{copyingDue, skipCount}
 use Rattle.floats.proofs.Signs.{le-cross}
 
