@@ -13,6 +13,7 @@ pub mod CopyingStep
 pub mod CopyCount
 pub mod InsertStep
 pub mod StepRules
+pub mod FastSpeeds
 pub mod PlayTime
 pub mod Facts
 pub mod Figures

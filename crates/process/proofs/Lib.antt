@@ -4,3 +4,4 @@ pub mod Joining
 mod Finishing
 mod Working
 pub mod Claims
+pub mod Told

@@ -1,9 +1,8 @@
 -- Document 02, C-18, proved over whole runs: `never-stalls`. The claim is in `specs/StepOver.antt`. With it `balance` and `reconciled` hold of
 -- every run that steps over. Assumes nothing.
 use mathlib.Core.Path.{_≡_, refl, sym, ap, _∙_, subst}
-use mathlib.Core.Bool.{Bool, true, false, false≢true}
+use mathlib.Core.Bool.{true, false, false≢true}
 use mathlib.Core.List.{List, [], _∷_, _++_}
-use Prim.Native.Nat.{ℕ}
 use Rattle.stream.specs.declared.Setting.{Setting}
 use Rattle.stream.specs.declared.Setting.the-variants.{Speed, Pitch, Volume, StepOver}
 use Rattle.stream.specs.State.{State, stepsOver}
@@ -11,16 +10,17 @@ use Rattle.stream.specs.Settings.{withSetting}
 use Rattle.fill.specs.declared.Outcome.{Outcome}
 use Rattle.fill.specs.declared.Outcome.the-variants.{Empty, Copied, Waiting, Stretched, Stalled}
 use Rattle.process.specs.Process.{joined, process, writeWork, flushWork, cleared}
-use Rattle.process.proofs.Claims.{Held, told-exactly}
+use Rattle.process.proofs.Claims.{Held}
+use Rattle.process.proofs.Told.{told-exactly}
 use Rattle.runs.specs.Ledger.{Call, setting, write, flush, read, Ledger, begun, entry}
-use Rattle.runs.specs.Demand.{RunOf, last, acceptedOf, All, NoWrite, NoFlush}
+use Rattle.runs.specs.Demand.{acceptedOf, All, NoWrite, NoFlush}
 use Rattle.runs.specs.Balance.{NotStalled}
 use Rattle.runs.specs.StepOver.{KeepsOn, StaysOn, NeverStallsClaim}
 use Rattle.runs.proofs.Work.{process-over}
 use Rattle.runs.proofs.Tracking.{HeldCall}
 use Rattle.runs.proofs.Simulation.{calls-held}
 use Rattle.runs.proofs.Quiet.{Tells}
-use Rattle.runs.proofs.Entries.{EachCall, entries, entries-told}
+use Rattle.runs.proofs.Entries.{EachCall, entries-told}
 use Rattle.runs.proofs.Claims.{outcomes-are-book}
 
 abbrev On : State → Type 0

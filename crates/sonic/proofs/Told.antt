@@ -17,7 +17,7 @@ use Rattle.stream.specs.Stream.{stateOf}
 use Rattle.stream.specs.Refusals.{accepted}
 use Rattle.fill.specs.declared.Told.{Told}
 use Rattle.process.specs.Process.{wholeFrames, joined, writeWork, flushWork}
-use Rattle.process.proofs.Claims.{ToldExactly, told-exactly}
+use Rattle.process.proofs.Told.{ToldExactly, told-exactly}
 use Rattle.adding.specs.declared.Wrote.{Wrote}
 use Rattle.adding.specs.Calls.{refusedCall, acceptedCall, callBy, refusalOf, writeCall, flushCall}
 use Rattle.adding.specs.Adding.{Accepted}

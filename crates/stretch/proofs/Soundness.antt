@@ -29,7 +29,7 @@ use Rattle.stretch.proofs.DueStep.{nextStep-copied, nextStep-searched}
 -- ---- the step that is due
 
 module _ {u : StretchCall} (x : List ℤ) (h : Place) (r : StretchReady u) (o : PeriodIn (u .rate) (h .prev)) where
-  period-in : InRange (u .rate) (searchAt u x h .period .0)
+  pub period-in : InRange (u .rate) (searchAt u x h .period .0)
   unfolding searchAt
   period-in = findPitchPeriod-in (drop (h .position .0 * u .channels) x) (h .prev) (r .opened) o
 

@@ -2,7 +2,6 @@
 use mathlib.Core.Path.{_≡_, refl, sym, ap, _∙_}
 use mathlib.Core.Bool.{Bool, true, false, cond, _&&_, _||_, false≢true}
 use mathlib.Core.List.{List}
-use Prim.Native.Nat.{_+_}
 use native.Mathlib.Omega.{arith}
 use lib.Dec.{eqb}
 use lib.IntN.{ℤ}
@@ -13,7 +12,6 @@ use Rattle.floats.specs.Steps.{copyingDue, skipCount}
 use Rattle.period.specs.Pitch.{PeriodIn}
 use Rattle.stretch.specs.declared.StretchCall.{StretchCall}
 use Rattle.stretch.specs.declared.Place.{Place}
-use Rattle.stretch.specs.declared.Step.{Step}
 use Rattle.stretch.specs.declared.Step.the-variants.{Copied, Skipped, Inserted, Passed}
 use Rattle.stretch.specs.Steps.{searchAt, nextStep, periodsPassed, stalls, StretchReady}
 use Rattle.stretch.specs.Tally.{tally}
