@@ -18,7 +18,8 @@ use Rattle.plans.specs.declared.Plan.{Plan}
 use Rattle.reels.specs.declared.reading.BlockRead.{BlockRead}
 use Rattle.reels.specs.declared.reel.Reel.{Reel}
 use Rattle.adding.specs.Calls.{streamAfter}
-use Rattle.reels.specs.Reels.{going, firstHeld, passedIn, notedWrite, Answered, WrittenOut, Drained, BlockReadAs, MapWritten}
+use Rattle.reels.specs.Reels.{going, firstHeld, passedIn, Answered, WrittenOut, Drained, BlockReadAs}
+use Rattle.maps.specs.Maps.{notedWrite, MapWritten}
 use Rattle.reels.proofs.Blocks.{counted, full-whole}
 use Rattle.reels.proofs.Going.{going-parts, going-of, same-input, input-trans, out-still}
 use Rattle.blocks.specs.Blocks.{WriteAnswered, PartWritten, BlockWritten, Turned}

@@ -6,7 +6,8 @@ use Prim.Native.Nat.{ℕ, _+_, _%_, _^_}
 use Rattle.adding.specs.declared.Wrote.{Wrote}
 use Rattle.adding.specs.Calls.{streamAfter}
 use Rattle.reels.specs.declared.reel.Reel.{Reel}
-use Rattle.reels.specs.Reels.{going, SameInput, firstHeld, passedIn, notedWrite, Answered}
+use Rattle.reels.specs.Reels.{going, SameInput, firstHeld, passedIn, Answered}
+use Rattle.maps.specs.Maps.{notedWrite}
 
 -- after a write, with so many frames written: of a period that it passed over, the frames from the first one held
 -- before it to the first one held after it are noted

@@ -47,7 +47,7 @@ fn write(
     let n = Samples(samples.len()).frames(channels);
     let mut after = reel.answered(answer);
     after.written = std::num::wrapping_add_u64(reel.written, n.0 as u64);
-    let passes = after.noted_write();
+    let passes = maps::noted_write(after);
     after.passes = passes;
     after
 }
@@ -83,7 +83,7 @@ fn write_block(
             output,
             scratch,
         );
-        reel = reel.put_ended(last, plan);
+        reel = maps::put_ended(reel, last, plan);
         reel = reel.drain(few, output, values, bytes);
         at = end;
     }

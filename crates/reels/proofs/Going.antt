@@ -4,7 +4,6 @@
 --   same-notes, notes-trans              what is noted
 --   out-same, out-trans, out-still       frames written out, in no turn and in one more; nothing goes on again
 --   moved                                frames that wait no longer are counted
---   map-same, map-trans, map-still       no part of the map written, and one more; nothing goes on again
 -- Assumes nothing.
 use mathlib.Core.Path.{_≡_, refl, sym, ap, _∙_}
 use mathlib.Core.Bool.{Bool, true, false, not, _&&_}
@@ -14,7 +13,7 @@ use native.Mathlib.Omega.{arith}
 use borrow.Author.Tests.{eqb-true}
 use lib.Dec.{eqb}
 use Rattle.reels.specs.declared.reel.Reel.{Reel}
-use Rattle.reels.specs.Reels.{going, SameInput, SameNotes, WrittenOut, MapWritten}
+use Rattle.reels.specs.Reels.{going, SameInput, SameNotes, WrittenOut}
 
 -- a failure is none or one
 pub failed-once : {f : Bool} → f ≡ true → f ≡ false → ⊥
@@ -106,45 +105,3 @@ pub moved : (out n waiting after left : ℕ) → after ≡ (out + n) % 2 ^ 64 �
 moved out n waiting after left a l h =
     let whole : out + n + left ≡ out + waiting = omega arith in
     ap (λ (k : ℕ). (k + left) % 2 ^ 64) a ∙ mod-add-mod (out + n) (2 ^ 64) left ∙ ap (λ (k : ℕ). k % 2 ^ 64) whole
-
-pub map-same : {r : Reel} → MapWritten r r
-map-same =
-    record {
-      input-kept = same-input;
-      stream-kept = refl;
-      written-kept = refl;
-      out-kept = refl;
-      stalled-kept = refl;
-      place-kept = refl;
-      refusal-kept = refl;
-      flushed-kept = refl;
-      notes-kept = same-notes;
-      failed-stays = λ e. e;
-      map-stays = λ e. refl;
-    }
-
-pub map-trans : {r s t : Reel} → MapWritten r s → MapWritten s t → MapWritten r t
-map-trans a b =
-    record {
-      input-kept = input-trans (a .input-kept) (b .input-kept);
-      stream-kept = b .stream-kept ∙ a .stream-kept;
-      written-kept = b .written-kept ∙ a .written-kept;
-      out-kept = b .out-kept ∙ a .out-kept;
-      stalled-kept = b .stalled-kept ∙ a .stalled-kept;
-      place-kept = b .place-kept ∙ a .place-kept;
-      refusal-kept = b .refusal-kept ∙ a .refusal-kept;
-      flushed-kept = b .flushed-kept ∙ a .flushed-kept;
-      notes-kept = notes-trans (a .notes-kept) (b .notes-kept);
-      failed-stays = λ e. a .failed-stays (b .failed-stays e);
-      map-stays = λ e. b .map-stays e ∙ a .map-stays (b .failed-stays e);
-    }
-
-pub map-still : {r t : Reel} → MapWritten r t → going t ≡ true → going r ≡ true
-map-still {r} {t} w e =
-    let g = going-parts t e in
-    going-of r
-    (record {
-      unstalled = sym (w .stalled-kept) ∙ g .unstalled;
-      unfailed = w .failed-stays (g .unfailed);
-      unrefused = sym (w .refusal-kept) ∙ g .unrefused;
-    })

@@ -1,11 +1,9 @@
 -- What a run keeps of each answer and of each block, in this order:
 --   going, isStalled, freshReel       what a run is asked; a run that has not begun
 --   SameInput, SameNotes              what is as it was
---   notedWrite, notedFlush            what a call notes of frames of which nothing came out
 --   Answered, BlockCounted            after a call of the stream; after a block was filled
 --   WrittenOut, FewerWait, Drained    after frames that wait were written out
 --   BlockReadAs                       after a block was read
---   MapWritten                        after a part of the map was written
 -- Definitions only. Assumes nothing.
 use mathlib.Core.Path.{_≡_}
 use mathlib.Core.Bool.{Bool, true, false, not, cond, _&&_, _||_}
@@ -18,9 +16,8 @@ use Rattle.adding.specs.declared.Wrote.{Wrote}
 use Rattle.read.specs.declared.Gave.{Gave}
 use Rattle.adding.specs.Calls.{streamAfter}
 use Rattle.read.specs.Reading.{streamAfterRead}
-use Rattle.passes.specs.declared.Span.{Span}
 use Rattle.passes.specs.declared.Passes.{Passes}
-use Rattle.passes.specs.Passes.{none, noted}
+use Rattle.passes.specs.Passes.{none}
 use Rattle.plans.specs.declared.Plan.{Plan}
 use Rattle.reels.specs.declared.reading.BlockBytes.{BlockBytes}
 use Rattle.reels.specs.declared.reading.BlockRead.{BlockRead}
@@ -73,25 +70,11 @@ pub record SameNotes (r r' : Reel) : Type 0 where
   pub gave-same : r' .gave ≡ r .gave
   pub passes-same : r' .passes ≡ r .passes
 
--- ---- frames of which nothing came out
+-- ---- one call, one block
 
 -- the first frame held, of so many that were written
 abbrev pub firstHeld : ℕ → SonicStream → ℕ
 firstHeld written s = written - s .held .0
-
--- frames by the first of them and the first behind them
-abbrev pub spanOf : ℕ → ℕ → Span
-spanOf first end = record { first = first; frames = end - first }
-
--- after a write that passed over so many periods, one at the most by the plan: the frames that left the input
-unfoldable pub notedWrite : Passes → ℕ → ℕ → ℕ → Passes
-notedWrite p passed first end = cond (eqb passed 0) p (noted p passed (spanOf first end))
-
--- after a flush that was accepted and gave no frame: the frames that were held
-unfoldable pub notedFlush : Passes → ℕ → ℕ → ℕ → ℕ → Passes
-notedFlush p refusal gave first end = cond (eqb refusal 0 && eqb gave 0) (noted p 0 (spanOf first end)) p
-
--- ---- one call, one block
 
 -- whether a call stalled
 abbrev pub stalledIn : Wrote → Bool
@@ -182,19 +165,3 @@ pub record BlockReadAs (p : Plan) (r : Reel) (b : BlockRead) : Type 0 where
   pub fits : filled .bytes ≤ 2 * p .block
   pub counted : BlockCounted p r filled (b .reel)
   pub samples-are : b .samples ≡ filled .bytes / (2 * p .channels) * p .channels
-
--- ---- the map
-
--- after a part of the map was written: only that may have failed, and then the run is without a map
-pub record MapWritten (r r' : Reel) : Type 0 where
-  pub input-kept : SameInput r r'
-  pub stream-kept : r' .stream ≡ r .stream
-  pub written-kept : r' .written ≡ r .written
-  pub out-kept : r' .«frames_out» ≡ r .«frames_out»
-  pub stalled-kept : r' .stalled ≡ r .stalled
-  pub place-kept : r' .«stalled_at» ≡ r .«stalled_at»
-  pub refusal-kept : r' .refusal ≡ r .refusal
-  pub flushed-kept : r' .flushed ≡ r .flushed
-  pub notes-kept : SameNotes r r'
-  pub failed-stays : r' .failed ≡ false → r .failed ≡ false
-  pub map-stays : r' .failed ≡ false → r' .map ≡ r .map

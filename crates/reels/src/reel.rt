@@ -56,7 +56,7 @@ fn is_stalled(outcome: Outcome) -> bool
 }
 
 // The first frame held.
-pub(crate) fn first_held(written: u64, held: u64) -> u64
+pub fn first_held(written: u64, held: u64) -> u64
     ensures { λ r. ⌜ r ≡ written - held ⌝ }
 {
     if held < written { written - held } else { 0 }

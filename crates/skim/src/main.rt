@@ -61,7 +61,7 @@ fn run(job: Job) -> u64 {
                     if map == BAD_MAP {
                         return usage::bad_usage();
                     }
-                    let begun = Reel::new(stream, map).begin_map();
+                    let begun = maps::begin(Reel::new(stream, map));
                     let reel = skimming::skim(begun, plan);
                     reports::run(reel, plan)
                 }

@@ -9,7 +9,8 @@ use Rattle.plans.specs.declared.Plan.{Plan}
 use Rattle.plans.specs.declared.Service.{Service}
 use Rattle.plans.specs.Plans.{blockSamples, served, planOf, serviceOf}
 use Rattle.reels.specs.declared.reel.Reel.{Reel}
-use Rattle.reels.specs.Reels.{freshReel, MapWritten}
+use Rattle.reels.specs.Reels.{freshReel}
+use Rattle.maps.specs.Maps.{MapWritten}
 use Rattle.skimming.specs.Skimming.{ReelReady}
 
 module _ (s : SonicStream) (map : ℕ) where

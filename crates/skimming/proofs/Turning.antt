@@ -15,12 +15,14 @@ use Rattle.adding.specs.declared.Wrote.{Wrote}
 use Rattle.plans.specs.declared.Plan.{Plan}
 use Rattle.reels.specs.declared.reel.Reel.{Reel}
 use Rattle.adding.specs.Calls.{streamAfter}
-use Rattle.reels.specs.Reels.{going, SameInput, Answered, Drained, MapWritten, firstHeld, refusalIn, notedFlush}
+use Rattle.reels.specs.Reels.{going, SameInput, Answered, Drained, firstHeld, refusalIn}
+use Rattle.maps.specs.Maps.{notedFlush, MapWritten}
+use Rattle.maps.proofs.Kept.{map-still}
 use Rattle.blocks.specs.Blocks.{Turned}
 use Rattle.skimming.specs.Skimming.{flushes, Flushed, ReelReady, Complete}
 use Rattle.stream.specs.declared.SonicStream.{SonicStream}
 use Rattle.stream.proofs.InOrder.{both}
-use Rattle.reels.proofs.Going.{failed-once, going-parts, same-input, input-trans, out-still, map-still}
+use Rattle.reels.proofs.Going.{failed-once, going-parts, same-input, input-trans, out-still}
 
 -- ---- the flush
 

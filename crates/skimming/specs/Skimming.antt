@@ -11,7 +11,8 @@ use Rattle.adding.specs.declared.Wrote.{Wrote}
 use Rattle.adding.specs.Calls.{streamAfter}
 use Rattle.plans.specs.declared.Plan.{Plan}
 use Rattle.reels.specs.declared.reel.Reel.{Reel}
-use Rattle.reels.specs.Reels.{going, firstHeld, refusalIn, notedFlush, Answered}
+use Rattle.reels.specs.Reels.{going, firstHeld, refusalIn, Answered}
+use Rattle.maps.specs.Maps.{notedFlush}
 
 -- frames were written, and nothing has stopped the stretching
 abbrev pub flushes : Reel → Bool

@@ -34,7 +34,7 @@ fn flush(
     reel = reel.answered(answer);
     reel.flushed = true;
     reel.gave = reel.stream.waiting.0 as u64;
-    let passes = reel.noted_flush();
+    let passes = maps::noted_flush(reel);
     reel.passes = passes;
     reel
 }
@@ -78,7 +78,7 @@ fn run(
     let last = reel.passes.last;
     reel = flush(reel, input, stage, output, scratch);
     reel = reel.drain(1, output, values, bytes);
-    reel.end_map(last, plan)
+    maps::end(reel, last, plan)
 }
 
 // Does a job.

@@ -69,8 +69,8 @@ returns c = search needs
 new-requires-2 : tie.Need-new-requires-2
 new-requires-2 c κs = search needs
 
-begin-map-requires : tie.Need-begin-map-requires
-begin-map-requires c κs = search needs
+begin-requires : tie.Need-begin-requires
+begin-requires c κs = search needs
 
 skim-requires : tie.Need-skim-requires
 skim-requires c κs =
@@ -78,7 +78,7 @@ skim-requires c κs =
     let v = k .before .before in
     let s = v .before .settle .result in
     let fresh = ready-of s (c .before .before .before .open-map .result) (k .plan .given .0 .0) (sym (v .serve .ensures) ∙ k .plan .given .1) in
-    (usable k, ready-mapped (subst (ReelReady (k .plan .given .0 .0)) (sym (c .before .new2 .ensures)) fresh) (c .begin-map .ensures))
+    (usable k, ready-mapped (subst (ReelReady (k .plan .given .0 .0)) (sym (c .before .new2 .ensures)) fresh) (c .begin .ensures))
 
 run-requires : tie.Need-run-requires
 run-requires c κs = usable (c .before .before .before .before .before .before) .limits
@@ -111,7 +111,7 @@ run-spec =
     bad-usage-requires-3
     returns
     new-requires-2
-    begin-map-requires
+    begin-requires
     skim-requires
     run-requires
     returns-2

@@ -39,7 +39,7 @@ module _ {I : tie.InvT-loop} {μ : tie.MeasureT-loop} where
   abbrev drained : tie.After-slice-known8 I μ → tie.After-drain I μ
   drained c = c .before .before .before .before .before
 
-  abbrev after-drain : tie.After-end-map I μ → tie.After-drain I μ
+  abbrev after-drain : tie.After-end I μ → tie.After-drain I μ
   after-drain c = drained (c .before)
 
 -- ---- the invariant: the lengths and what the turns keep
@@ -93,8 +93,8 @@ drain-requires c κs =
     let inv = l .loop .inv in
     (omega arith, omega (arith, p .1, inv .5), omega (arith, p .1, p .2, inv .5, inv .6))
 
-end-map-requires : tie.Need-end-map-requires Inv-loop μ-loop
-end-map-requires c κs = start (left-loop (closing (after-flush (drained c .before)))) .pre .0 .0 .limits
+end-requires : tie.Need-end-requires Inv-loop μ-loop
+end-requires c κs = start (left-loop (closing (after-flush (drained c .before)))) .pre .0 .0 .limits
 
 returns : tie.Need-returns Inv-loop μ-loop
 returns c =
@@ -116,7 +116,7 @@ returns c =
     (j .if3 .came) in
     let lent : Areas = areas (l .loop .input) (l .loop .stage) (l .loop .output) (l .loop .scratch) in
     let done = complete {answer = flushCall (j .if3 .reel .stream) lent .answer} _ (omega arith) closed (f .flush .ensures) (d .drain .ensures) in
-    complete-mapped done (c .end-map .ensures)
+    complete-mapped done (c .end .ensures)
 
 -- ---- what search closes
 
@@ -178,7 +178,7 @@ run-spec =
     loop-again
     flush-requires
     drain-requires
-    end-map-requires
+    end-requires
     same-length
     same-length-2
     same-length-3

@@ -1,8 +1,8 @@
--- `reels::reel::Reel::end_map` meets its contract. Assumes nothing.
+-- `maps::end` meets its contract. Assumes nothing.
 use borrow.Author.Needs.{needs}
-use Rattle.reels.proofs.Going.{map-trans}
-use Rattle.reels.proofs.reel.Reel.end_map.Statement.{statement}
-use Rattle.reels.proofs.reel.Reel.end_map.Tie as tie
+use Rattle.maps.proofs.Kept.{map-trans}
+use Rattle.maps.proofs.end.Statement.{statement}
+use Rattle.maps.proofs.end.Tie as tie
 
 put-ended-requires : tie.Need-put-ended-requires
 put-ended-requires c κs = search needs
@@ -24,8 +24,8 @@ returns c =
 returns-2 : tie.Need-returns-2
 returns-2 c = map-trans (c .before .before .put-ended .ensures) (c .before .put-line .ensures)
 
-pub end-map-spec : {M : Type 1} → statement M
-end-map-spec =
+pub end-spec : {M : Type 1} → statement M
+end-spec =
     tie.close
     (tie.spec
     put-ended-requires

@@ -1,10 +1,10 @@
--- `reels::mapping::span` meets its contract. Assumes nothing.
+-- `maps::span` meets its contract. Assumes nothing.
 use borrow.Author.Needs.{needs}
 use mathlib.Core.Path.{_≡_}
 use Prim.Native.Nat.{_-_}
 use native.Mathlib.Omega.{arith}
-use Rattle.reels.proofs.mapping.span.Statement.{statement}
-use Rattle.reels.proofs.mapping.span.Tie as tie
+use Rattle.maps.proofs.span.Statement.{statement}
+use Rattle.maps.proofs.span.Tie as tie
 
 sub-t8 : tie.Need-sub-t8
 sub-t8 c = search needs

@@ -1,15 +1,15 @@
--- `reels::reel::Reel::noted_write` meets its contract. Assumes nothing.
+-- `maps::noted_write` meets its contract. Assumes nothing.
 use borrow.Author.Needs.{needs}
 use borrow.Author.Tests.{eq-eqb, ne-eqb}
-use Rattle.reels.specs.Reels.{notedWrite}
-use Rattle.reels.proofs.reel.Reel.noted_write.Statement.{statement}
-use Rattle.reels.proofs.reel.Reel.noted_write.Tie as tie
+use Rattle.maps.specs.Maps.{notedWrite}
+use Rattle.maps.proofs.noted_write.Statement.{statement}
+use Rattle.maps.proofs.noted_write.Tie as tie
 
 returns : tie.Need-returns
 unfolding notedWrite
 returns c =
     let t = c .before in
-    rw (eq-eqb (t .before .before .args .self .passed) 0 (t .if1 .taken))
+    rw (eq-eqb (t .before .before .args .reel .passed) 0 (t .if1 .taken))
 
 first-held-requires : tie.Need-first-held-requires
 first-held-requires c κs = search needs
@@ -26,7 +26,7 @@ returns-2 c =
     let s = c .before in
     let h = s .before in
     let e = h .before in
-    let r = e .before .before .args .self in
+    let r = e .before .before .args .reel in
     rw (ne-eqb (r .passed) 0 (e .if1 .left), ← h .first-held .ensures, c .note .ensures, s .span .ensures)
 
 pub noted-write-spec : {M : Type 1} → statement M

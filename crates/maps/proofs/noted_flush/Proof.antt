@@ -1,23 +1,23 @@
--- `reels::reel::Reel::noted_flush` meets its contract. Assumes nothing.
+-- `maps::noted_flush` meets its contract. Assumes nothing.
 use borrow.Author.Needs.{needs}
 use borrow.Author.Tests.{eq-eqb, ne-eqb}
 use native.Mathlib.Omega.{arith}
-use Rattle.reels.specs.Reels.{notedFlush}
-use Rattle.reels.proofs.reel.Reel.noted_flush.Statement.{statement}
-use Rattle.reels.proofs.reel.Reel.noted_flush.Tie as tie
+use Rattle.maps.specs.Maps.{notedFlush}
+use Rattle.maps.proofs.noted_flush.Statement.{statement}
+use Rattle.maps.proofs.noted_flush.Tie as tie
 
 returns : tie.Need-returns
 unfolding notedFlush
 returns c =
     let t = c .before in
-    rw (ne-eqb (t .before .before .args .self .refusal) 0 (t .if1 .taken))
+    rw (ne-eqb (t .before .before .args .reel .refusal) 0 (t .if1 .taken))
 
 returns-2 : tie.Need-returns-2
 unfolding notedFlush
 returns-2 c =
     let t = c .before in
     let e = t .before .before in
-    let r = e .before .before .args .self in
+    let r = e .before .before .args .reel in
     rw (eq-eqb (r .refusal) 0 (e .if1 .left), ne-eqb (r .stream .waiting .0) 0 (λ z. omega arith))
 
 span-requires : tie.Need-span-requires
@@ -32,7 +32,7 @@ returns-3 c =
     let s = c .before in
     let t = s .before in
     let e = t .before .before in
-    let r = e .before .before .args .self in
+    let r = e .before .before .args .reel in
     rw (eq-eqb (r .refusal) 0 (e .if1 .left), eq-eqb (r .stream .waiting .0) 0 (omega arith), c .note .ensures, s .span .ensures)
 
 pub noted-flush-spec : {M : Type 1} → statement M

@@ -1,9 +1,9 @@
--- `reels::reel::Reel::mapped` meets its contract. Assumes nothing.
+-- `maps::mapped` meets its contract. Assumes nothing.
 use borrow.Author.Needs.{needs}
 use mathlib.Core.Path.{refl}
 use Rattle.reels.proofs.Going.{failed-once}
-use Rattle.reels.proofs.reel.Reel.mapped.Statement.{statement}
-use Rattle.reels.proofs.reel.Reel.mapped.Tie as tie
+use Rattle.maps.proofs.mapped.Statement.{statement}
+use Rattle.maps.proofs.mapped.Tie as tie
 
 slice-aggregate-fail : tie.Need-slice-aggregate-fail
 slice-aggregate-fail c = search needs
