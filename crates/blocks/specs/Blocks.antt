@@ -8,8 +8,8 @@ use Rattle.adding.specs.Calls.{streamAfter}
 use Rattle.reels.specs.declared.reel.Reel.{Reel}
 use Rattle.reels.specs.Reels.{going, SameInput, firstHeld, passedIn, notedWrite, Answered}
 
--- after a write, with so many frames written: of a period that it passed over, the frames from the first one held before
--- it to the first one held after it are noted
+-- after a write, with so many frames written: of a period that it passed over, the frames from the first one held
+-- before it to the first one held after it are noted
 abbrev pub WriteAnswered : ℕ → Reel → Wrote → Reel → Type 0
 WriteAnswered written r answer r' =
     Answered written (r .flushed)

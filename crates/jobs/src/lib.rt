@@ -9,8 +9,8 @@ pub use arguments::wants_status;
 pub use options::open_map;
 pub use settling::settle;
 
-// What a run is to do: the settings of its stream, and the place of the argument that names the map's file, 0 if none is
-// wanted.
+// What a run is to do: the settings of its stream, and the place of the argument that names the map's file, 0 if none
+// is wanted.
 pub struct Job {
     pub rate: u32,
     pub channels: u32,

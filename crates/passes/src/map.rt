@@ -29,7 +29,8 @@ fn digit(n: u64) -> u8 {
     48 + (n % 10) as u8
 }
 
-// Puts the time of so many frames into a line, in seconds with three digits behind the point, and answers where it ends.
+// Puts the time of so many frames into a line, in seconds with three digits behind the point, and answers where it
+// ends.
 fn put_seconds(frames: u64, rate: u64, line: &mut [u8], at: usize) -> usize
     requires { ⌜ (1 ≤ rate) × (rate ≤ 500000) × (at + 24 ≤ length (now line)) ⌝ }
     ensures { λ r. ⌜ r ≤ at + 24 ⌝ }

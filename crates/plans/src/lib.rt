@@ -67,7 +67,8 @@ fn growth(speed: f32, pitch: f32, longest: usize) -> usize
 // left. A period that is shorter than speed/pitch − 1 gives no frame. Where the shortest might, a rounded speed counted
 // in, a write is to take one step at the most: every step uses the shortest period or more, so that after one, fewer
 // than `required` frames are left. Then a write that stalls makes no frame, and the frames held begin where it stalled;
-// and of a write that passes over a period, the frames that leave the input are that period.
+// and of a write that passes over a period, the frames that leave the input are that period (`passed-alone` in
+// stretch/proofs/OneStep.antt).
 fn fill_to(speed: f32, pitch: f32, shortest: usize, required: usize) -> usize
     requires { ⌜ (1 ≤ shortest) × (shortest ≤ required) × (required ≤ scratchArea) ⌝ }
     ensures { λ r. ⌜ r ≡ fillTo speed pitch shortest required ⌝ }
