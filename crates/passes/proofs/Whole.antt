@@ -7,7 +7,7 @@ use mathlib.Core.Path.{_≡_, refl, sym, ap, _∙_}
 use mathlib.Core.Bool.{Bool, true, false, cond}
 use mathlib.Core.List.{List, [], _∷_}
 use Prim.Native.Nat.{ℕ, _+_, _%_, _^_, _≤_, _<_}
-use native.Mathlib.Nat.{add-assoc, add-zero, le-trans, mod-lt, mod-eq-of-lt, mod-add-mod}
+use native.Mathlib.Nat.{add-assoc, add-zero, zero-add, le-trans, mod-lt, mod-eq-of-lt, mod-add-mod}
 use native.Mathlib.Omega.{arith}
 use borrow.Author.Tests.{ltb-true, ltb-false}
 use lib.Dec.{ltb}
@@ -55,10 +55,10 @@ periods-from p (x ∷ xs) h =
     periods-from (noted p (x .periods) (x .span)) xs (below (p .periods + x .periods)) ∙ summed-more (p .periods) (x .periods) (periodsOf xs)
 
 pub frames-are : (xs : List Piece) → all none xs .frames ≡ framesOf xs % 2 ^ 64
-frames-are xs = frames-from none xs (omega arith)
+frames-are xs = frames-from none xs (omega arith) ∙ ap (λ (n : ℕ). n % 2 ^ 64) (zero-add (framesOf xs))
 
 pub periods-are : (xs : List Piece) → all none xs .periods ≡ periodsOf xs % 2 ^ 64
-periods-are xs = periods-from none xs (omega arith)
+periods-are xs = periods-from none xs (omega arith) ∙ ap (λ (n : ℕ). n % 2 ^ 64) (zero-add (periodsOf xs))
 
 -- ---- the longest stretch
 
