@@ -2,8 +2,8 @@
 //!
 //!     skim RATE CHANNELS [SPEED PITCH] < recording > track
 //!
-//! Speed 20 and pitch 0.5 unless given. If the voice stalls, the track ends there, standard error says at which second of the recording,
-//! and the exit status is 1.
+//! Speed 20 and pitch 0.5 unless given. Pitch periods that give no frame are passed over, and standard error says how many. If a
+//! write is not taken, the track ends there, standard error says before which second of the recording, and the exit status is 1.
 
 use kelpladder::{Outcome, SonicStream};
 use std::error::Error;
@@ -48,37 +48,46 @@ fn pass_on(stream: &mut SonicStream, track: &mut impl Write) -> io::Result<()> {
     track.write_all(&bytes)
 }
 
-/// The frame of the recording before which the track ended, if that is not its end.
-fn skim(settings: &Settings, recording: &mut impl Read, track: &mut impl Write) -> Result<Option<usize>, Box<dyn Error>> {
+/// What became of a recording: the periods passed over before the flush, and the frame before which the track ended, if that is not the
+/// recording's end.
+struct Skimmed {
+    passed: usize,
+    ended: Option<usize>,
+}
+
+fn skim(settings: &Settings, recording: &mut impl Read, track: &mut impl Write) -> Result<Skimmed, Box<dyn Error>> {
     let mut stream = SonicStream::new(settings.rate, settings.channels)?;
     stream.set_speed(settings.speed);
     stream.set_pitch(settings.pitch);
+    stream.set_step_over(true);
     let frame_bytes = 2 * settings.channels as usize;
-    let mut frames = 0;
+    let (mut frames, mut passed) = (0, 0);
     loop {
         let bytes = read_bytes(recording, FRAMES * frame_bytes)?;
         frames += bytes.len() / frame_bytes;
-        let outcome = stream.write_f32(&to_samples(&bytes)).outcome;
+        let told = stream.write_f32(&to_samples(&bytes));
+        passed += told.passed;
         pass_on(&mut stream, track)?;
-        if matches!(outcome, Outcome::Stalled | Outcome::Full) {
-            return Ok(Some(frames));
+        if told.outcome == Outcome::Full {
+            return Ok(Skimmed { passed, ended: Some(frames) });
         }
         if bytes.len() < FRAMES * frame_bytes {
             break;
         }
     }
-    // The silence of a flush stalls at this speed, which is no fault of the recording.
+    // The silence that a flush adds is passed over too at this speed, which is not counted here.
     stream.flush();
     pass_on(&mut stream, track)?;
-    Ok(None)
+    Ok(Skimmed { passed, ended: None })
 }
 
 fn run() -> Result<ExitCode, Box<dyn Error>> {
     let words: Vec<String> = std::env::args().skip(1).collect();
     let settings = settings(&words)?;
-    let stalled = skim(&settings, &mut io::stdin().lock(), &mut io::stdout().lock())?;
-    if let Some(frames) = stalled {
-        eprintln!("skim: stalled before second {:.1}; what follows is not in the track", frames as f64 / f64::from(settings.rate));
+    let skimmed = skim(&settings, &mut io::stdin().lock(), &mut io::stdout().lock())?;
+    eprintln!("skim: {} pitch periods passed over, the flush apart", skimmed.passed);
+    if let Some(frames) = skimmed.ended {
+        eprintln!("skim: ended before second {:.1}; what follows is not in the track", frames as f64 / f64::from(settings.rate));
         return Ok(ExitCode::FAILURE);
     }
     Ok(ExitCode::SUCCESS)
