@@ -103,7 +103,8 @@ part-more {r} {s} n k m e g p w c a o =
     record {
       still = λ h. p .still g;
       written-is =
-          λ h. o .written-kept ∙ a .written-kept ∙ w .written-is ∙ counted (r .written) n k (s .written) (p .written-is g) ∙ ap (λ (x : ℕ). (r .written + x) % 2 ^ 64) e;
+          λ h. o .written-kept ∙ a .written-kept ∙ w .written-is ∙ counted (r .written) n k (s .written) (p .written-is g)
+          ∙ ap (λ (x : ℕ). (r .written + x) % 2 ^ 64) e;
       input-kept = input-trans (p .input-kept) (input-trans (w .input-kept) (input-trans (a .input-kept) (o .input-kept)));
       flushed-kept = o .flushed-kept ∙ a .flushed-kept ∙ w .flushed-is ∙ p .flushed-kept;
       channels-kept = o .channels-kept ∙ ap (λ (x : SonicStream). x .channels) (a .stream-kept) ∙ c ∙ p .channels-kept;

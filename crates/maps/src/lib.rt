@@ -1,5 +1,5 @@
-// What is noted of frames of a reel of which nothing came out, and the map's lines as they are written. `specs/Maps.antt`
-// says what.
+// What is noted of frames of a reel of which nothing came out, and the map of them, written line by line.
+// `specs/Maps.antt` says what is noted.
 use passes::Passes;
 use passes::Span;
 use passes::map;

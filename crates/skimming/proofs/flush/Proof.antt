@@ -54,12 +54,13 @@ returns-3 c =
     let t = n .answered .result in
     let a = n .answered .ensures in
     let same = f .flush .ensures .0 .answer in
+    let gave = ap (λ (s : SonicStream). s .waiting .0) (a .stream-is) ∙ ap (λ (w : Wrote). streamAfter w .waiting .0) same in
     let goes : going r ≡ true = sym (g .before .is-going .ensures) ∙ not-false _ (g .if2 .left) in
     record {
       skipped = λ e. absurd (failed-once (flush-due (going r) (r .written) goes (g .before .before .if1 .left)) e);
       done =
           λ d. answered-with t (t .written) true (c .noted-flush .result) (t .stream .waiting .0) {answer = answer f} same (a .written-is) refl
-          (c .noted-flush .ensures ∙ flush-noted a same) (ap (λ (s : SonicStream). s .waiting .0) (a .stream-is) ∙ ap (λ (w : Wrote). streamAfter w .waiting .0) same) a;
+          (c .noted-flush .ensures ∙ flush-noted a same) gave a;
     }
 
 -- ---- what search closes
