@@ -1,6 +1,6 @@
 -- Document 01, "A write" and "Stretch steps": copied or stretched frames, before rate and volume, with no limit of
--- room; and document 02, C-16: what they add to the totals, and C-18: the periods passed over. Definitions only. Assumes
--- nothing.
+-- room; and document 02, C-16: what they add to the totals, and C-18: the periods passed over. Definitions only.
+-- Assumes nothing.
 use mathlib.Core.Bool.{cond}
 use mathlib.Core.List.{List, [], _∷_}
 use Prim.Native.Nat.{ℕ, _-_}

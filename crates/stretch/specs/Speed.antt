@@ -73,8 +73,8 @@ answer made used passed h stall =
 -- the answer for steps ss: a stall removes no input
 unfoldable pub answerFor : StretchCall → List ℤ → Place → List Step → Stretch
 answerFor u x h ss =
-    answer (framesMade ss) (cond (stalled ss) 0 (lastPlace u x h ss .position .0)) (tally ss .passed) (lastPlace u x h ss)
-    (stalled ss)
+    answer (framesMade ss) (cond (stalled ss) 0 (lastPlace u x h ss .position .0)) (tally ss .passed)
+    (lastPlace u x h ss) (stalled ss)
 
 -- `change_speed` with room for `room` frames
 unfoldable pub changeSpeed : StretchCall → List ℤ → Place → ℕ → Stretched

@@ -42,8 +42,8 @@ pub struct NextStep {
     pub prev: PeriodRecord,
 }
 
-// One turn of a call: no room for the step's frames; or the place after it, its frames, the periods that it passes over,
-// and whether it stalls.
+// One turn of a call: no room for the step's frames; or the place after it, its frames, the periods that it passes
+// over, and whether it stalls.
 pub enum Turn {
     NoRoom,
     Went(Place, Frames, usize, bool),
