@@ -83,6 +83,10 @@ def test_map():
     assert (lines, status) == ([(0, 8000)], 0) and " passed=388 passed_frames=8000 status=0" in told[-1], (told, lines)
     told, _, lines = skim_with_map(reel("62:24000", "0:8000", "62:24000"))
     assert f" passed_frames={sum(frames for _, frames in lines)} " in told[-1] and 24000 < lines[0][0] < 24200, (told, lines)
+    # A flush that gives no frame clears what waited in the tail.
+    told, _, lines = skim_with_map(reel("62:24000", "0:8000"))
+    assert told[-2] == "skim: since the flush gave no frame, stretched frames before it are not in the track either: 12", told
+    assert sum(lines[-1]) == 32000, lines
     # Nothing is passed over where every period gives a frame; nor is there a map of a reel without frames.
     assert skim_with_map(reel("62:24000", "34:16000", "0:8000"), "8000", "1", "2", "1")[2] == []
     assert skim_with_map(b"")[2] == []

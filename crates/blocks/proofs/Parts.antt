@@ -45,6 +45,7 @@ module _ (t : Reel) (written : â„•) (flushed : Bool) (passes : Passes) (gave : â
         from = t .from;
         passed = t .passed;
         gave = gave;
+        tail = t .tail;
         passes = passes;
         map = t .map;
       }
@@ -61,6 +62,7 @@ module _ (t : Reel) (written : â„•) (flushed : Bool) (passes : Passes) (gave : â
         written-is = w;
         flushed-is = f;
         from-is = x .from-is;
+        tail-is = x .tail-is;
         passed-is = x .passed-is;
         passes-is = p;
         gave-is = g;

@@ -54,6 +54,7 @@ fn print_step(label: &[u8], speed: f32) {
         speed,
         input_play_time: 1.0,
         held: Frames(REQUIRED),
+        step_over: false,
     };
     let prev = PeriodRecord {
         period: 0,

@@ -52,11 +52,12 @@ notes-trans a b =
       from-same = b .from-same ∙ a .from-same;
       passed-same = b .passed-same ∙ a .passed-same;
       gave-same = b .gave-same ∙ a .gave-same;
+      tail-same = b .tail-same ∙ a .tail-same;
       passes-same = b .passes-same ∙ a .passes-same;
     }
 
 pub same-notes : {r : Reel} → SameNotes r r
-same-notes = record { from-same = refl; passed-same = refl; gave-same = refl; passes-same = refl }
+same-notes = record { from-same = refl; passed-same = refl; gave-same = refl; tail-same = refl; passes-same = refl }
 
 pub out-same : {r : Reel} → WrittenOut r r
 out-same =

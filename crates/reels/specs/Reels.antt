@@ -53,6 +53,7 @@ freshReel stream map =
       from = 0;
       passed = 0;
       gave = 0;
+      tail = record { 0 = 0 };
       passes = none;
       map = map;
     }
@@ -68,6 +69,7 @@ pub record SameNotes (r r' : Reel) : Type 0 where
   pub from-same : r' .from ≡ r .from
   pub passed-same : r' .passed ≡ r .passed
   pub gave-same : r' .gave ≡ r .gave
+  pub tail-same : r' .tail ≡ r .tail
   pub passes-same : r' .passes ≡ r .passes
 
 -- ---- one call, one block
@@ -102,6 +104,7 @@ pub record Answered (written : ℕ) (flushed : Bool) (passes : Passes) (gave : �
   pub written-is : r' .written ≡ written
   pub flushed-is : r' .flushed ≡ flushed
   pub from-is : r' .from ≡ firstHeld (r .written) (r .stream)
+  pub tail-is : r' .tail ≡ r .stream .tail
   pub passed-is : r' .passed ≡ passedIn answer
   pub passes-is : r' .passes ≡ passes
   pub gave-is : r' .gave ≡ gave

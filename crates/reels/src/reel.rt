@@ -38,6 +38,8 @@ pub struct Reel {
     pub from: u64,
     pub passed: u64,
     pub gave: u64,
+    // The stretched frames that waited in the tail before the last call.
+    pub tail: Frames,
     // The frames of which nothing came out, and the descriptor of the map, or NO_MAP.
     pub passes: Passes,
     pub map: u32,
@@ -94,6 +96,7 @@ impl Reel {
             from: 0,
             passed: 0,
             gave: 0,
+            tail: Frames(0),
             passes: Passes::NONE,
             map,
         }
@@ -118,6 +121,8 @@ impl Reel {
     {
         let place = first_held(self.written, self.stream.held.0 as u64);
         self.from = place;
+        let tail = self.stream.tail;
+        self.tail = tail;
         match answer {
             Wrote::Refused(number, stream) => {
                 self.stream = stream;

@@ -122,6 +122,17 @@ fn say_flush(reel: Reel, plan: Plan)
     say::text(b"\n");
 }
 
+// The stretched frames that a flush cleared because it gave none.
+fn say_cleared(reel: Reel) {
+    if reel.flushed && reel.gave == 0 && reel.tail.0 > 0 {
+        say::number(
+            b"skim: since the flush gave no frame, stretched frames before it are not in the track either: ",
+            reel.tail.0 as u64,
+        );
+        say::text(b"\n");
+    }
+}
+
 fn say_frame(name: &[u8], told: bool, frame: u64) {
     if told {
         say::number(name, frame);
@@ -180,6 +191,7 @@ pub fn run(reel: Reel, plan: Plan) -> u64
     if reel.flushed && reel.passed > 0 {
         say_flush(reel, plan);
     }
+    say_cleared(reel);
     if reel.refusal != refusals::ACCEPTED {
         refused(reel.refusal);
     }

@@ -22,7 +22,7 @@ returns c =
       place-kept = refl;
       refusal-kept = refl;
       flushed-kept = refl;
-      notes-kept = record { from-same = refl; passed-same = refl; gave-same = refl; passes-same = refl };
+      notes-kept = record { from-same = refl; passed-same = refl; gave-same = refl; tail-same = refl; passes-same = refl };
       failed-stays = λ e. absurd (failed-once refl e);
       map-stays = λ e. absurd (failed-once refl e);
     }

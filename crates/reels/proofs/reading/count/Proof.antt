@@ -40,7 +40,7 @@ returns c =
       place-kept = refl;
       refusal-kept = refl;
       flushed-kept = refl;
-      notes-kept = record { from-same = refl; passed-same = refl; gave-same = refl; passes-same = refl };
+      notes-kept = record { from-same = refl; passed-same = refl; gave-same = refl; tail-same = refl; passes-same = refl };
       map-kept = refl;
     }
 
@@ -59,7 +59,7 @@ returns-2 c =
       place-kept = refl;
       refusal-kept = refl;
       flushed-kept = refl;
-      notes-kept = record { from-same = refl; passed-same = refl; gave-same = refl; passes-same = refl };
+      notes-kept = record { from-same = refl; passed-same = refl; gave-same = refl; tail-same = refl; passes-same = refl };
       map-kept = refl;
     }
 

@@ -66,7 +66,7 @@ returns c =
             flushed-kept = refl;
             stalled-kept = refl;
             place-kept = refl;
-            notes-kept = record { from-same = refl; passed-same = refl; gave-same = refl; passes-same = refl };
+            notes-kept = record { from-same = refl; passed-same = refl; gave-same = refl; tail-same = refl; passes-same = refl };
             map-kept = refl;
             channels-kept = ap (λ (t : SonicStream). t .channels) (s .stream-same);
             failed-stays = λ e. e;
@@ -91,7 +91,7 @@ returns-2 c =
             flushed-kept = refl;
             stalled-kept = refl;
             place-kept = refl;
-            notes-kept = record { from-same = refl; passed-same = refl; gave-same = refl; passes-same = refl };
+            notes-kept = record { from-same = refl; passed-same = refl; gave-same = refl; tail-same = refl; passes-same = refl };
             map-kept = refl;
             channels-kept = g .channels-kept;
             failed-stays = λ e. e;
@@ -113,7 +113,7 @@ returns-3 c =
             flushed-kept = refl;
             stalled-kept = refl;
             place-kept = refl;
-            notes-kept = record { from-same = refl; passed-same = refl; gave-same = refl; passes-same = refl };
+            notes-kept = record { from-same = refl; passed-same = refl; gave-same = refl; tail-same = refl; passes-same = refl };
             map-kept = refl;
             channels-kept = given n .channels-kept;
             failed-stays = λ e. absurd (failed-once refl e);
