@@ -1,7 +1,7 @@
 //! The stack that the calls use: a painted one, looked at afterwards.
 
 use crate::instructions::measured;
-use crate::reels::{pairs, samples_of, Reel, Sound, JOBS, STEPPING};
+use crate::reels::{pairs, samples_of, Job, Reel, Sound, JOBS, STEPPING};
 use std::alloc::{alloc, dealloc, Layout};
 use std::ffi::c_void;
 use std::ptr::null_mut;
@@ -17,14 +17,20 @@ extern "C" {
     fn pthread_join(thread: u64, answer: *mut *mut c_void) -> i32;
 }
 
-/// Two seconds of every job on its reels, and a flush at the highest rate with the most channels, all on our side.
-extern "C" fn every_call(_: *mut c_void) -> *mut c_void {
+type Case = (Job, Reel, Vec<f32>);
+
+/// Two seconds of every job on its reels, and a flush at the highest rate with the most channels.
+fn cases() -> Vec<Case> {
     let widest = Reel { name: "widest", rate: 500_000, channels: 32, seconds: 0, sound: Sound::Voice(4_000) };
-    for (job, reel) in pairs() {
-        measured(true, &job, &reel, &samples_of(Reel { seconds: 2, ..reel }));
-    }
-    for job in JOBS.into_iter().chain([STEPPING]) {
-        measured(true, &job, &widest, &Vec::new());
+    let reels = pairs().map(|(job, reel)| (job, reel, samples_of(Reel { seconds: 2, ..reel })));
+    let flushes = JOBS.into_iter().chain([STEPPING]).map(|job| (job, widest, Vec::new()));
+    reels.chain(flushes).collect()
+}
+
+/// The cases that it is handed, on our side.
+extern "C" fn every_call(cases: *mut c_void) -> *mut c_void {
+    for (job, reel, samples) in unsafe { &*cases.cast::<Vec<Case>>() } {
+        measured(true, job, reel, samples);
     }
     null_mut()
 }
@@ -33,8 +39,8 @@ extern "C" fn no_call(_: *mut c_void) -> *mut c_void {
     null_mut()
 }
 
-/// The bytes of a painted stack that a thread with this work has changed.
-fn stack_of(work: extern "C" fn(*mut c_void) -> *mut c_void) -> usize {
+/// The bytes of a painted stack that a thread with this work on the cases has changed.
+fn stack_of(work: extern "C" fn(*mut c_void) -> *mut c_void, cases: &mut Vec<Case>) -> usize {
     const LENGTH: usize = 1 << 20;
     const PAINT: u8 = 0xa5;
     let layout = Layout::from_size_align(LENGTH, 4_096).expect("a layout");
@@ -45,7 +51,7 @@ fn stack_of(work: extern "C" fn(*mut c_void) -> *mut c_void) -> usize {
         let (mut settings, mut thread) = (ThreadSettings([0; 7]), 0);
         assert_eq!(pthread_attr_init(&mut settings), 0);
         assert_eq!(pthread_attr_setstack(&mut settings, stack, LENGTH), 0);
-        assert_eq!(pthread_create(&mut thread, &settings, work, null_mut()), 0);
+        assert_eq!(pthread_create(&mut thread, &settings, work, (cases as *mut Vec<Case>).cast()), 0);
         assert_eq!(pthread_join(thread, null_mut()), 0);
         let untouched = std::slice::from_raw_parts(stack, LENGTH).iter().take_while(|&&byte| byte == PAINT).count();
         dealloc(stack, layout);
@@ -55,5 +61,6 @@ fn stack_of(work: extern "C" fn(*mut c_void) -> *mut c_void) -> usize {
 
 /// The calls' stack, with the few frames of this program above them.
 pub fn measure_stack() {
-    println!("stack: {} bytes at most", stack_of(every_call) - stack_of(no_call));
+    let mut cases = cases();
+    println!("stack: {} bytes at most", stack_of(every_call, &mut cases) - stack_of(no_call, &mut cases));
 }
