@@ -19,6 +19,7 @@ use Rattle.stretch.specs.declared.Step.{Step}
 use Rattle.stretch.specs.Tally.{tally}
 use Rattle.stretch.specs.Speed as Speed
 use Rattle.stretch.proofs.OneStep as OneStep
+use Rattle.stretch.proofs.Taken.{none-some}
 use Rattle.stretch.proofs.StepOver.{over-never-stalls, off-passes-none}
 use Rattle.stream.specs.State.{State, stepsOver}
 use Rattle.fill.specs.declared.Told.{Told}
@@ -34,9 +35,6 @@ use Rattle.process.proofs.Claims.{Held, StallsExactly, held-ready, stal
 abbrev PassesExactly : Bool → Taken → Type 0
 PassesExactly over t =
     (t .told .passed ≡ tally (t .steps) .passed) × (over ≡ false → t .told .passed ≡ 0) × (1 ≤ t .told .passed → t .told .outcome ≡ Stretched)
-
-none-some : {n : ℕ} → n ≡ 0 → 1 ≤ n → ⊥
-none-some e some = omega arith
 
 none-passed : {n : ℕ} {o : Outcome} → n ≡ 0 → 1 ≤ n → o ≡ Stretched
 none-passed e some = absurd (none-some e some)

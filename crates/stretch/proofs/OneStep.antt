@@ -3,7 +3,7 @@
 use mathlib.Core.Path.{_≡_, refl, sym, ap, _∙_, subst}
 use mathlib.Core.Bool.{Bool, true, false, cond, _&&_, true≢false}
 use mathlib.Core.List.{List, [], _∷_}
-use Prim.Native.Nat.{ℕ, _+_, _≤_, _<_}
+use Prim.Native.Nat.{_+_, _≤_, _<_}
 use native.Mathlib.Omega.{arith}
 use borrow.Author.Tests.{leb-true, leb-false, ne-eqb}
 use lib.Dec.{T, eqb, leb}
@@ -11,44 +11,33 @@ use lib.IntN.{ℤ}
 use lib.Ieee.{lt, le}
 use Rattle.frames.specs.declared.Frames.{Frames}
 use Rattle.floats.specs.Numbers.{one, two}
-use Rattle.floats.specs.Steps.{copyingDue, skipCount, insertCount}
+use Rattle.floats.specs.Steps.{skipCount}
 use Rattle.floats.proofs.FastSpeeds.{fast-copies-none, slow-skips-all}
 use Rattle.period.specs.Rates.{minPeriod, maxRequired}
 use Rattle.period.specs.Pitch.{PeriodIn}
 use Rattle.stretch.specs.declared.StretchCall.{StretchCall}
 use Rattle.stretch.specs.declared.Place.{Place}
 use Rattle.stretch.specs.declared.Step.{Step}
-use Rattle.stretch.specs.declared.Step.the-variants.{Copied, Skipped, Inserted, Passed}
-use Rattle.stretch.specs.Steps.{searchAt, skipStep, nextStep, framesUsed, periodsPassed, stalls, StretchReady}
+use Rattle.stretch.specs.declared.Step.the-variants.{Skipped, Passed}
+use Rattle.stretch.specs.Steps.{searchAt, skipStep, nextStep, framesUsed, stalls, StretchReady}
 use Rattle.stretch.specs.Tally.{tally}
 use Rattle.stretch.specs.Speed.{steps}
 use Rattle.stretch.proofs.DueStep.{nextStep-searched}
 use Rattle.stretch.proofs.Soundness.{period-in}
-use Rattle.stretch.proofs.Progress.{next, steps-on, steps-end, steps-induct, after-position}
-
-some-none : {n : ℕ} → n ≡ 0 → 1 ≤ n → ⊥
-some-none e h = omega arith
+use Rattle.stretch.proofs.StepOver.{passes-none}
+use Rattle.stretch.proofs.Taken.{none-some}
+use Rattle.stretch.proofs.Progress.{next, steps-on, steps-end, after-position}
 
 -- ---- at a local speed of less than 2, and of 1 or less, no period is passed over
 
-none-due : (over copying above none : Bool) (n period k l : Frames) → (above && none) ≡ false
-    → periodsPassed (cond copying (Copied n) (cond above (cond (over && none) (Passed period) (Skipped period k)) (Inserted period l))) ≡ 0
-none-due over true above none n period k l e = refl
-none-due over false false none n period k l e = refl
-none-due true false true none n period k l e = rw e refl
-none-due false false true none n period k l e = refl
+not-zero : (above over none : Bool) → (above && none) ≡ false → (above && (over && none)) ≡ false
+not-zero false over none e = refl
+not-zero true true none e = e
+not-zero true false none e = refl
 
 module _ {u : StretchCall} (x : List ℤ) (r : StretchReady u) where
   abbrev zeroAt : Place → Bool
   zeroAt h = eqb (skipCount (u .speed) (searchAt u x h .period .0)) 0
-
-  next-none : (h : Place) → (lt one (u .speed) && zeroAt h) ≡ false → periodsPassed (nextStep u x h) ≡ 0
-  unfolding nextStep
-  next-none h e =
-      let period = searchAt u x h .period in
-      let k : Frames = record { 0 = skipCount (u .speed) (period .0) } in
-      let l : Frames = record { 0 = insertCount (u .speed) (period .0) } in
-      none-due (u .«step_over») (copyingDue (u .speed) (h .«time_error»)) (lt one (u .speed)) (zeroAt h) _ period k l e
 
   -- the test by which none is
   slow : (above fast : Bool) → lt one (u .speed) ≡ above → le two (u .speed) ≡ fast → (above && fast) ≡ false
@@ -58,16 +47,13 @@ module _ {u : StretchCall} (x : List ℤ) (r : StretchReady u) where
   slow true false a f e h o =
       let low = r .opened .rate-low in
       let i = period-in x h r o in
-      let some : searchAt u x h .period .0 ≡ 0 → ⊥ = λ z. some-none z (omega (arith, i .low)) in
+      let some : searchAt u x h .period .0 ≡ 0 → ⊥ = λ z. none-some z (omega (arith, i .low)) in
       rw (a, slow-skips-all (u .speed) (searchAt u x h .period .0) f, ne-eqb (searchAt u x h .period .0) 0 some) refl
 
   slow-none : (h : Place) → PeriodIn (u .rate) (h .prev) → (lt one (u .speed) && le two (u .speed)) ≡ false → tally (steps u x h) .passed ≡ 0
-  unfolding tally
   slow-none h o e =
-      let none : (p : Place) → PeriodIn (u .rate) (p .prev) → periodsPassed (nextStep u x p) ≡ 0 =
-      λ p q. next-none p (slow (lt one (u .speed)) (le two (u .speed)) refl refl e p q) in
-      steps-induct x r (λ p ss. tally ss .passed ≡ 0) (λ _ _. refl) (λ p q _ _. omega (arith, none p q))
-      (λ p ss q _ _ k. omega (arith, none p q, k)) h o
+      passes-none u x h r o
+      (λ p q. not-zero (lt one (u .speed)) (u .«step_over») (zeroAt p) (slow (lt one (u .speed)) (le two (u .speed)) refl refl e p q))
 
   -- ---- above that every step uses a period, and few frames allow one step
 
@@ -104,7 +90,7 @@ module _ {u : StretchCall} (x : List ℤ) (r : StretchReady u) where
         → cond b (Passed period) (Skipped period k) ∷ [] ≡ Passed period ∷ []
     unfolding tally
     passes-it true some = refl
-    passes-it false some = absurd (some-none refl some)
+    passes-it false some = absurd (none-some refl some)
 
     alone : u .held .0 < h .position .0 + maxRequired (u .rate) + minPeriod (u .rate) → (due : Bool)
         → leb (h .position .0 + maxRequired (u .rate)) (u .held .0) ≡ due → 1 ≤ tally (steps u x h) .passed
@@ -115,7 +101,7 @@ module _ {u : StretchCall} (x : List ℤ) (r : StretchReady u) where
         is ∙ passes-it (u .«step_over» && eqb (k .0) 0) (subst (λ (ss : List Step). 1 ≤ tally ss .passed) is some)
     alone few false e some =
         let none = steps-end u x h (leb-false (h .position .0 + maxRequired (u .rate)) (u .held .0) e) in
-        absurd (some-none refl (subst (λ (ss : List Step). 1 ≤ tally ss .passed) none some))
+        absurd (none-some refl (subst (λ (ss : List Step). 1 ≤ tally ss .passed) none some))
 
   pub passed-alone : (h : Place) → PeriodIn (u .rate) (h .prev) → u .held .0 < h .position .0 + maxRequired (u .rate) + minPeriod (u .rate)
       → 1 ≤ tally (steps u x h) .passed → steps u x h ≡ Passed (searchAt u x h .period) ∷ []
@@ -124,5 +110,5 @@ module _ {u : StretchCall} (x : List ℤ) (r : StretchReady u) where
       by : (above fast : Bool) → lt one (u .speed) ≡ above → le two (u .speed) ≡ fast → steps u x h ≡ Passed (searchAt u x h .period) ∷ []
       by true true a f =
           alone h o a (subst T (sym f) tt) few (leb (h .position .0 + maxRequired (u .rate)) (u .held .0)) refl some
-      by true false a f = absurd (some-none (slow-none h o (rw (a, f) refl)) some)
-      by false fast a f = absurd (some-none (slow-none h o (rw a refl)) some)
+      by true false a f = absurd (none-some (slow-none h o (rw (a, f) refl)) some)
+      by false fast a f = absurd (none-some (slow-none h o (rw a refl)) some)

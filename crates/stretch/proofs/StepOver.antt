@@ -28,12 +28,16 @@ over-goes true false true true n period k l o e = refl
 over-goes true false true false n period k l o e = e
 over-goes true false false b n period k l o e = refl
 
-off-passes : (over copying above none : Bool) (n period k l : Frames) → over ≡ false
-    → periodsPassed (cond copying (Copied n) (cond above (cond (over && none) (Passed period) (Skipped period k)) (Inserted period l))) ≡ 0
-off-passes true copying above none n period k l o = absurd (false≢true (sym o))
-off-passes false true above none n period k l o = refl
-off-passes false false true none n period k l o = refl
-off-passes false false false none n period k l o = refl
+none-due : (copying above b : Bool) (n period k l : Frames) → (above && b) ≡ false
+    → periodsPassed (cond copying (Copied n) (cond above (cond b (Passed period) (Skipped period k)) (Inserted period l))) ≡ 0
+none-due true above b n period k l e = refl
+none-due false false b n period k l e = refl
+none-due false true b n period k l e = rw e refl
+
+off-due : (above over none : Bool) → over ≡ false → (above && (over && none)) ≡ false
+off-due above true none o = absurd (false≢true (sym o))
+off-due true false none o = refl
+off-due false false none o = refl
 
 module _ (u : StretchCall) (x : List ℤ) where
   next-goes : (h : Place) → u .«step_over» ≡ true → stalls (nextStep u x h) ≡ false
@@ -43,12 +47,16 @@ module _ (u : StretchCall) (x : List ℤ) where
       let k : Frames = record { 0 = skipCount (u .speed) (period .0) } in
       over-goes (u .«step_over») (copyingDue (u .speed) (h .«time_error»)) (lt one (u .speed)) _ _ period k _ e refl
 
-  next-passes : (h : Place) → u .«step_over» ≡ false → periodsPassed (nextStep u x h) ≡ 0
+  -- whether a skip at a place is passed over
+  abbrev pub passesAt : Place → Bool
+  passesAt h = u .«step_over» && eqb (skipCount (u .speed) (searchAt u x h .period .0)) 0
+
+  next-none : (h : Place) → (lt one (u .speed) && passesAt h) ≡ false → periodsPassed (nextStep u x h) ≡ 0
   unfolding nextStep
-  next-passes h e =
+  next-none h e =
       let period = searchAt u x h .period in
       let k : Frames = record { 0 = skipCount (u .speed) (period .0) } in
-      off-passes (u .«step_over») (copyingDue (u .speed) (h .«time_error»)) (lt one (u .speed)) (eqb (k .0) 0) _ period k _ e
+      none-due (copyingDue (u .speed) (h .«time_error»)) (lt one (u .speed)) (passesAt h) _ period k _ e
 
   -- ---- all steps of a call
 
@@ -59,8 +67,12 @@ module _ (u : StretchCall) (x : List ℤ) where
         steps-induct x r (λ p ss. stalled ss ≡ false) (λ _ _. refl) (λ p _ _ f. absurd (false≢true (sym (next-goes p e) ∙ f)))
         (λ _ ss _ _ f k. ap (λ (t : Bool). t || stalled ss) f ∙ k) h o
 
-    pub off-passes-none : u .«step_over» ≡ false → tally (steps u x h) .passed ≡ 0
+    -- where no skip is, none is counted
+    pub passes-none : ((p : Place) → PeriodIn (u .rate) (p .prev) → (lt one (u .speed) && passesAt p) ≡ false) → tally (steps u x h) .passed ≡ 0
     unfolding tally
-    off-passes-none e =
-        steps-induct x r (λ p ss. tally ss .passed ≡ 0) (λ _ _. refl) (λ p _ _ _. omega (arith, next-passes p e))
-        (λ p ss _ _ _ k. omega (arith, next-passes p e, k)) h o
+    passes-none none =
+        steps-induct x r (λ p ss. tally ss .passed ≡ 0) (λ _ _. refl) (λ p q _ _. omega (arith, next-none p (none p q)))
+        (λ p ss q _ _ k. omega (arith, next-none p (none p q), k)) h o
+
+    pub off-passes-none : u .«step_over» ≡ false → tally (steps u x h) .passed ≡ 0
+    off-passes-none e = passes-none (λ p q. off-due (lt one (u .speed)) (u .«step_over») _ e)

@@ -67,17 +67,17 @@ stalls-none (Skipped period k) e = eqb-true (k .0) 0 e
 stalls-none (Inserted period k) e = absurd (false≢true e)
 stalls-none (Passed period) e = absurd (false≢true e)
 
-some-zero : (n : ℕ) → 1 ≤ n → n ≡ 0 → ⊥
-some-zero n h e = omega arith
+pub none-some : {n : ℕ} → n ≡ 0 → 1 ≤ n → ⊥
+none-some e h = omega arith
 
 sum-zero : (a b : ℕ) → 1 ≤ b → a + b ≡ 0 → ⊥
 sum-zero a b h e = omega arith
 
 none-stalls : {held at : ℕ} (s : Step) → Sound held at s → periodsPassed s ≡ 0 → framesOut s ≡ 0 → stalls s ≡ true
-none-stalls (Copied n) r p e = absurd (some-zero (n .0) (r .some) e)
+none-stalls (Copied n) r p e = absurd (none-some e (r .some))
 none-stalls (Skipped period k) r p e = eq-eqb (k .0) 0 e
 none-stalls (Inserted period k) r p e = absurd (sum-zero (period .0) (k .0) (r .some) e)
-none-stalls (Passed period) r p e = absurd (some-zero 1 (omega arith) p)
+none-stalls (Passed period) r p e = absurd (none-some p (omega arith))
 
 or-cases : (a b : Bool) → (a || b) ≡ true → (a ≡ true) ⊎ (b ≡ true)
 or-cases true b e = inl refl
