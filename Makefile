@@ -1,6 +1,7 @@
 # make skim: the tool, on a reel. make test: the gate. make test-long: its comparisons at full size, and every wrong program.
-# make refusals: the wrong programs alone. make bench: the tool, whole jobs and kernels, timed. make rust: the Rust binding's tests.
-# make vectors: the stored answers, made again. make picture: docs/reels.png.
+# make refusals: the wrong programs alone. make bench: bench/RESULTS.md, the tool, whole jobs and kernels, timed. make rust: the Rust
+# binding's tests. make vectors: the stored answers, made again. make picture: docs/reels.png. make install and make uninstall: the tool,
+# its manual page, the library and its header, below PREFIX, staged in DESTDIR if that is given.
 SHELL := /bin/bash
 RUSTC := rustc --edition 2021 -O
 LINK_KERNELS := -L target/staticlib -l static=kernels_c
@@ -14,6 +15,7 @@ AT_HAND := $(wildcard $(ORIGINAL))
 told = set -o pipefail; $(1) 2>&1 | tee $(2) | sed -un '/unchanged since it was last proved/d; /^rt: /p' || { cat $(2); exit 1; }
 
 .PHONY: skim test test-long compare differential bites tool refusals refusals-from-nothing bench rust vectors picture program kernels stream
+.PHONY: install install-built uninstall
 .SILENT:
 .NOTPARALLEL:
 
@@ -35,10 +37,13 @@ test:
 	$(MAKE) --no-print-directory compare; compared=$$?; \
 	wait $$refusals && test $$compared = 0; } && tail -n 1 "$$log"
 
-compare: target/tests/floats target/tests/narrowing target/tests/header differential rust tool
+compare: target/tests/floats target/tests/narrowing target/tests/header target/tests/environment differential rust tool
 	target/tests/narrowing 20
 	target/tests/floats 5
 	target/tests/header
+	target/tests/environment
+	tests/install.sh
+	tests/rules.py
 
 test-long: RUNS := long
 test-long: JOBS := 5000
@@ -63,7 +68,7 @@ else
 endif
 
 # The skim tool as its users meet it, and beside the original on random jobs.
-JOBS := 300
+JOBS := 200
 tool: program target/tests/skim_in_c $(if $(AT_HAND),target/tests/skim target/tests/skim_step_over)
 	tools/make_reel.py 62:24000 34:16000 | cmp - crates/skim/stdin
 	tests/skim.py tools/skim.sh target/tests/skim_in_c tools/make_reel.py
@@ -77,9 +82,35 @@ endif
 bites: target/tests/differential
 	target/tests/differential bites
 
-bench: target/bench/kernels target/bench/jobs skim
-	target/bench/kernels
-	target/bench/jobs
+PREFIX ?= /usr/local
+PLACE = $(DESTDIR)$(PREFIX)
+VERSION := $(shell sed -n 's/^version = "\(.*\)"$$/\1/p' bindings/rust/Cargo.toml)
+INSTALLED := bin/skim libexec/kelpladder/skim lib/libkelpladder.a include/kelpladder.h lib/pkgconfig/kelpladder.pc share/man/man1/skim.1
+
+install: program stream install-built
+
+# Puts what is built, and proves nothing: for another user than the one who builds.
+install-built:
+	case "$(PREFIX)" in /*) ;; *) echo "install: PREFIX is $(PREFIX), and must begin with /"; exit 1; esac
+	install -D tools/skim.sh "$(PLACE)/bin/skim"
+	install -D target/bin/skim "$(PLACE)/libexec/kelpladder/skim"
+	install -D -m 644 target/staticlib/libsonic_c.a "$(PLACE)/lib/libkelpladder.a"
+	install -D -m 644 include/kelpladder.h "$(PLACE)/include/kelpladder.h"
+	install -D -m 644 kelpladder.pc.in "$(PLACE)/lib/pkgconfig/kelpladder.pc"
+	sed -i 's|@PREFIX@|$(PREFIX)|; s|@VERSION@|$(VERSION)|' "$(PLACE)/lib/pkgconfig/kelpladder.pc"
+	install -D -m 644 tools/skim.1 "$(PLACE)/share/man/man1/skim.1"
+	echo "installed below $(PLACE): $(INSTALLED)"
+
+# Only the files that install puts; other files and the folders that others use stay.
+uninstall:
+	for file in $(INSTALLED); do rm -f "$(PLACE)/$$file"; done
+	[ ! -d "$(PLACE)/libexec/kelpladder" ] || rmdir --ignore-fail-on-non-empty "$(PLACE)/libexec/kelpladder"
+	echo "removed from $(PLACE): $(INSTALLED)"
+
+# Writes bench/RESULTS.md, on a machine with no other work; with ROUNDS=1 or some more a quick one in target/bench. The other programs in it
+# are Debian's packages sonic, sox, soundstretch, rubberband-cli and ffmpeg, those that are installed.
+bench: target/bench/kernels target/bench/jobs program
+	bench/results.py
 
 # The tests compare with the original too where it is there.
 rust: stream
@@ -106,7 +137,7 @@ target/tests/floats: tests/floats.rs kernels
 target/tests/narrowing: tests/narrowing.c kernels
 	$(CC) -O2 -Wall -Wextra -Werror $< target/staticlib/libkernels_c.a -o $@ -lm
 
-target/tests/header: tests/header.c include/kelpladder.h stream
+target/tests/header target/tests/environment: target/tests/%: tests/%.c include/kelpladder.h stream
 	$(CC) -std=c99 -O2 -Wall -Wextra -Wpedantic -Werror -I include $< target/staticlib/libsonic_c.a -o $@
 
 target/tests/skim_in_c: examples/skim.c include/kelpladder.h stream
@@ -119,7 +150,7 @@ target/passing.rs: tools/passing.py tests/passing.rs $(AT_HAND)
 	mv $@.new $@
 
 # The original's text with the test or the benchmark joined to it, so that its private fields and functions can be used.
-target/tests/differential: tests/differential.rs $(wildcard tests/differential/*.rs tests/differential/model/*.rs) target/passing.rs stream
+target/tests/differential: tests/differential.rs tests/signals.rs $(wildcard tests/differential/*.rs tests/differential/model/*.rs tests/differential/model/edits/*.rs) target/passing.rs stream
 	cat $(ORIGINAL) $< > $@.rs
 	$(RUSTC) -C overflow-checks=on -A warnings --cfg library $@.rs -o $@ $(LINK_STREAM)
 

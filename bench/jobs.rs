@@ -6,6 +6,7 @@
 // on the machine counts less. Both sides read in their own way: the original gives a new vector, ours fills a slice that is lent.
 // Then it times the skim tool beside the library, counts instructions by valgrind, where that is there, and paints a stack to see how much
 // of it the calls use.
+// ROUNDS in the environment gives the rounds, 15 if it is not set; with fewer, instructions are not counted.
 // `jobs JOB REEL` times one job only, `jobs tool` the tool, `jobs stack` measures the stack only. `jobs SIDE JOB REEL SECONDS` runs one job
 // on one side (ours, original), for a profiler.
 
@@ -20,8 +21,8 @@ mod passing;
 mod reels;
 #[path = "../../bench/jobs/sides.rs"]
 mod sides;
-#[path = "../../bench/jobs/speech.rs"]
-mod speech;
+#[path = "../../tests/signals.rs"]
+mod signals;
 #[path = "../../bench/jobs/stack.rs"]
 mod stack;
 #[path = "../../bench/jobs/times.rs"]
@@ -34,6 +35,10 @@ use sides::{Ours, Side};
 use std::hint::black_box;
 
 const ROUNDS: usize = 15;
+
+fn rounds() -> usize {
+    std::env::var("ROUNDS").map_or(ROUNDS, |word| word.parse().expect("ROUNDS is a number"))
+}
 
 /// The whole work of a job, from opening to the read after the flush.
 #[inline(never)]
@@ -68,7 +73,7 @@ fn beside<Original: Side>(job: Job, reel: Reel, samples: &[f32]) {
     let (ours, original) = (frames_of::<Ours>(job, reel, samples), frames_of::<Original>(job, reel, samples));
     assert!(!ours.is_empty() && ours == original, "{} {}: the frames differ", job.name, reel.name);
     let (mut a, mut b) = (Vec::new(), Vec::new());
-    for round in 0..ROUNDS {
+    for round in 0..rounds() {
         if round % 2 == 0 {
             a.push(time_of::<Ours>(job, reel, samples));
         }
@@ -100,7 +105,9 @@ fn everything() {
         beside_original(job, reel);
     }
     tool::beside_library();
-    instructions::count_instructions();
+    if rounds() >= ROUNDS {
+        instructions::count_instructions();
+    }
     stack::measure_stack();
 }
 

@@ -3,6 +3,9 @@
 // Each line: the kernel, our time over the original's (medians of interleaved rounds), and both times in nanoseconds. The original's
 // numbers pass through `black_box`, so that it is not compiled for one of them.
 
+#[path = "../../tests/signals.rs"]
+mod signals;
+
 use std::hint::black_box;
 use std::time::Instant;
 
@@ -24,12 +27,15 @@ extern "C" {
     fn kernel_scale_samples(area: *mut i16, area_len: usize, volume: f32);
 }
 
-const ROUNDS: usize = 41;
+/// The rounds: 41, or those that ROUNDS in the environment says.
+fn rounds() -> usize {
+    std::env::var("ROUNDS").map_or(41, |word| word.parse().expect("ROUNDS is a number"))
+}
 
 /// Times both sides in turn and prints the ratio of their medians.
 fn beside(name: &str, calls: u32, mut ours: impl FnMut(), mut original: impl FnMut()) {
     let mut times = [Vec::new(), Vec::new()];
-    for _ in 0..ROUNDS {
+    for _ in 0..rounds() {
         let sides: [&mut dyn FnMut(); 2] = [&mut ours, &mut original];
         for (side, run) in sides.into_iter().enumerate() {
             let start = Instant::now();
@@ -41,30 +47,20 @@ fn beside(name: &str, calls: u32, mut ours: impl FnMut(), mut original: impl FnM
     }
     let median = |t: &mut Vec<f64>| {
         t.sort_by(f64::total_cmp);
-        t[ROUNDS / 2]
+        t[t.len() / 2]
     };
     let (a, b) = (median(&mut times[0]), median(&mut times[1]));
     println!("{name:34} {:.2}  {a:.1} {b:.1}", a / b);
 }
 
-/// A voice of a period in frames, with some noise; the channels differ in loudness.
-fn voice(frames: usize, channels: usize, period: f64) -> Vec<i16> {
-    let mut noise = 12345u32;
-    let mut all = Vec::with_capacity(frames * channels);
-    for f in 0..frames {
-        let phase = f as f64 / period;
-        let tone: f64 = (1..9).map(|h| (phase * f64::from(h) * std::f64::consts::TAU).sin() / f64::from(h)).sum();
-        for c in 0..channels {
-            noise = noise.wrapping_mul(1_664_525).wrapping_add(1_013_904_223);
-            all.push((tone * 9000.0 / (c + 1) as f64) as i16 + (noise >> 24) as i16 - 128);
-        }
-    }
-    all
+/// A voice of a period in frames, as samples of an area.
+fn voice(frames: usize, channels: usize, period: usize) -> Vec<i16> {
+    signals::voice(period, frames, channels).iter().map(|x| (x * 30_000.0) as i16).collect()
 }
 
 fn bench_samples_in() {
     for (name, loud) in [("sample in, speech", 0.3f32), ("sample in, full scale", 1.2)] {
-        let source: Vec<f32> = voice(16_384, 1, 62.3).iter().map(|&s| f32::from(s) / 16_384.0 * loud).collect();
+        let source: Vec<f32> = voice(16_384, 1, 62).iter().map(|&s| f32::from(s) / 16_384.0 * loud).collect();
         let mut area = vec![0i16; source.len()];
         let mut queue: Vec<i16> = Vec::with_capacity(source.len());
         beside(
@@ -82,7 +78,7 @@ fn bench_samples_in() {
 }
 
 fn bench_search() {
-    for (low, high, period) in [(10, 61, 31.0), (20, 123, 62.0), (110, 678, 339.0)] {
+    for (low, high, period) in [(10, 61, 31), (20, 123, 62), (110, 678, 339)] {
         let x = voice(2 * high, 1, period);
         let theirs = find_pitch_period_in_range(&x, low as i32, high as i32);
         let ours = unsafe { kernel_find_pitch_period_in_range(x.as_ptr(), x.len(), low, high) };
@@ -100,7 +96,7 @@ fn bench_averages() {
     for (rate, channels, per) in [(8_000, 1, 2), (44_100, 2, 22), (44_100, 2, 2)] {
         let required = 2 * (rate / 65);
         let count = required * channels / per;
-        let x = voice(required, channels, 200.0);
+        let x = voice(required, channels, 200);
         let (mut ours, mut theirs) = (vec![0i16; required], vec![0i16; required]);
         beside(
             &format!("averages of {per}, {channels} channels"),
@@ -117,7 +113,7 @@ fn bench_averages() {
 
 fn bench_interpolation() {
     for channels in [1usize, 2] {
-        let x = voice(12, channels, 31.0);
+        let x = voice(12, channels, 31);
         let mut stream = SonicStream::new(8_000, channels as u32).expect("in range");
         let (n, o) = (16_000, 8_000);
         let (mut ours, mut theirs) = (vec![0i16; channels], vec![0i16; channels]);
@@ -157,7 +153,7 @@ fn bench_interpolation() {
 
 fn bench_crossfade() {
     for (channels, k) in [(1, 62), (1, 339), (2, 62), (2, 339)] {
-        let x = voice(2 * k, channels, k as f64);
+        let x = voice(2 * k, channels, k);
         let (mut ours, mut theirs) = (vec![0i16; k * channels], vec![0i16; k * channels]);
         beside(
             &format!("crossfade of {k}, {channels} channels"),
@@ -173,7 +169,7 @@ fn bench_crossfade() {
 }
 
 fn bench_volume() {
-    let x = voice(4_096, 1, 62.0);
+    let x = voice(4_096, 1, 62);
     let (mut ours, mut theirs) = (x.clone(), x.clone());
     beside(
         "volume",

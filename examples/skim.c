@@ -2,7 +2,9 @@
  * periods that give no frame, for a little-endian machine. Exit status: 0, or 2 if a call was refused or a file failed.
  *
  *   rt staticlib sonic_c
- *   cc -I include examples/skim.c target/staticlib/libsonic_c.a -o skim */
+ *   cc -I include examples/skim.c target/staticlib/libsonic_c.a -o skim
+ *
+ * or, where it is installed: cc examples/skim.c $(pkg-config --cflags --libs kelpladder) -o skim */
 #include "kelpladder.h"
 
 #include <stdio.h>

@@ -7,7 +7,17 @@
  *   output   frames waiting to be read
  *   scratch  averages; free after any call
  * The caller passes the stream and the areas of the call before, and changes neither. Areas may be longer or shorter from call to call.
- * No call allocates. A refused call changes nothing that is kept. */
+ * A refused call changes nothing that is kept.
+ *
+ * What the caller owes, and no call can test. During a call each area, the samples and the slice are valid for their lengths and aligned
+ * as their type, no two of them overlap, and nobody else uses them. A null pointer with length 0 is an empty area or slice like any other:
+ * nothing is read or written through it (a scratch of length 0 is refused with 4). A null pointer with another length is not allowed.
+ * Any stream value and any lengths are allowed: bad ones are refused. The floating-point environment is the default one: round to
+ * nearest even, exceptions masked, neither flush-to-zero nor denormals-are-zero. Another rounding changes frames. Flush-to-zero and
+ * denormals-are-zero, which audio hosts set, are outside of what is proved; they were seen to change no answer to a stream that
+ * kelpladder_open gave and the calls handed on, whose numbers are 0 or far from subnormal, but they can change that to a made-up one
+ * (tests/environment.c). The library is for x86-64. A call takes less than 3,500 bytes of stack and no heap, uses memset of the C library
+ * and nothing else, and shares nothing: threads may call at the same time, each with its own stream and areas. */
 #ifndef KELPLADDER_H
 #define KELPLADDER_H
 
@@ -37,7 +47,7 @@ enum kelpladder_outcome {
     KELPLADDER_COPIED = 1,    /* all frames held went on unstretched */
     KELPLADDER_WAITING = 2,   /* a stretch is due, and too few frames are held */
     KELPLADDER_STRETCHED = 3, /* stretched */
-    KELPLADDER_STALLED = 4    /* a step gave no frame and ended the call: nothing left the input */
+    KELPLADDER_STALLED = 4    /* a step gave no frame and ended the call: the frames made before it went on, nothing left the input */
 };
 
 /* Totals over all accepted writes and flushes that did not stall. Over these calls, frames out of the stretch or copy, before the rate

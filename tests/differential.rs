@@ -50,7 +50,7 @@ mod runner;
 mod session;
 #[path = "../../tests/differential/shrink.rs"]
 mod shrink;
-#[path = "../../tests/differential/signals.rs"]
+#[path = "../../tests/signals.rs"]
 mod signals;
 #[path = "../../tests/differential/streams.rs"]
 mod streams;
@@ -58,8 +58,8 @@ mod streams;
 mod tally;
 
 /// The model without a wrong edit, or with the one of a number.
-fn model_with(mutation: u32) -> model::Model {
-    model::Model::new(&SINC_TABLE, mutation)
+fn model_with(number: usize) -> model::Model {
+    model::Model::new(model::edits::rules(number))
 }
 
 /// What is compared with the original: the library, if it is linked.

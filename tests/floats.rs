@@ -1,6 +1,10 @@
 //! The compiled float steps against Rust's own operations, on every exponent with digits near ties and on random bits.
 //! `floats N` tries N million random inputs of each.
 
+mod signals;
+
+use signals::Random;
+
 extern "C" {
     fn kernel_f64_to_f32(x: f64) -> f32;
     fn kernel_f32_to_i32(x: f32) -> i32;
@@ -25,44 +29,33 @@ extern "C" {
     fn kernel_gain(volume: f32) -> usize;
 }
 
-/// A xorshift generator.
-struct Random(u64);
+/// Random inputs.
+struct Inputs(Random);
 
-impl Random {
-    fn next(&mut self) -> u64 {
-        self.0 ^= self.0 << 13;
-        self.0 ^= self.0 >> 7;
-        self.0 ^= self.0 << 17;
-        self.0
-    }
-
-    fn below(&mut self, n: u64) -> u64 {
-        self.next() % n
-    }
-
+impl Inputs {
     /// Any bits, or a value near 1, or a special one.
     fn float(&mut self) -> f32 {
         const SPECIAL: [f32; 14] = [
             0.0, -0.0, 1.0, -1.0, 2.0, 0.5, f32::NAN, f32::INFINITY, f32::NEG_INFINITY, f32::MAX, f32::MIN_POSITIVE, 1e-45, -1e-45, 20.0,
         ];
-        match self.below(4) {
-            0 => f32::from_bits(self.next() as u32),
-            1 => SPECIAL[self.below(14) as usize],
-            2 => f32::from_bits(0x3f80_0000u32.wrapping_add((self.below(1 << 25) as u32).wrapping_sub(1 << 24))),
-            _ => (self.below(2_000_001) as f32 - 1_000_000.0) / 100_000.0,
+        match self.0.below(4) {
+            0 => f32::from_bits(self.0.next() as u32),
+            1 => SPECIAL[self.0.below(14)],
+            2 => f32::from_bits(0x3f80_0000u32.wrapping_add((self.0.below(1 << 25) as u32).wrapping_sub(1 << 24))),
+            _ => (self.0.below(2_000_001) as f32 - 1_000_000.0) / 100_000.0,
         }
     }
 
     fn frames(&mut self) -> usize {
-        match self.below(3) {
-            0 => self.below(8) as usize,
-            1 => self.below(20_000) as usize,
-            _ => self.below((1 << 24) + 1) as usize,
+        match self.0.below(3) {
+            0 => self.0.below(8),
+            1 => self.0.below(20_000),
+            _ => self.0.below((1 << 24) + 1),
         }
     }
 
     fn period(&mut self) -> usize {
-        1 + self.below(7_692) as usize
+        1 + self.0.below(7_692)
     }
 }
 
@@ -147,7 +140,7 @@ fn clamp(value: f32, min: f32, max: f32) -> f32 {
     }
 }
 
-fn settings_and_times(r: &mut Random) {
+fn settings_and_times(r: &mut Inputs) {
     let (a, b, c, d) = (r.float(), r.float(), r.float(), r.float());
     let (n, held) = (r.frames(), r.frames());
     unsafe {
@@ -162,7 +155,7 @@ fn settings_and_times(r: &mut Random) {
     }
 }
 
-fn steps(r: &mut Random) {
+fn steps(r: &mut Inputs) {
     let (error, s, t, play) = (r.float(), r.float(), r.float(), r.float());
     let (n, held, p, k) = (r.frames(), r.frames(), r.period(), r.period());
     let fast = s > 1.0 && s < 2.0 && error < 0.0;
@@ -196,10 +189,10 @@ fn main() {
     for rate in 1_000..=500_000 {
         same("sample_period", unsafe { kernel_sample_period(rate) }, (1.0 / f64::from(rate)) as f32, &rate);
     }
-    let mut r = Random(0x9e37_79b9_7f4a_7c15);
+    let mut r = Inputs(Random::new(0));
     for _ in 0..millions * 1_000_000 {
-        narrow(r.next());
-        cast(r.next() as u32);
+        narrow(r.0.next());
+        cast(r.0.next() as u32);
         settings_and_times(&mut r);
         steps(&mut r);
         tried += 4;

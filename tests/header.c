@@ -1,8 +1,9 @@
-/* The C interface as a C program sees it: include/kelpladder.h is compiled as C99, and the calls are held to document 01's
-   examples. Exits at the first failure. */
+/* The C interface as a C program sees it: include/kelpladder.h is compiled as C99, and the calls are held to the examples of
+   docs/RULES.md, "Areas and refusals" and "Figures". Exits at the first failure. */
 #include "kelpladder.h"
 
 #include <math.h>
+#include <stddef.h>
 #include <stdio.h>
 #include <stdlib.h>
 #include <string.h>
@@ -173,7 +174,7 @@ static void refuses_write(kelpladder_stream stream, size_t frames, size_t input_
     CHECK(same(wrote.stream, stream));
 }
 
-/* Each refusal of a write once, by document 01's examples; beside each the least area that is accepted. */
+/* Each refusal of a write once, by the examples of docs/RULES.md, "Areas and refusals"; beside each the least area that is accepted. */
 static void refuses_writes(void)
 {
     kelpladder_stream stream = fresh(1), bad = stream, holding = stream;
@@ -201,6 +202,96 @@ static void refuses_long_areas(void)
     CHECK(kelpladder_write_f32(stream, voice, 1, area, LONGEST + 1, stage, AREA, output, AREA, scratch, REQUIRED).refusal
           == KELPLADDER_BAD_AREAS);
     free(area);
+}
+
+/* Whether two streams have the same bits, padding apart. */
+static int same_bits(kelpladder_stream a, kelpladder_stream b)
+{
+    return memcmp(&a, &b, offsetof(kelpladder_stream, step_over) + sizeof a.step_over) == 0;
+}
+
+static void refused_as_it_came(kelpladder_stream stream, kelpladder_wrote wrote, uint32_t refusal)
+{
+    CHECK(wrote.refusal == refusal);
+    CHECK(same_bits(wrote.stream, stream));
+}
+
+/* A refused call hands back the bits of a NaN. */
+static void hands_back_not_a_number(uint32_t bits)
+{
+    kelpladder_stream stream = fresh(1);
+    memcpy(&stream.input_play_time, &bits, sizeof bits);
+    memcpy(&stream.time_error, &bits, sizeof bits);
+    refused_as_it_came(stream, write_in(stream, voice, 101, 100, 200, 200, REQUIRED), KELPLADDER_INPUT_FULL);
+    refused_as_it_came(stream, write_in(stream, voice, 51, 100, 50, 200, REQUIRED), KELPLADDER_STAGE_FULL);
+    refused_as_it_came(stream, write_in(stream, voice, 51, 100, 60, 50, REQUIRED), KELPLADDER_OUTPUT_FULL);
+    refused_as_it_came(stream, flush_in(stream, 100, 100, 100), KELPLADDER_INPUT_FULL);
+    stream.waiting = 5;
+    kelpladder_gave gave = kelpladder_read_f32(stream, 5, voice, 5, output, 4);
+    CHECK(gave.refusal == KELPLADDER_BAD_AREAS && same_bits(gave.stream, stream));
+    memcpy(&stream.speed, &bits, sizeof bits);
+    refused_as_it_came(stream, write_all(stream, voice, 10), KELPLADDER_BAD_STREAM);
+    kelpladder_changed changed = kelpladder_set_pitch(stream, 1);
+    CHECK(changed.refusal == KELPLADDER_BAD_STREAM && same_bits(changed.stream, stream));
+}
+
+/* Quiet and signalling, of either sign. */
+static void hands_back_not_numbers(void)
+{
+    hands_back_not_a_number(0x7fc12345u);
+    hands_back_not_a_number(0xffc54321u);
+    hands_back_not_a_number(0x7f812345u);
+    hands_back_not_a_number(0xffa00001u);
+}
+
+/* A null pointer with length 0 is an empty area or slice: nothing is read or written through it, and the length alone decides. Here
+   in a write; where nothing is needed of the area, the write is accepted. */
+static void takes_null_pointers_in_writes(void)
+{
+    kelpladder_stream stream = fresh(1), waits = with(2.0f, 1.0f);
+    kelpladder_wrote wrote = kelpladder_write_f32(stream, NULL, 0, input, AREA, stage, AREA, output, AREA, scratch, REQUIRED);
+    CHECK(wrote.refusal == KELPLADDER_ACCEPTED && wrote.told.outcome == KELPLADDER_EMPTY && same(wrote.stream, stream));
+    wrote = kelpladder_write_f32(stream, NULL, 0, NULL, 0, NULL, 0, NULL, 0, scratch, REQUIRED);
+    CHECK(wrote.refusal == KELPLADDER_ACCEPTED && wrote.told.outcome == KELPLADDER_EMPTY && same(wrote.stream, stream));
+    wrote = kelpladder_write_f32(waits, voice, 9, input, AREA, NULL, 0, NULL, 0, scratch, REQUIRED);
+    CHECK(wrote.refusal == KELPLADDER_ACCEPTED && wrote.told.outcome == KELPLADDER_WAITING && wrote.stream.held == 9);
+    wrote = kelpladder_write_f32(wrote.stream, NULL, 0, input, AREA, NULL, 0, NULL, 0, scratch, REQUIRED);
+    CHECK(wrote.refusal == KELPLADDER_ACCEPTED && wrote.told.outcome == KELPLADDER_WAITING && wrote.stream.held == 9);
+    wrote = kelpladder_write_f32(wrote.stream, NULL, 0, NULL, 0, stage, AREA, output, AREA, scratch, REQUIRED);
+    CHECK(wrote.refusal == KELPLADDER_BAD_AREAS && wrote.stream.held == 9);
+    wrote = kelpladder_write_f32(stream, voice, 1, NULL, 0, stage, AREA, output, AREA, scratch, REQUIRED);
+    CHECK(wrote.refusal == KELPLADDER_INPUT_FULL && same(wrote.stream, stream));
+    wrote = kelpladder_write_f32(stream, voice, 1, input, AREA, NULL, 0, output, AREA, scratch, REQUIRED);
+    CHECK(wrote.refusal == KELPLADDER_STAGE_FULL && same(wrote.stream, stream));
+    wrote = kelpladder_write_f32(stream, voice, 1, input, AREA, stage, AREA, NULL, 0, scratch, REQUIRED);
+    CHECK(wrote.refusal == KELPLADDER_OUTPUT_FULL && same(wrote.stream, stream));
+    wrote = kelpladder_write_f32(stream, NULL, 0, NULL, 0, NULL, 0, NULL, 0, NULL, 0);
+    CHECK(wrote.refusal == KELPLADDER_BAD_AREAS && same(wrote.stream, stream));
+}
+
+/* The same in flushes, which always add to the input and search, and in reads. */
+static void takes_null_pointers_elsewhere(void)
+{
+    const float sample[1] = {0.5f};
+    float slice[1] = {7.0f};
+    kelpladder_stream stream = fresh(1), over = kelpladder_set_step_over(with(20.0f, 0.5f), 1).stream, waiting;
+    kelpladder_wrote wrote = kelpladder_flush(stream, NULL, 0, stage, AREA, output, AREA, scratch, REQUIRED);
+    kelpladder_gave gave;
+    CHECK(wrote.refusal == KELPLADDER_INPUT_FULL && same(wrote.stream, stream));
+    CHECK(kelpladder_flush(stream, input, AREA, NULL, 0, output, AREA, scratch, REQUIRED).refusal == KELPLADDER_STAGE_FULL);
+    CHECK(kelpladder_flush(stream, input, AREA, stage, AREA, NULL, 0, scratch, REQUIRED).refusal == KELPLADDER_OUTPUT_FULL);
+    CHECK(kelpladder_flush(stream, input, AREA, stage, AREA, output, AREA, NULL, 0).refusal == KELPLADDER_BAD_AREAS);
+    wrote = kelpladder_flush(over, input, AREA, NULL, 0, NULL, 0, scratch, REQUIRED);
+    CHECK(wrote.refusal == KELPLADDER_ACCEPTED && wrote.told.passed == 13);
+    gave = kelpladder_read_f32(stream, 1, NULL, 0, NULL, 0);
+    CHECK(gave.refusal == KELPLADDER_ACCEPTED && gave.frames == 0 && same(gave.stream, stream));
+    waiting = write_all(stream, sample, 1).stream;
+    gave = kelpladder_read_f32(waiting, 1, NULL, 0, output, AREA);
+    CHECK(gave.refusal == KELPLADDER_ACCEPTED && gave.frames == 0 && same(gave.stream, waiting));
+    gave = kelpladder_read_f32(waiting, 1, slice, 1, NULL, 0);
+    CHECK(gave.refusal == KELPLADDER_BAD_AREAS && slice[0] == 7.0f && same(gave.stream, waiting));
+    gave = kelpladder_read_f32(waiting, 1, slice, 1, output, AREA);
+    CHECK(gave.refusal == KELPLADDER_ACCEPTED && gave.frames == 1 && slice[0] == 16383.0f / 32767.0f);
 }
 
 static void copies(void)
@@ -270,6 +361,21 @@ static void stalls(void)
     CHECK(wrote.told.outcome == KELPLADDER_STALLED && wrote.stream.held == held + 5000);
     wrote = flush_in(wrote.stream, AREA, AREA, AREA);
     CHECK(wrote.told.outcome == KELPLADDER_STALLED && wrote.stream.held == 0 && wrote.stream.tail == 0);
+}
+
+/* At speed 10.5 and pitch 0.5 the local speed is 21 but for its last bit, which decides whether silence, of period 20, gives a frame: a
+   later write can leave a stall, and so can a setting. */
+static void leaves_stalls(void)
+{
+    kelpladder_wrote stalled, wrote;
+    memset(voice, 0, 356 * sizeof *voice);
+    stalled = write_all(with(10.5f, 0.5f), voice, 355);
+    CHECK(stalled.told.outcome == KELPLADDER_STALLED && stalled.stream.held == 355);
+    wrote = write_all(stalled.stream, voice, 1);
+    CHECK(wrote.told.outcome == KELPLADDER_STRETCHED && wrote.stream.held < REQUIRED);
+    stalled = write_all(with(10.5f, 0.5f), voice, 355);
+    wrote = write_all(kelpladder_set_step_over(stalled.stream, 1).stream, voice, 0);
+    CHECK(wrote.told.outcome == KELPLADDER_STRETCHED && wrote.stream.held < REQUIRED);
 }
 
 /* A flush at speed 2 gives half of what is held, and has its own refusals. */
@@ -439,11 +545,15 @@ int main(void)
     refuses_bad_streams();
     refuses_writes();
     refuses_long_areas();
+    hands_back_not_numbers();
+    takes_null_pointers_in_writes();
+    takes_null_pointers_elsewhere();
     copies();
     gives();
     stretches();
     pitches();
     stalls();
+    leaves_stalls();
     flushes();
     counts();
     counts_flushes_and_stalls();

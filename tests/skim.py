@@ -18,7 +18,7 @@ UNSTALLED = "stalls=0 stalled_at=none flush_stalled_at=none refusal=0"
 ONE = f"skim: frames_in=40000 frames_out=1246 {UNSTALLED} skipped=39630 inserted=0 passed=0 passed_frames=0 status=0"
 TWO = f"skim: frames_in=40000 frames_out=1170 {UNSTALLED} skipped=39661 inserted=0 passed=99 passed_frames=3366 status=0"
 ONE_CUT = "stalls=0 stalled_at=none flush_stalled_at=39816 refusal=0 skipped=39184 inserted=0 passed=0 passed_frames=0 status=0"
-TWO_CUT = "stalls=1 stalled_at=25732 flush_stalled_at=none refusal=0 skipped=25322 inserted=0 passed=0 passed_frames=0 status=1"
+TWO_CUT = "stalls=14004 stalled_at=25732 flush_stalled_at=none refusal=0 skipped=25322 inserted=0 passed=0 passed_frames=0 status=1"
 HEAD = "first_frame\tframes\tstart_seconds\tlength_seconds"
 
 
@@ -66,10 +66,44 @@ def test_as_original():
     assert told[-1] == f"skim: frames_in=40000 frames_out=1246 {ONE_CUT}" and (status, len(one)) == (0, 2 * 1246), told
     two, told, status = skim(reel("62:24000", "34:16000"), "--as-original")
     assert told[-1] == f"skim: frames_in=40000 frames_out=796 {TWO_CUT}" and (status, len(two)) == (1, 2 * 796), told
-    assert told[0].startswith("skim: stalled at frame 25732 (3.216 s): ") and "nothing after it can be skimmed" in told[0], told
-    assert told[1].startswith("skim: not skimmed: the 14268 frames from there on"), told
+    assert told[:3] == ["skim: writes that stalled: 14004, the first at frame 25732 (3.216 s)",
+                        "skim: stalled at frame 25732 (3.216 s): the pitch period there gives no frame, and no later write left the stall",
+                        "skim: the flush stalled too: of the last 14268 frames not all came out"], told
     # What comes before the stall is the same.
     assert skim(reel("62:24000", "34:16000"))[0].startswith(two)
+
+
+def samples(values):
+    return b"".join(v.to_bytes(2, "little", signed=True) for v in values)
+
+
+def test_stalls_left():
+    """With --as-original a later write may leave a stall: s of a call is rounded, and where the period is s - 1 its last bit decides."""
+    # Silence, whose period is 20 frames, at s = 21; and a saw of period 50 at s = 51.
+    saw = samples(400 * (i % 50) - 10000 for i in range(40000))
+    for data, words, counts in ((bytes(80000), "8000 1 10.5 0.5", "frames_out=3810 stalls=2 stalled_at=12033 flush_stalled_at=none"),
+                                (saw, "8000 1 17.85 0.35", "frames_out=2212 stalls=1 stalled_at=0 flush_stalled_at=39780")):
+        out, told, status = skim(data, "--as-original", *words.split())
+        assert f"frames_in=40000 {counts} refusal=0 " in told[-1] and status == 0, told
+        assert len(out) == 2 * int(re.search(r"frames_out=(\d+)", told[-1]).group(1)) > 0, told
+        assert told[0].startswith("skim: writes that stalled: ") and told[0].endswith("; a later write or the flush left the stall"), told
+        # Nothing is passed over; without the option nothing stalls.
+        assert "stalls=0 " in skim(data, *words.split())[1][-1]
+
+
+def test_stopped():
+    """A stall that fills the input: the run stops where a flush would have no room behind another frame, and the rest is only counted."""
+    told, status, lines = skim_with_map(bytes(64 * 8000), "--as-original", *"8000 32 20 0.5".split())
+    assert re.search(r"frames_in=8000 frames_out=0 stalls=\d+ stalled_at=0 flush_stalled_at=none refusal=0 ", told[-1]) and status == 1, told
+    assert told[2] == "skim: not skimmed: the 8000 frames from there on, and 0 stretched frames before them, in the tail", told
+    assert lines == [(0, 8000)], lines
+    # The input holds 6,144 frames of 32 channels, and the flush adds 492 to those held. Writes at 256, where a block ends, at 265 and from
+    # there on stall.
+    assert f" stalls={6144 - 492 - 265 + 2} " in told[-1], told
+
+
+def test_version():
+    assert skim(b"", "--version") == skim(b"", "--as-original", "--version") == (b"skim (kelpladder) 0.2.0\n", [], 0)
 
 
 def test_map():
@@ -178,7 +212,7 @@ def test_bad_usage():
         "VOLUME": ("8000 1 1 1 0", "8000 1 1 1 100.1"),
         "arguments": ("8000", "8000 1 1", "8000 1 1 1 1 1", "-h", "--map /dev/null 8000", "8000 1 1 1 1 --map /dev/null"),
         "no room": ("500000 32 0.05 1", "--map /dev/null 500000 32 0.05 1"),
-        "before the numbers may stand": ("--as-original --as-original", "--map /dev/null --map /dev/null", "--other", "--help --as-original",
+        "before the numbers may stand": ("--as-original --as-original", "--map /dev/null --map /dev/null", "--other", "--help --as-original", "--version 8000",
                                          "--as-original --status", "8000 1 1 1 --as-original", "8000 1 1 1 --map /dev/null",
                                          "--as-original --map /dev/null --as-original 8000 1 1 1"),
         "--map has to be followed": ("--map", "--as-original --map", "--map --as-original", "--map --help"),
@@ -194,6 +228,12 @@ def test_help():
     assert out.startswith(b"usage: skim ") and (told, status) == ([], 0), (out, told)
     assert all(len(line) <= 110 for line in out.splitlines()), out
     assert skim(b"", "--as-original", "--help") == (out, [], 0)
+
+
+def test_failed_read():
+    with tempfile.TemporaryDirectory() as folder:
+        failed = subprocess.run(["sh", "-c", '"$0" < "$1"', COMMAND, folder], capture_output=True)
+    assert failed.returncode == 1 and failed.stderr.startswith(b"skim: standard input: Is a directory\n"), failed.stderr
 
 
 def test_closed_output():

@@ -1,10 +1,26 @@
 // Joined to the text of the Rust original, or to the copy of it that steps over (tools/passing.py): either one driven through
 // the writes that the skim tool makes, with --as-original or without. Arguments and files are the tool's, and --map FILE may stand before
-// them; standard error gets the tool's last line, without its status.
+// them; standard error gets the tool's last line, without its status. After a write that stalls the next one is tried, until a flush would
+// have no room behind another frame.
 use std::io::{Read, Write};
 
-// The samples that are read at a time.
+// The samples that are read at a time, and those of the tool's areas.
 const BLOCK: usize = 4096;
+const INPUT: usize = 196_608;
+const STAGE: usize = 1_048_576;
+const OUTPUT: usize = 1_048_576;
+
+// The most frames that a call of the tool holds.
+fn limit(stream: &SonicStream, rate: usize, channels: usize) -> usize {
+    let growth = ((stream.pitch / stream.speed * 3.0) as usize).min(stream.max_period as usize) + 1;
+    let (mut new, mut old) = ((rate as f32 / stream.pitch) as usize, rate);
+    while new > 16_384 || old > 16_384 {
+        (new, old) = (new / 2, old / 2);
+    }
+    let made = (OUTPUT / channels - 2 - BLOCK / channels) * old / new;
+    let within = |room: usize| room.saturating_sub(12) / growth;
+    (INPUT / channels).min(within(STAGE / channels)).min(within(made))
+}
 
 // The frames that a write fills the input up to.
 fn full(stream: &SonicStream) -> usize {
@@ -103,22 +119,33 @@ fn map(stretches: &[(usize, usize)], rate: usize) -> String {
     text
 }
 
-// Writes whole frames as the tool does, up to a stall, and gives the first frame held before the write that stalled.
+// The writes that stalled, the first frame held before the first of them and before the last one, if that stalled; and whether the run
+// stopped there.
+#[derive(Default)]
+struct Stalls {
+    count: usize,
+    first: Option<usize>,
+    open: Option<usize>,
+    stopped: bool,
+}
+
+// Writes whole frames as the tool does.
 fn write_all(
     stream: &mut SonicStream,
     stretch: &mut Stretch,
     passes: &mut Passes,
-    channels: usize,
+    (channels, limit): (usize, usize),
     samples: &[f32],
     out: &mut Vec<u8>,
-) -> Option<usize> {
-    let (mut written, full) = (0, full(stream));
+) -> Stalls {
+    let (mut written, full, mut stalls) = (0, full(stream), Stalls::default());
     for block in samples.chunks(BLOCK / channels * channels) {
         let mut at = 0;
-        while at < block.len() {
+        while at < block.len() && !stalls.stopped {
             let held = stream.input_frames();
             let before = stream.output_frames() + stream.pitch_frames();
-            let end = block.len().min(at + (full - held) * channels);
+            let frames = if held < full { full - held } else { 1 };
+            let end = block.len().min(at + frames * channels);
             stream.write_f32(&block[at..end]);
             let passed = stretch.write(&block[at..end]);
             if passed > 0 {
@@ -127,17 +154,16 @@ fn write_all(
                 passes.periods += 1;
                 passes.note(written - held, passed);
             }
-            if stalled(stream) {
-                assert_eq!(before, stream.output_frames() + stream.pitch_frames(), "a write that stalls makes no frame");
-                take(stream, out);
-                return Some(written - held);
-            }
+            stalls.open = stalled(stream).then(|| written - held);
+            stalls.count += usize::from(stalls.open.is_some());
+            stalls.first = stalls.first.or(stalls.open);
+            stalls.stopped = stalls.open.is_some() && stream.input_frames() + 1 + 2 * stream.max_required > limit;
             written += (end - at) / channels;
             at = end;
         }
         take(stream, out);
     }
-    None
+    stalls
 }
 
 fn told(frame: Option<usize>) -> String {
@@ -158,24 +184,32 @@ fn main() {
     let (mut stream, mut out, mut at_flush) = (open(&words), Vec::new(), None);
     let mut stretch = Stretch { stream: open(&words), skipped: 0, inserted: 0 };
     let mut passes = Passes { periods: 0, stretches: Vec::new() };
-    let at_write = write_all(&mut stream, &mut stretch, &mut passes, channels, &samples, &mut out);
-    if at_write.is_none() && frames > 0 {
+    let most = limit(&stream, rate, channels);
+    let mut stalls = write_all(&mut stream, &mut stretch, &mut passes, (channels, most), &samples, &mut out);
+    let mut gave = false;
+    if !stalls.stopped && frames > 0 {
         let (held, before) = (stream.input_frames(), out.len());
-        at_flush = stretch.flush(channels, frames);
+        let cut = stretch.flush(channels, frames);
         stream.flush();
         take(&mut stream, &mut out);
-        if out.len() == before {
+        gave = out.len() > before;
+        match (stalls.open, cut) {
+            (Some(_), Some(_)) => (),
+            (Some(_), None) => stalls.open = None,
+            (None, _) => at_flush = cut,
+        }
+        if !gave && stalls.open.is_none() {
             passes.note(frames - held, held);
         }
     }
     std::io::stdout().write_all(&out).unwrap();
     let (passed, passed_frames) = (passes.periods, passes.stretches.iter().map(|(_, n)| n).sum::<usize>());
-    passes.stretches.extend(at_write.map(|first| (first, frames - first)));
+    passes.stretches.extend(stalls.open.filter(|_| !gave).map(|first| (first, frames - first)));
     if let Some(file) = map_file {
         std::fs::write(file, map(&passes.stretches, rate)).unwrap();
     }
-    let (frames_out, stalls) = (out.len() / 2 / channels, u32::from(at_write.is_some()));
-    let (at_write, at_flush, Stretch { skipped, inserted, .. }) = (told(at_write), told(at_flush), stretch);
-    eprint!("skim: frames_in={frames} frames_out={frames_out} stalls={stalls} stalled_at={at_write} flush_stalled_at={at_flush}");
+    let (frames_out, count) = (out.len() / 2 / channels, stalls.count);
+    let (at_write, at_flush, Stretch { skipped, inserted, .. }) = (told(stalls.first), told(at_flush), stretch);
+    eprint!("skim: frames_in={frames} frames_out={frames_out} stalls={count} stalled_at={at_write} flush_stalled_at={at_flush}");
     eprintln!(" refusal=0 skipped={skipped} inserted={inserted} passed={passed} passed_frames={passed_frames}");
 }

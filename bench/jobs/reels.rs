@@ -1,6 +1,6 @@
 //! The jobs, and the recordings that are made for them.
 
-use crate::speech::speech;
+use crate::signals::{speech, voice};
 
 /// Settings, frames of a write, and the most frames of a read.
 #[derive(Clone, Copy)]
@@ -57,29 +57,6 @@ pub const SPEECH: Reel = Reel { name: "speech", rate: 8_000, channels: 1, second
 /// Every job with every reel, and the one that steps over with the reel made for it.
 pub fn pairs() -> impl Iterator<Item = (Job, Reel)> {
     REELS.into_iter().flat_map(|reel| JOBS.map(|job| (job, reel))).chain([(STEPPING, SPEECH)])
-}
-
-/// One period of a voice with eight overtones.
-pub fn period_of(frames: usize) -> Vec<f64> {
-    let value = |phase: f64| (1..9).map(|h| (phase * f64::from(h) * std::f64::consts::TAU).sin() / f64::from(h)).sum();
-    (0..frames).map(|f| value(f as f64 / frames as f64)).collect()
-}
-
-/// Noise from -0.5 to 0.5.
-pub struct Noise(pub u32);
-
-impl Noise {
-    pub fn next(&mut self) -> f64 {
-        self.0 = self.0.wrapping_mul(1_664_525).wrapping_add(1_013_904_223);
-        f64::from(self.0 >> 16) / 65_536.0 - 0.5
-    }
-}
-
-/// A voice with some noise; the channels differ in loudness.
-fn voice(period: usize, frames: usize, channels: usize) -> Vec<f32> {
-    let (tone, mut noise) = (period_of(period), Noise(12345));
-    let sample = |f: usize, c: usize, rustle: f64| (tone[f % period] * 0.3 / (c + 1) as f64 + rustle * 0.008) as f32;
-    (0..frames * channels).map(|i| sample(i / channels, i % channels, noise.next())).collect()
 }
 
 /// The samples of a recording.

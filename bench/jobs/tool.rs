@@ -2,7 +2,7 @@
 
 use crate::reels::{samples_of, JOBS, REELS};
 use crate::sides::Ours;
-use crate::{run, times, ROUNDS};
+use crate::{rounds, run, times};
 use std::fs::{read, write, File};
 use std::hint::black_box;
 use std::path::Path;
@@ -33,7 +33,7 @@ pub fn beside_library() {
     assert!(!made.is_empty() && read(&track_file).expect("a track") == made, "the tool's frames differ");
 
     let (mut tools, mut library) = (Vec::new(), Vec::new());
-    for _ in 0..ROUNDS {
+    for _ in 0..rounds() {
         tools.push(time_of_tool(&tool, &reel_file, &track_file));
         let start = times::of_thread();
         run::<Ours>(job, reel, &samples, &mut |frames| { black_box(frames); });

@@ -1,9 +1,10 @@
 //! Figures with known totals: steps of each kind, calls that count nothing, and totals that come to their end or would pass it. Silence has
 //! period 20 at 8,000 Hz, and 246 frames of it are one step.
 
-use crate::figures::{ample, areas, at_speed, figure, fresh, holding, open, pulses, write, Figure};
+use crate::figures::{ample, areas, at_speed, figure, fresh, holding, open, write, Figure};
 use crate::interface::{Balance, Setting, Stream, COPIED, EMPTY, STALLED, STRETCHED, WAITING};
 use crate::run::{Call, Kept, Lengths};
+use crate::signals::pulses;
 
 /// The last value of a total.
 const END: u64 = u64::MAX;

@@ -3,7 +3,7 @@
 use std::time::Instant;
 
 use crate::fixed::{first_runs, fixed_runs};
-use crate::model::edits::EDITS;
+use crate::model::edits::edits;
 use crate::model_with;
 use crate::run::text;
 use crate::runner::{Bench, Failure};
@@ -13,7 +13,7 @@ use crate::shrink::shrink;
 const RUNS_ALONE: u64 = 300;
 
 /// Runs the fixed test against the model with an edit: the calls compared until it was found, and how.
-fn find(number: u32) -> (u64, Option<Failure>) {
+fn find(number: usize) -> (u64, Option<Failure>) {
     let mut wrong = model_with(number);
     let mut bench = Bench::new(&mut wrong);
     let failure = fixed_runs(&mut bench).err();
@@ -21,24 +21,24 @@ fn find(number: u32) -> (u64, Option<Failure>) {
 }
 
 /// The same where the model that judges carries the edit, too: only the original and the known answers can find it.
-fn find_alone(number: u32) -> (u64, Option<Failure>) {
+fn find_alone(number: usize) -> (u64, Option<Failure>) {
     let mut wrong = model_with(number);
     let mut bench = Bench::judged_by(&mut wrong, model_with(number));
     let failure = first_runs(&mut bench, RUNS_ALONE).err();
     (bench.tally.calls, failure)
 }
 
-/// Tries every edit with one of the two and prints a table; how many were not found.
-fn table(find: fn(u32) -> (u64, Option<Failure>)) -> usize {
-    let mut missed = 0;
+/// Tries every edit with one of the two and prints a table; how many were found, and how many there are.
+fn table(find: fn(usize) -> (u64, Option<Failure>)) -> (usize, usize) {
+    let (edits, mut found) = (edits(), 0);
     println!("| no. | part | wrong edit | found after calls | by |\n|---|---|---|---|---|");
-    for &(edit, part, words) in EDITS {
-        let (calls, failure) = find(edit.number());
-        missed += usize::from(failure.is_none());
+    for (number, edit) in (1..).zip(&edits) {
+        let (calls, failure) = find(number);
+        found += usize::from(failure.is_some());
         let by = failure.map_or("NOT FOUND".to_string(), |failure| failure.what);
-        println!("| {} | {part} | {words} | {calls} | {} |", edit.number(), by.split(':').next().unwrap_or(""));
+        println!("| {number} | {} | {} | {calls} | {} |", edit.part, edit.words, by.split(':').next().unwrap_or(""));
     }
-    missed
+    (found, edits.len())
 }
 
 /// The model passes the fixed test, and no wrong edit does.
@@ -50,22 +50,21 @@ pub fn bites() -> bool {
         return false;
     }
     println!("differential bites: without an edit all {calls} calls agree");
-    let missed = table(find);
-    println!("differential bites: {} of {} wrong edits found, {:.0} s", EDITS.len() - missed, EDITS.len(), start.elapsed().as_secs_f64());
-    missed == 0
+    let (found, all) = table(find);
+    println!("differential bites: {found} of {all} wrong edits found, {:.0} s", start.elapsed().as_secs_f64());
+    found == all
 }
 
 /// The original and the known answers find every wrong edit even when the model that judges has it, too.
 pub fn bites_alone() -> bool {
     let start = Instant::now();
-    let missed = table(find_alone);
-    let (found, time) = (EDITS.len() - missed, start.elapsed().as_secs_f64());
-    println!("differential bites alone: {found} of {} wrong edits found by the original and the known answers, {time:.0} s", EDITS.len());
-    missed == 0
+    let ((found, all), time) = (table(find_alone), start.elapsed().as_secs_f64());
+    println!("differential bites alone: {found} of {all} wrong edits found by the original and the known answers, {time:.0} s");
+    found == all
 }
 
 /// Finds one wrong edit, and prints the smallest run that shows it.
-pub fn bite(number: u32) -> bool {
+pub fn bite(number: usize) -> bool {
     let (calls, failure) = find(number);
     let Some(failure) = failure else {
         println!("differential bites: edit {number} not found in {calls} calls");

@@ -3,8 +3,7 @@
 
 use crate::interface::{Balance, Setting, Stream};
 use crate::made_up;
-use crate::model::numbers::sample_period;
-use crate::model::search::max_required;
+use crate::model::settings::{max_required, sample_period};
 use crate::model::Model;
 use crate::run::{Call, Kept, Lengths};
 use crate::signals::{Random, Signal};
@@ -192,7 +191,7 @@ pub fn rooms(judge: &Model, seed: u64) -> Vec<Border> {
     let (stream, kept) = made_up::in_order(&mut random, judge, rate, channels as u32, &mut signal);
     let frames = random.one_of(&[0, 1, 40, max_required(rate)]);
     let samples = signal.frames(&mut random, frames, channels);
-    let added: Vec<i16> = samples.iter().map(|&sample| judge.sample_in(sample)).collect();
+    let added: Vec<i16> = samples.iter().map(|&sample| judge.rules.write.sample_in(sample)).collect();
     let silence = vec![0; 2 * max_required(rate) * channels];
     let write = needs(judge, &stream, &kept, &added);
     let flush = needs(judge, &stream, &kept, &silence);

@@ -1,14 +1,14 @@
-//! Runs with known answers: the examples of the refusals, the figures of document 01, numbers found with the original where another
-//! rounding would give another answer, and tables over all samples.
+//! Runs with known answers: the examples of the refusals, the figures of docs/RULES.md, "Figures", numbers found with the original where
+//! another rounding would give another answer, and tables over all samples.
 
 use std::ops::RangeInclusive;
 
 use crate::balances::balances;
 use crate::interface::{Balance, Setting, Stream, COPIED, STALLED, STRETCHED, WAITING};
-use crate::model::numbers::sample_period;
-use crate::model::search::max_required;
+use crate::model::settings::{max_required, sample_period};
 use crate::passes::passes;
 use crate::run::{Call, Kept, Lengths};
+use crate::signals::pulses;
 
 /// A run with the refusal, the outcome and the frames of its last call, and, where they are known, the samples that it leaves in the output,
 /// the totals that it leaves, the periods passed over in its last call, and the setting to step over that it leaves.
@@ -77,11 +77,6 @@ pub fn at_speed(stream: Stream, helds: RangeInclusive<usize>, period: usize, s: 
     let (held, play) = tried.find(|(_, play)| play.is_some()).expect("frames that can have the local speed");
     let input = if period == 0 { vec![0; held] } else { pulses(held, period) };
     vec![holding(stream, input, play.unwrap_or(0.0)), write(0, ample())]
-}
-
-/// A voice of a period, of one pulse in each.
-pub fn pulses(frames: usize, period: usize) -> Vec<i16> {
-    (0..frames).map(|at| if at % period == 0 { 9_000 } else { ((at % period) * 37) as i16 }).collect()
 }
 
 /// The examples of the table of refusals, each with the nearest call that is accepted.

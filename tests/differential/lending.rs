@@ -3,6 +3,7 @@
 
 use crate::interface::Areas;
 use crate::run::{Kept, Lengths};
+use crate::signals::Congruential;
 
 /// Samples of a guard.
 const GUARD: usize = 16;
@@ -10,22 +11,6 @@ const GUARD: usize = 16;
 const MARK: i16 = 0x5a5a;
 /// So many free samples of an area differ from each other; behind them one sample repeats.
 const LEFTOVERS: usize = 128;
-
-/// A generator of leftovers.
-pub struct Leftovers(u32);
-
-impl Leftovers {
-    /// The generator of a run.
-    pub fn new() -> Leftovers {
-        Leftovers(1)
-    }
-
-    /// The next 32 bits.
-    pub fn next(&mut self) -> u32 {
-        self.0 = self.0.wrapping_mul(1_664_525).wrapping_add(1_013_904_223);
-        self.0
-    }
-}
 
 /// One area between its guards.
 pub struct Area(Vec<i16>);
@@ -48,7 +33,7 @@ impl Area {
     }
 
     /// Makes the area anew: the kept samples as far as it reaches, leftovers behind them.
-    fn make(&mut self, kept: &[i16], length: usize, leftovers: &mut Leftovers) {
+    fn make(&mut self, kept: &[i16], length: usize, leftovers: &mut Congruential) {
         let reach = kept.len().min(length);
         self.0.resize(length + 2 * GUARD, MARK);
         self.0[GUARD + length..].fill(MARK);
@@ -81,7 +66,7 @@ impl Lent {
     }
 
     /// Makes all four.
-    pub fn make(&mut self, kept: &Kept, lengths: &Lengths, leftovers: &mut Leftovers) {
+    pub fn make(&mut self, kept: &Kept, lengths: &Lengths, leftovers: &mut Congruential) {
         self.input.make(&kept.input, lengths.input, leftovers);
         self.stage.make(&kept.tail, lengths.stage, leftovers);
         self.output.make(&kept.output, lengths.output, leftovers);
@@ -89,7 +74,7 @@ impl Lent {
     }
 
     /// Makes the output alone.
-    pub fn make_output(&mut self, kept: &Kept, length: usize, leftovers: &mut Leftovers) {
+    pub fn make_output(&mut self, kept: &Kept, length: usize, leftovers: &mut Congruential) {
         self.output.make(&kept.output, length, leftovers);
     }
 
@@ -120,6 +105,6 @@ impl Buffers {
 }
 
 /// The floats that a read's slice is made of: those lent, and a guard behind them.
-pub fn slice_with_guard(length: usize, leftovers: &mut Leftovers) -> Vec<f32> {
+pub fn slice_with_guard(length: usize, leftovers: &mut Congruential) -> Vec<f32> {
     (0..length + GUARD).map(|_| f32::from_bits(leftovers.next())).collect()
 }

@@ -1,8 +1,7 @@
 //! Made-up streams: in order with floats of any kind, out of order in one field, or with counts that no area holds.
 
 use crate::interface::{Balance, Stream};
-use crate::model::numbers::sample_period;
-use crate::model::search::{max_period, max_required, min_period};
+use crate::model::settings::{max_period, max_required, min_period, sample_period};
 use crate::model::Model;
 use crate::run::{Call, Kept};
 use crate::signals::{Random, Signal};
@@ -127,7 +126,7 @@ pub fn in_order(random: &mut Random, judge: &Model, rate: u32, channels: u32, si
 
 /// Puts the two positions at a random place in order; often at the last before both become 0.
 fn positions(random: &mut Random, judge: &Model, stream: &mut Stream) {
-    let (new, old) = judge.rates(stream.rate, stream.pitch);
+    let (new, old) = judge.rules.rate.rates(stream.rate, stream.pitch);
     let p = [0, old - 1, random.below(old), old.saturating_sub(20)];
     stream.old_rate_position = random.one_of(&p);
     stream.new_rate_position = (stream.old_rate_position * new).div_ceil(old);
@@ -148,7 +147,7 @@ fn other_period(random: &mut Random, period: f32) -> f32 {
 
 /// Puts one field of a stream out of order.
 pub fn out_of_order(random: &mut Random, judge: &Model, stream: &mut Stream) {
-    let (new, old) = judge.rates(stream.rate, stream.pitch);
+    let (new, old) = judge.rules.rate.rates(stream.rate, stream.pitch);
     match random.below(10) {
         0 => stream.rate = random.one_of(&[0, 1, 999, 500_001, u32::MAX, stream.rate + 1]),
         1 => stream.channels = random.one_of(&[0, 33, u32::MAX]),

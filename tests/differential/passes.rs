@@ -1,9 +1,10 @@
 //! Figures of stepping over with known counts of periods passed over. At 8,000 Hz, speed 20 and pitch 0.5 silence has period 20 and gives no
 //! frame; 246 frames of it are one step, each 20 more another.
 
-use crate::figures::{ample, areas, at_speed, figure, fresh, holding, open, pulses, write, Figure};
+use crate::figures::{ample, areas, at_speed, figure, fresh, holding, open, write, Figure};
 use crate::interface::{Balance, Setting, Stream, COPIED, EMPTY, STALLED, STRETCHED, WAITING};
 use crate::run::{Call, Kept, Lengths};
+use crate::signals::pulses;
 
 /// The last value of a total.
 const END: u64 = u64::MAX;

@@ -1,11 +1,13 @@
 //! One run under way: each call goes to the subject, to the model, which says whether it is refused and how it goes, and, if it is
-//! accepted, to the original. After every call all that document 01 does not leave free is compared.
+//! accepted, to the original. After every call all that docs/RULES.md, "Areas and refusals", does not leave free is
+//! compared.
 
 use crate::interface::{same_float, Gave, Setting, Stream, Subject, Told, Wrote};
-use crate::lending::{slice_with_guard, Buffers, Leftovers};
+use crate::lending::{slice_with_guard, Buffers};
 use crate::model::Model;
 use crate::original::Original;
 use crate::run::{Call, Kept, Lengths};
+use crate::signals::Congruential;
 use crate::tally::Tally;
 
 /// Samples that a part can keep in this test; a stream that claims more cannot be told by the original.
@@ -30,7 +32,7 @@ pub struct Session<'a> {
     pub kept: Kept,
     pub last: Answer,
     buffers: &'a mut Buffers,
-    leftovers: Leftovers,
+    leftovers: Congruential,
 }
 
 /// Says what differs, unless both are equal.
@@ -56,7 +58,7 @@ fn equal_samples(what: &str, ours: &[i16], theirs: &[i16]) -> Result<(), String>
 impl<'a> Session<'a> {
     /// A run that has not begun: its stream is the one that is never in order.
     pub fn new(subject: &'a mut dyn Subject, judge: &'a mut Model, tally: &'a mut Tally, buffers: &'a mut Buffers) -> Session<'a> {
-        let (stream, kept, last, leftovers) = (Stream::default(), Kept::default(), Answer::default(), Leftovers::new());
+        let (stream, kept, last, leftovers) = (Stream::default(), Kept::default(), Answer::default(), Congruential(1));
         Session { subject, judge, tally, original: None, stream, kept, last, buffers, leftovers }
     }
 

@@ -2,7 +2,7 @@
 
 use crate::interface::{Setting, STALLED};
 use crate::made_up;
-use crate::model::search::max_required;
+use crate::model::settings::max_required;
 use crate::run::{Call, Lengths};
 use crate::session::Session;
 use crate::signals::{Random, Signal, Sound};
@@ -257,7 +257,7 @@ impl Scenario {
         if unheld || !session.judge().in_order(stream) || frames * channels > samples.len() {
             return None;
         }
-        let added: Vec<i16> = samples[..frames * channels].iter().map(|&x| session.judge().sample_in(x)).collect();
+        let added: Vec<i16> = samples[..frames * channels].iter().map(|&x| session.judge().rules.write.sample_in(x)).collect();
         let needs = session.judge().needs(*stream, &session.kept.input, &session.kept.tail, &added, AMPLE / channels)?;
         let exact = [stream.held + frames, needs.staged, stream.waiting + needs.made].map(|count| count * channels);
         let [input, stage, output] = exact.map(|length| self.near(length, channels));

@@ -1,7 +1,8 @@
 //! Counts of what the runs met.
 
 use crate::interface::{COPIED, EMPTY, STALLED, STRETCHED, WAITING};
-use crate::model::{Model, EVENTS};
+use crate::model::events::EVENTS;
+use crate::model::Model;
 use crate::run::Call;
 use crate::session::Answer;
 

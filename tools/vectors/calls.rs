@@ -1,5 +1,5 @@
 
-// ---- The calls: each is refused by document 01's table, or made on the original.
+// ---- The calls: each is refused by the table of docs/RULES.md, or made on the original.
 
 /// What the places of a read's slice hold before it.
 const UNREAD: f32 = 0.5;

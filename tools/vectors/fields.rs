@@ -1,6 +1,6 @@
 
 // ---- Answers to the calls of crates/vectors/stdin, by the functions above: this text is joined to the original's, which is otherwise
-// unchanged. The original has neither refusals nor outcomes nor totals: a refusal is decided by document 01's table with the original's
+// unchanged. The original has neither refusals nor outcomes nor totals: a refusal is decided by the table of docs/RULES.md with the original's
 // own counts, an outcome and what a call adds to the totals by the original's state before and after. A stream that steps over is worked on
 // by a copy of the original's text with one return taken out, the module `passing`; the periods passed over are counted step by step.
 
@@ -60,7 +60,7 @@ fn fields_of(s: &SonicStream, [skipped, inserted, step_over]: [u64; 3]) -> Field
     ]
 }
 
-/// What document 01 calls in order.
+/// What docs/RULES.md calls in order.
 fn in_order(f: &Fields) -> bool {
     let within = |x: f32, low: f32, high: f32| x >= low && x <= high;
     if !(1_000..=500_000).contains(&f[RATE]) || !(1..=32).contains(&f[CHANNELS]) || f[PERIOD_OF_SAMPLE] != bits((1.0 / f[RATE] as f64) as f32) {

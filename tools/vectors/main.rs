@@ -1,30 +1,16 @@
 
 // ---- Runs from a seed, and the files
 
-/// Numbers from a seed.
-struct Seeded(u32);
-
-impl Seeded {
-    fn below(&mut self, n: usize) -> usize {
-        self.0 = self.0.wrapping_mul(1_664_525).wrapping_add(1_013_904_223);
-        (self.0 >> 8) as usize % n
-    }
-
-    fn pick<T: Copy>(&mut self, from: &[T]) -> T {
-        from[self.below(from.len())]
-    }
-}
-
-fn seeded_call(r: &mut Runs, g: &mut Seeded, rate: usize, channels: usize) {
+fn seeded_call(r: &mut Runs, g: &mut Congruential, rate: usize, channels: usize) {
     let length = rate / 65 * channels;
     let settings = [
         0.05, 0.2, 0.4, 0.5, 0.6, 0.8, 0.9, 0.99, 1.0, 1.0, 1.01, 1.1, 1.25, 1.5, 1.9, 2.0, 2.2, 3.0, 5.0, 11.0, 20.0,
     ];
     let kinds = [NOISE, SQUARE, TRIANGLE, VOICE, VOICE, TWO_VOICES, SILENCE];
     match g.below(16) {
-        0 | 1 => r.speed(g.pick(&settings)),
-        2 => r.pitch(g.pick(&settings)),
-        3 => r.volume(g.pick(&settings)),
+        0 | 1 => r.speed(g.one_of(&settings)),
+        2 => r.pitch(g.one_of(&settings)),
+        3 => r.volume(g.one_of(&settings)),
         4 | 5 => {
             let most = g.below(400);
             r.read(most, most * channels + g.below(3))
@@ -36,18 +22,18 @@ fn seeded_call(r: &mut Runs, g: &mut Seeded, rate: usize, channels: usize) {
         }
         8 => r.lend(AREAS),
         _ => {
-            let (kind, seed, period) = (g.pick(&kinds), g.below(4_096), 1 + g.below(length));
+            let (kind, seed, period) = (g.one_of(&kinds), g.below(4_096), 1 + g.below(length));
             r.write(kind, seed as u32, period, g.below(4 * length))
         }
     };
 }
 
 fn seeded(r: &mut Runs, count: usize) {
-    let mut g = Seeded(1);
+    let mut g = Congruential(1);
     for i in 0..count {
-        let rate = g.pick(&[1_000, 1_000, 2_345, 4_000, 4_001, 8_000, 8_000, 11_025, 16_000]);
-        let channels = g.pick(&[1, 1, 1, 2, 2, 3]);
-        r.run(&format!("seeded {i}"), AREAS, rate as u32, channels as u32).speed(g.pick(&[0.4, 0.7, 1.0, 1.3, 1.8, 2.0, 4.0]));
+        let rate = g.one_of(&[1_000, 1_000, 2_345, 4_000, 4_001, 8_000, 8_000, 11_025, 16_000]);
+        let channels = g.one_of(&[1, 1, 1, 2, 2, 3]);
+        r.run(&format!("seeded {i}"), AREAS, rate as u32, channels as u32).speed(g.one_of(&[0.4, 0.7, 1.0, 1.3, 1.8, 2.0, 4.0]));
         (0..9).for_each(|_| seeded_call(r, &mut g, rate, channels));
         r.lend(AREAS).flush().read(ROOM, ROOM);
     }

@@ -75,7 +75,7 @@ fn skim(settings: &Settings, recording: &mut impl Read, track: &mut impl Write) 
             break;
         }
     }
-    // The silence that a flush adds is passed over too at this speed, which is not counted here.
+    // A flush can pass over periods of its own silence, so what it tells is not counted.
     stream.flush();
     pass_on(&mut stream, track)?;
     Ok(Skimmed { passed, ended: None })

@@ -32,7 +32,8 @@ fn max_required(stream: Stream) -> usize {
     2 * (stream.rate as usize / 65)
 }
 
-/// Whether the input, with these frames more, still has room for the silence of a flush. A stalled stream is cleared by a flush alone.
+/// Whether the input, with these frames more, still has room for the silence of a flush. Writes that stall leave all frames held, and a
+/// flush clears them at any settings, so the input has room for one after every write.
 pub fn leaves_room_to_flush(stream: Stream, frames: usize) -> bool {
     let most = MAX_SAMPLES / stream.channels as usize;
     frames <= most && stream.held + frames + 2 * max_required(stream) <= most

@@ -30,6 +30,17 @@
 //!   write or flush that would pass this answers [`Outcome::Full`] and changes nothing. In libsonic-rs they grow until memory ends.
 //! - The texts of [`SonicError`] are worded differently.
 //! - The `Debug` text of a stream leaves out its samples.
+//!
+//! # What the library asks of its caller
+//!
+//! include/kelpladder.h says what a caller of the C library owes. This crate makes most of it true by construction: pointers and lengths
+//! come from slices and from vectors of its own, which are valid, aligned and apart; each call borrows the stream by `&mut self`, so that
+//! nobody else uses its areas meanwhile; a stream's value comes from an accepted opening and from the calls after it, never from outside.
+//! The build stops on processors other than x86-64. What it cannot make true:
+//!
+//! - the floating-point environment of the calling thread is the default one, as Rust asks of all code: round to nearest even, exceptions
+//!   masked, neither flush-to-zero nor denormals-are-zero (MXCSR). The last two were not seen to change an answer; another rounding does.
+//! - the thread has 3,500 bytes of stack for the library, beside those of this crate.
 
 #![deny(missing_docs)]
 
@@ -105,7 +116,7 @@ impl SonicStream {
     /// Writes the whole frames of `samples` and makes frames of what is held. A partial last frame is dropped. Each sample is held to
     /// −1 to 1, and a NaN counts as 0.
     ///
-    /// The outcome says how it went; it may be ignored. [`Outcome::Stalled`] and [`Outcome::Full`] mean that recorded frames do not
+    /// The outcome says how it went; it may be ignored. [`Outcome::Stalled`] and [`Outcome::Full`] mean that recorded frames did not
     /// get through. Room is made as needed. A write leaves room for the silence of a later [`flush`](Self::flush), and answers
     /// [`Outcome::Full`] if it cannot.
     pub fn write_f32(&mut self, samples: &[f32]) -> Told {

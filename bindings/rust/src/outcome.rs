@@ -13,9 +13,11 @@ pub enum Outcome {
     Waiting,
     /// Frames held were stretched; those that the steps did not reach stay held.
     Stretched,
-    /// A step gave no frame: the voice's period is too short for speed over pitch. Nothing has left what is held. Every later write begins
-    /// at the same frames, makes those before the stall again, and stalls there too, whatever is written. A flush clears what is held.
-    /// A stream that [steps over](crate::SonicStream::set_step_over) does not stall.
+    /// A step gave no frame: the voice's period is too short for speed over pitch. The frames made before it wait, and nothing has left
+    /// what is held: the next write begins at the same frames, so that those before the stall are made a second time, and mostly stalls
+    /// there too. It need not: the local speed is found anew in each write, and where the period is the local speed less 1, its last bit
+    /// decides. Other settings can end a stall as well; a flush clears what is held; and a stream that
+    /// [steps over](crate::SonicStream::set_step_over) does not stall.
     Stalled,
     /// Not taken: more than [`MAX_SAMPLES`](crate::MAX_SAMPLES) samples would be held, be between two steps, or wait. The stream is as
     /// before the call. Frames that wait can be read and the call made again; a shorter write may fit; a flush clears what is held.

@@ -1,6 +1,10 @@
 //! Tests of the balance and of stepping over that look at the frames held, or set the totals, which no caller can.
 
+#[path = "../../../tests/signals.rs"]
+mod signals;
+
 use crate::{Balance, Outcome, SonicStream};
+use signals::changing_saws;
 
 fn stream(speed: f32) -> SonicStream {
     let mut stream = SonicStream::new(8_000, 2).expect("in range");
@@ -8,17 +12,12 @@ fn stream(speed: f32) -> SonicStream {
     stream
 }
 
-/// Two channels of a saw whose period changes from frame to frame.
-fn voice(frames: usize) -> Vec<f32> {
-    (0..frames).flat_map(|f| [f % (50 + f / 97 % 40), f % 71].map(|level| level as f32 / 90.0 - 0.5)).collect()
-}
-
 /// The law, which at pitch 1 shows in the frames read: no rate conversion lies between.
 #[test]
 fn frames_out_and_skipped_are_frames_used_and_inserted() {
     for speed in [0.05, 0.3, 0.5, 0.7, 0.97, 1.0, 1.03, 1.6, 2.0, 3.3, 20.0] {
         let (mut stream, mut out, mut written) = (stream(speed), 0, 0);
-        for chunk in voice(9_000).chunks(2 * 700) {
+        for chunk in changing_saws(9_000).chunks(2 * 700) {
             stream.write_f32(chunk);
             written += chunk.len() / 2;
             out += stream.read_f32(usize::MAX).len() / 2;
@@ -37,7 +36,7 @@ fn periods_passed_over_are_used_and_skipped() {
     let (mut stream, mut out, mut written, mut passed) = (SonicStream::new(4_000, 2).expect("in range"), 0, 0, 0);
     stream.set_speed(20.0);
     stream.set_step_over(true);
-    for chunk in [voice(3_000), vec![0.0; 6_000], voice(3_000)].concat().chunks(2 * 700) {
+    for chunk in [changing_saws(3_000), vec![0.0; 6_000], changing_saws(3_000)].concat().chunks(2 * 700) {
         let told = stream.write_f32(chunk);
         assert_eq!(told.outcome, Outcome::Stretched);
         passed += told.passed;
@@ -50,7 +49,7 @@ fn periods_passed_over_are_used_and_skipped() {
 
 #[test]
 fn a_total_that_would_pass_its_end_is_full() {
-    let (mut stream, voice) = (stream(2.0), voice(1_000));
+    let (mut stream, voice) = (stream(2.0), changing_saws(1_000));
     stream.value.balance = Balance { skipped: u64::MAX, inserted: u64::MAX };
     assert_eq!(stream.write_f32(&voice).outcome, Outcome::Full);
     assert_eq!(stream.flush().outcome, Outcome::Full);

@@ -2,7 +2,7 @@
 
 mod common;
 
-use common::voice;
+use common::signals::saw;
 use kelpladder::{Balance, Outcome, SonicStream};
 
 /// The frames that a step needs to be held.
@@ -20,7 +20,7 @@ fn stream(speed: f32) -> SonicStream {
 /// A stream to which the voice was written in chunks.
 fn written(speed: f32) -> SonicStream {
     let mut stream = stream(speed);
-    for chunk in voice(0, FRAMES, 1, 62, 0).chunks(700) {
+    for chunk in saw(0, FRAMES, 1, 62, 0).chunks(700) {
         assert_eq!(stream.write_f32(chunk).outcome, Outcome::Stretched);
     }
     stream
@@ -50,7 +50,7 @@ fn inserts_count_their_periods() {
 #[test]
 fn a_copy_counts_nothing() {
     let mut stream = stream(1.0);
-    assert_eq!(stream.write_f32(&voice(0, FRAMES, 1, 62, 0)).outcome, Outcome::Copied);
+    assert_eq!(stream.write_f32(&saw(0, FRAMES, 1, 62, 0)).outcome, Outcome::Copied);
     assert_eq!(stream.balance(), Balance::default());
 }
 
@@ -58,10 +58,10 @@ fn a_copy_counts_nothing() {
 fn a_stalled_write_counts_nothing() {
     let mut stream = stream(20.0);
     stream.set_pitch(0.5);
-    assert_eq!(stream.write_f32(&voice(0, FRAMES, 1, 62, 0)).outcome, Outcome::Stretched);
+    assert_eq!(stream.write_f32(&saw(0, FRAMES, 1, 62, 0)).outcome, Outcome::Stretched);
     let balance = stream.balance();
     assert!(balance.skipped > 0);
-    assert_eq!(stream.write_f32(&voice(0, FRAMES, 1, 34, 0)).outcome, Outcome::Stalled);
+    assert_eq!(stream.write_f32(&saw(0, FRAMES, 1, 34, 0)).outcome, Outcome::Stalled);
     assert_eq!(stream.balance(), balance);
 }
 

@@ -2,7 +2,7 @@
 
 mod common;
 
-use common::voice;
+use common::signals::saw;
 use kelpladder::{Outcome, SonicStream, MAX_SAMPLES};
 
 const QUARTER: usize = MAX_SAMPLES / 4;
@@ -40,8 +40,8 @@ fn a_write_that_is_too_long_is_not_taken() {
 #[test]
 fn a_stretch_that_is_too_long_is_not_taken() {
     let mut stream = stream(0.05, 1.0);
-    assert_eq!(stream.write_f32(&voice(0, 1_000_000, 1, 62, 0)).outcome, Outcome::Full);
-    assert_eq!(stream.write_f32(&voice(0, 10_000, 1, 62, 0)).outcome, Outcome::Stretched);
+    assert_eq!(stream.write_f32(&saw(0, 1_000_000, 1, 62, 0)).outcome, Outcome::Full);
+    assert_eq!(stream.write_f32(&saw(0, 10_000, 1, 62, 0)).outcome, Outcome::Stretched);
 }
 
 #[test]
@@ -55,7 +55,7 @@ fn a_call_that_is_not_taken_passes_over_nothing() {
 
 #[test]
 fn a_full_stall_can_be_flushed() {
-    let (mut stream, quarter) = (stream(20.0, 0.5), voice(0, QUARTER, 1, 34, 0));
+    let (mut stream, quarter) = (stream(20.0, 0.5), saw(0, QUARTER, 1, 34, 0));
     for _ in 0..3 {
         assert_eq!(stream.write_f32(&quarter).outcome, Outcome::Stalled);
     }
@@ -63,5 +63,5 @@ fn a_full_stall_can_be_flushed() {
     assert_eq!(stream.write_f32(&quarter[..QUARTER - 2 * 246]).outcome, Outcome::Stalled);
     assert_eq!(stream.write_f32(&[0.0]).outcome, Outcome::Full);
     assert_eq!(stream.flush().outcome, Outcome::Stalled);
-    assert_eq!(stream.write_f32(&voice(0, 10_000, 1, 62, 0)).outcome, Outcome::Stretched);
+    assert_eq!(stream.write_f32(&saw(0, 10_000, 1, 62, 0)).outcome, Outcome::Stretched);
 }

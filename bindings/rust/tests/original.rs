@@ -3,7 +3,8 @@
 
 mod common;
 
-use common::{run, summary, voice, Dice, Stretcher, CASES};
+use common::signals::{saw, Congruential};
+use common::{run, summary, Stretcher, CASES};
 use kelpladder::{Outcome, SonicStream};
 
 include!(concat!(env!("OUT_DIR"), "/original.rs"));
@@ -86,32 +87,32 @@ impl<A: Stretcher, B: Stretcher> Pair<A, B> {
 }
 
 /// A setting: mostly inside its range, at times outside or a NaN.
-fn setting(dice: &mut Dice) -> f32 {
+fn setting(random: &mut Congruential) -> f32 {
     const SETTINGS: [f32; 16] = [1.0, 1.0, 1.0, 0.5, 2.0, 1.5, 0.7, 0.05, 20.0, 3.3, 0.31, 1.00001, 0.99998, 1000.0, -1.0, f32::NAN];
-    SETTINGS[dice.below(SETTINGS.len())]
+    SETTINGS[random.below(SETTINGS.len())]
 }
 
 /// A voice with at times a sample that no recording has.
-fn samples(dice: &mut Dice, channels: usize) -> Vec<f32> {
+fn samples(random: &mut Congruential, channels: usize) -> Vec<f32> {
     const ODD: [f32; 6] = [f32::NAN, f32::INFINITY, f32::NEG_INFINITY, 1.0, -1.5, -0.0];
-    let (frames, period, noise) = (dice.below(2_500), 20 + dice.below(100), dice.below(3_000) as u32);
-    let mut all = voice(dice.below(1_000), frames, channels, period, noise);
-    all.extend(vec![0.25; dice.below(channels)]);
-    if dice.below(3) == 0 && !all.is_empty() {
-        let place = dice.below(all.len());
-        all[place] = ODD[dice.below(ODD.len())];
+    let (frames, period, noise) = (random.below(2_500), 20 + random.below(100), random.below(3_000) as u32);
+    let mut all = saw(random.below(1_000), frames, channels, period, noise);
+    all.extend(vec![0.25; random.below(channels)]);
+    if random.below(3) == 0 && !all.is_empty() {
+        let place = random.below(all.len());
+        all[place] = ODD[random.below(ODD.len())];
     }
     all
 }
 
-fn call<A: Stretcher, B: Stretcher>(pair: &mut Pair<A, B>, dice: &mut Dice) {
-    match dice.below(12) {
-        0 => pair.set(setting(dice), setting(dice), setting(dice)),
+fn call<A: Stretcher, B: Stretcher>(pair: &mut Pair<A, B>, random: &mut Congruential) {
+    match random.below(12) {
+        0 => pair.set(setting(random), setting(random), setting(random)),
         1 => pair.flush(),
         2 => pair.read(0),
-        3..=5 => pair.read(dice.below(3_000)),
+        3..=5 => pair.read(random.below(3_000)),
         _ => {
-            let samples = samples(dice, pair.channels);
+            let samples = samples(random, pair.channels);
             pair.write(&samples);
         }
     }
@@ -120,11 +121,11 @@ fn call<A: Stretcher, B: Stretcher>(pair: &mut Pair<A, B>, dice: &mut Dice) {
 /// The pseudorandom run of a seed.
 fn random<A: Stretcher, B: Stretcher>(seed: u32) {
     const RATES: [u32; 8] = [1_000, 3_999, 4_000, 8_000, 8_000, 11_025, 22_050, 44_100];
-    let mut dice = Dice(seed);
-    dice.throw();
-    let mut pair: Pair<A, B> = Pair::open(RATES[dice.below(RATES.len())], 1 + dice.below(4) as u32);
+    let mut random = Congruential(seed);
+    random.next();
+    let mut pair: Pair<A, B> = Pair::open(RATES[random.below(RATES.len())], 1 + random.below(4) as u32);
     for _ in 0..30 {
-        call(&mut pair, &mut dice);
+        call(&mut pair, &mut random);
     }
     pair.read(usize::MAX);
 }
@@ -144,7 +145,7 @@ fn skim_tracks_stepping_over_give_the_same() {
     let mut pair = Passing::open(8_000, 1);
     pair.set(20.0, 0.5, 1.0);
     for (period, noise) in [(62, 0), (34, 300), (20, 0), (90, 3_000), (34, 0), (75, 300)] {
-        voice(0, 9_000, 1, period, noise).chunks(700).for_each(|chunk| pair.write(chunk));
+        saw(0, 9_000, 1, period, noise).chunks(700).for_each(|chunk| pair.write(chunk));
         pair.write(&[0.0; 2_000]);
     }
     pair.flush();
@@ -163,7 +164,7 @@ fn runs_give_the_same() {
 fn one_long_write_gives_the_same() {
     let mut pair = Plain::open(8_000, 2);
     pair.set(0.3, 0.7, 1.0);
-    pair.write(&voice(0, 200_000, 2, 62, 300));
+    pair.write(&saw(0, 200_000, 2, 62, 300));
     pair.flush();
     pair.read(usize::MAX);
 }
@@ -172,7 +173,7 @@ fn one_long_write_gives_the_same() {
 fn most_channels_give_the_same() {
     let mut pair = Plain::open(8_000, 32);
     pair.set(1.7, 1.2, 0.4);
-    pair.write(&voice(0, 3_000, 32, 62, 300));
+    pair.write(&saw(0, 3_000, 32, 62, 300));
     pair.flush();
     pair.read(usize::MAX);
 }

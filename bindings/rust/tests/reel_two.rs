@@ -3,7 +3,7 @@
 
 mod common;
 
-use common::voice;
+use common::signals::saw;
 use kelpladder::{Outcome, SonicStream};
 
 const CHUNK: usize = 4_096;
@@ -20,7 +20,7 @@ fn skim() -> SonicStream {
 
 /// The outcomes of chunks of a voice of this period, one after the other.
 fn write_chunks(stream: &mut SonicStream, period: usize, count: usize) -> Vec<Outcome> {
-    let samples = voice(0, count * CHUNK, 1, period, 0);
+    let samples = saw(0, count * CHUNK, 1, period, 0);
     samples.chunks(CHUNK).map(|chunk| stream.write_f32(chunk).outcome).collect()
 }
 
@@ -40,12 +40,21 @@ fn a_low_voice_runs_to_its_end() {
 }
 
 #[test]
-fn a_high_voice_stalls_and_every_later_write_says_so() {
+fn a_high_voice_stalls_and_later_writes_say_so() {
     let mut stream = skim();
     assert!(all_are(&write_chunks(&mut stream, 62, 5), Outcome::Stretched));
     assert!(all_are(&write_chunks(&mut stream, 34, 5), Outcome::Stalled));
     assert!(all_are(&write_chunks(&mut stream, 62, 5), Outcome::Stalled));
     assert_eq!(stream.write_f32(&[]).outcome, Outcome::Stalled);
+}
+
+/// At speed 10.5 and pitch 0.5 silence, of period 20, gives a frame or none by the last bit of the local speed, which is near 21.
+#[test]
+fn a_later_write_can_leave_a_stall() {
+    let mut stream = skim();
+    stream.set_speed(10.5);
+    assert_eq!(stream.write_f32(&[0.0; 355]).outcome, Outcome::Stalled);
+    assert_eq!(stream.write_f32(&[0.0; 1]).outcome, Outcome::Stretched);
 }
 
 #[test]
@@ -67,7 +76,7 @@ fn stepping_over() -> SonicStream {
 #[test]
 fn a_low_voice_has_no_period_to_pass_over() {
     let (mut plain, mut stream) = (skim(), stepping_over());
-    for chunk in voice(0, 20 * CHUNK, 1, 62, 0).chunks(CHUNK) {
+    for chunk in saw(0, 20 * CHUNK, 1, 62, 0).chunks(CHUNK) {
         assert_eq!(stream.write_f32(chunk), plain.write_f32(chunk));
     }
     assert_eq!(stream.read_f32(usize::MAX), plain.read_f32(usize::MAX));
@@ -78,7 +87,7 @@ fn a_high_voice_is_passed_over_and_the_track_goes_on() {
     let mut stream = stepping_over();
     assert!(all_are(&write_chunks(&mut stream, 62, 5), Outcome::Stretched));
     let (before, made) = (stream.balance(), stream.available_frames());
-    let told: Vec<_> = voice(0, 5 * CHUNK, 1, 34, 0).chunks(CHUNK).map(|chunk| stream.write_f32(chunk)).collect();
+    let told: Vec<_> = saw(0, 5 * CHUNK, 1, 34, 0).chunks(CHUNK).map(|chunk| stream.write_f32(chunk)).collect();
     let passed: usize = told.iter().map(|told| told.passed).sum();
     assert!(told.iter().all(|told| told.outcome == Outcome::Stretched && told.passed > 0));
     assert!(stream.balance().skipped - before.skipped >= 34 * passed as u64);

@@ -1,4 +1,5 @@
--- What a write and a flush answer, and what they keep in the areas. Definitions only. Assumes nothing.
+-- docs/RULES.md, "Areas and refusals": what a write and a flush answer, and what they keep in the areas. Definitions
+-- only. Assumes nothing.
 use mathlib.Core.Path.{_≡_}
 use mathlib.Core.Bool.{true}
 use mathlib.Core.List.{List, _++_}

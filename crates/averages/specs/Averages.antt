@@ -1,4 +1,5 @@
--- `down_sample_input`: means of neighbouring samples, cut toward zero. Definitions only. Assumes nothing.
+-- docs/RULES.md, "Period search": `down_sample_input`, means of neighbouring samples, cut toward zero. Definitions
+-- only. Assumes nothing.
 use Prim.Native.Nat.{ℕ, zero, suc, _+_, _*_, _≤_}
 use mathlib.Core.List.{List, [], _∷_, _++_}
 use lib.IntN.{ℤ, pos, _+ℤ_}

@@ -1,2 +1,3 @@
 pub mod Parts
 mod StreamAfter
+mod Serving

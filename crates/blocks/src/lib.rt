@@ -1,4 +1,6 @@
-// A block of a reel is read, and written to the stream in writes that fill its input as far as the plan says.
+// A block of a reel is read, and written to the stream in writes that fill its input as far as the plan says. After a
+// stall they go on, a frame at a time once the input is as full as that: s of a call, which is rounded, changes with
+// each write, and where the pitch period is s − 1 its last bit decides.
 // `specs/Blocks.antt` says what is promised.
 use frames::Frames;
 use frames::Samples;
@@ -6,18 +8,25 @@ use plans::BLOCK_SAMPLES;
 use plans::Plan;
 use reels::reading::read_block;
 use reels::reel::Reel;
+use reels::reel::first_held;
+use reels::state::RunState;
+use reels::state::count_stall;
 ghost use mathlib.Core.Path.{_≡_};
-ghost use Prim.Native.Nat.{_+_, _*_, _/_, _%_, _^_, _≤_, _<_};
+ghost use Prim.Native.Nat.{_+_, _-_, _*_, _/_, _%_, _^_, _≤_, _<_};
 ghost use lib.ListN.{length};
 ghost use Rattle.frames.specs.Areas.{areas};
-ghost use Rattle.adding.specs.Calls.{writeCall};
+ghost use Rattle.adding.specs.Calls.{writeCall, OrderAfter};
 ghost use Rattle.plans.specs.Plans.{blockSamples, blockBytes, Usable};
-ghost use Rattle.blocks.specs.Blocks.{WriteAnswered, BlockWritten, Turned};
+ghost use Rattle.serving.specs.Steady.{AreasSized};
+ghost use Rattle.reels.specs.Serving.{Serving};
+ghost use Rattle.blocks.specs.Blocks.{WriteAnswered, NoneWaits, BlockWritten, Turned};
 
 // Where a write that begins at `at` ends: it fills the input up to the plan's `full` frames, or takes all that is left.
 fn write_end(at: usize, len: usize, held: Frames, plan: Plan) -> usize
-    requires { ⌜ Usable plan × (at < len) × (at % plan .channels ≡ 0) × (len % plan .channels ≡ 0) ⌝ }
-    ensures { λ r. ⌜ (at < r) × (r ≤ len) × (r % plan .channels ≡ 0) ⌝ }
+    requires { ⌜ Usable plan × (at < len) × (at % plan .channels ≡ 0) × (len % plan .channels ≡ 0)
+        × (held .0 + 1 ≤ plan .limit) ⌝ }
+    ensures { λ r. ⌜ (at < r) × (r ≤ len) × (r % plan .channels ≡ 0)
+        × (held .0 + (r - at) / plan .channels ≤ plan .limit) ⌝ }
 {
     let frames = if held.0 < plan.full {
         plan.full - held.0
@@ -42,10 +51,15 @@ fn write(
     ensures { λ r. ⌜ WriteAnswered ((reel .written + length (now (samples .entry)) / channels) % 2 ^ 64) reel
         (writeCall (reel .stream) (now (samples .entry))
         (areas (now (input .entry)) (now (stage .entry)) (now (output .entry)) (now (scratch .entry))) .answer) r ⌝ }
+    ensures { λ _. ⌜ OrderAfter (writeCall (reel .stream) (now (samples .entry))
+        (areas (now (input .entry)) (now (stage .entry)) (now (output .entry)) (now (scratch .entry))) .answer) ⌝ }
 {
     let answer = sonic::write_f32(reel.stream, samples, input, stage, output, scratch);
     let n = Samples(samples.len()).frames(channels);
-    let mut after = reel.answered(answer);
+    let place = first_held(reel.written, reel.stream.held.0 as u64);
+    let stalls = count_stall(reel.stalls, place, answer);
+    let mut after = reel.answered(answer, RunState::Stalled(place));
+    after.stalls = stalls;
     after.written = std::num::wrapping_add_u64(reel.written, n.0 as u64);
     let passes = maps::noted_write(after);
     after.passes = passes;
@@ -66,12 +80,13 @@ fn write_block(
     bytes: &mut [u8],
 ) -> Reel
     requires { ⌜ Usable plan × (reel .stream .channels ≡ plan .channels) × (length (now block) % plan .channels ≡ 0) ⌝ }
-    requires { ⌜ (32 ≤ length (now values)) × (2 * length (now values) ≤ length (now bytes)) ⌝ }
-    ensures { λ r. ⌜ BlockWritten (length (now (block .entry)) / plan .channels) reel r ⌝ }
+    requires { ⌜ (32 ≤ length (now values)) × (2 * length (now values) ≤ length (now bytes))
+        × AreasSized (areas (now input) (now stage) (now output) (now scratch)) × Serving plan reel × NoneWaits reel ⌝ }
+    ensures { λ r. ⌜ BlockWritten plan (length (now (block .entry)) / plan .channels) reel r ⌝ }
 {
     let few = Samples(BLOCK_SAMPLES).frames(plan.channels).0;
     let mut at: usize = 0;
-    while at < block.len() && reel.is_going() {
+    while at < block.len() && reel.takes_more(plan) {
         let end = write_end(at, block.len(), reel.stream.held, plan);
         let last = reel.passes.last;
         reel = write(
@@ -105,8 +120,9 @@ pub fn turn(
     requires { ⌜ Usable plan × (reel .stream .channels ≡ plan .channels) × (plan .block % plan .channels ≡ 0)
         × (reel .partial ≡ 0) ⌝ }
     requires { ⌜ (blockSamples ≡ length (now block)) × (blockSamples ≡ length (now values))
-        × (blockBytes ≡ length (now bytes)) ⌝ }
-    ensures { λ r. ⌜ Turned reel r ⌝ }
+        × (blockBytes ≡ length (now bytes))
+        × AreasSized (areas (now input) (now stage) (now output) (now scratch)) × Serving plan reel × NoneWaits reel ⌝ }
+    ensures { λ r. ⌜ Turned plan reel r ⌝ }
 {
     let read = read_block(reel, plan, block, bytes);
     let samples = read.samples;

@@ -1,4 +1,4 @@
--- Document 01, "Stretch steps": what each kind of step writes. x is the held input, `at` a frame of it. Definitions
+-- docs/RULES.md, "Stretch steps": what each kind of step writes. x is the held input, `at` a frame of it. Definitions
 -- only.
 use Prim.Native.Nat.{ℕ, zero, suc, _+_, _-_, _*_}
 use mathlib.Core.List.{List, [], _∷_, _++_}

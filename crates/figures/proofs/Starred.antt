@@ -1,4 +1,4 @@
--- Document 01, "Figures": the starred ones, over the definitions of every crate. One table, computed. No proof cites this file.
+-- docs/RULES.md, "Figures": those with a star, over the definitions of every crate. One table, computed. No proof cites this file.
 -- Assumes nothing.
 use mathlib.Core.Path.{_≡_, refl}
 use mathlib.Core.List.{[], _∷_, map}

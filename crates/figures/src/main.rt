@@ -1,5 +1,5 @@
-// Prints document 01's figures that are not starred: samples in, and one step of the stretch over silence, whose period
-// is 20 frames at 8,000 Hz, at three local speeds. The starred figures are computed in proofs/Starred.antt.
+// Prints the figures of docs/RULES.md without a star: samples in, and one step of the stretch over silence, whose
+// period is 20 frames at 8,000 Hz, at three local speeds. The starred figures are computed in proofs/Starred.antt.
 use frames::Frames;
 use frames::Samples;
 use libc::STDOUT_FILENO;

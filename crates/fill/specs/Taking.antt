@@ -1,5 +1,5 @@
--- Document 01, "A write" and "Stretch steps": copied or stretched frames, before rate and volume, with no limit of
--- room; and document 02, C-16: what they add to the totals, and C-18: the periods passed over. Definitions only.
+-- docs/RULES.md, "A write" and "Stretch steps": copied or stretched frames, before rate and volume, with no limit of
+-- room; what they add to the totals (C-16), and the periods passed over (C-18). Definitions only.
 -- Assumes nothing.
 use mathlib.Core.Bool.{cond}
 use mathlib.Core.List.{List, [], _∷_}
@@ -104,6 +104,6 @@ speedAt s = localSpeed (length (s .input)) (samplePeriod (s .rate)) (s .«input_
 unfoldable pub taken : State → Taken
 taken s = cond (eqb (length (s .input)) 0) (nothing Empty s) (takenAt (speedAt s) s)
 
--- document 02, C-16: what steps add to the totals; a call that stalls counts none of them
+-- what steps add to the totals (C-16); a call that stalls counts none of them
 unfoldable pub counted : List Step → Balance
 counted ss = cond (stalled ss) none (record { skipped = tally ss .skipped; inserted = tally ss .inserted })

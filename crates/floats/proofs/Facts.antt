@@ -7,13 +7,20 @@
 --   period-range (`SamplePeriod`)  the sample period is an `f32` above zero, from 2 ^ -19 to 2 ^ -9
 --   newRate-between (`RateBounds`) the new rate is from a 20th of the rate to 20 times it
 --   Calm, zero-calm, grown-calm, left-calm, calm-emptied, calm-finite (`PlayTime`)
---                                  play time in a run from fresh is finite, not negative and at most 2 ^ 100
+--                                  play time is finite, not negative and at most 2 ^ 100 when it is fresh, and each move keeps it so; over
+--                                  whole runs this is `play-times` of the crate `runs`
+--   PaceReady, Paced, paced-fresh, paced-grown, paced-left (`Pace`)
+--                                  play time in a run from fresh with one speed and pitch is at most that of a few frames more than are held
+--   three, growthFactor, insert-grows (`PaceSteps`)
+--                                  so that an insert step inserts a period of at most 3 * pitch / speed, cut, times the frames that it uses
 --   copyCount-ge, skipCount-le, insertCount-ge, insertCount-le (`StepRules`), copy-le (`CopyCount`)
 --                                  a copying step copies from 1 frame to those left; k of a skip is at most the period, k of an insert from 1 to it
 -- Assumes nothing.
 pub use Rattle.floats.proofs.SamplePeriod.{shortest, longest, period-range}
 pub use Rattle.floats.proofs.RateBounds.{newRate-between}
 pub use Rattle.floats.proofs.PlayTime.{ceiling, Calm, zero-calm, grown-calm, left-calm, calm-emptied, calm-finite}
+pub use Rattle.floats.proofs.Pace.{PaceReady, Paced, paced-fresh, paced-grown, paced-left}
+pub use Rattle.floats.proofs.PaceSteps.{three, growthFactor, insert-grows}
 pub use Rattle.floats.proofs.StepRules.{copyCount-ge, skipCount-le, insertCount-ge, insertCount-le}
 pub use Rattle.floats.proofs.CopyCount.{copy-le}
 use mathlib.Core.Path.{_≡_, refl}

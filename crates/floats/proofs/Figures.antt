@@ -1,5 +1,5 @@
--- Figures of document 01 that concern floats, and values at which another order of operations gives another answer, over the definitions of `specs/`.
--- One table; each row computes. No proof cites this file. Assumes nothing.
+-- Figures of docs/RULES.md that concern floats, and values at which another order of operations gives another answer, over the definitions of
+-- `specs/`. One table; each row computes. No proof cites this file. Assumes nothing.
 use mathlib.Core.Path.{_≡_, refl}
 use mathlib.Core.Bool.{true, false}
 use Prim.Native.Nat.{ℕ}

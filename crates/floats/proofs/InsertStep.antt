@@ -25,7 +25,7 @@ half-value n h =
     round-exact binary32 false n 2 n 148 (zero-lt-suc 1) h (lt-of-lt-of-le (shl-lt 24 148 h) (lit≤ tt)) (sym (mul-assoc n (2 ^ 148) 2))
 
 -- 1 - s is from 0.5 to 1
-rest : {s : Float} → NonNeg s → T (le s half) → NonNeg (sub binary32 one s) × T (le half (sub binary32 one s))
+pub rest : {s : Float} → NonNeg s → T (le s half) → NonNeg (sub binary32 one s) × T (le half (sub binary32 one s))
 unfolding fits
 rest {s} q h =
     let g : num s * 2 ≤ 1 * den s = le→cross q (nonNeg 1 (negsuc 0)) h in
@@ -39,7 +39,7 @@ rest {s} q h =
     )
 
 -- the product is at most half of the count
-part : (n : ℕ) {s : Float} → n < 2 ^ 24 → NonNeg s → T (le s half)
+pub part : (n : ℕ) {s : Float} → n < 2 ^ 24 → NonNeg s → T (le s half)
     → NonNeg (mul binary32 (count n) s) × (num (mul binary32 (count n) s) * 2 ≤ n * den (mul binary32 (count n) s))
 part n {s} N q h =
     let p = count-nonNeg n (omega arith) in
@@ -58,14 +58,19 @@ part n {s} N q h =
     let m = nonNeg-of-le (round binary32 false a c) (round-sgn binary32 false a c) r most in
     rw (mul-is binary32 p q) (m, le-value y n 2 m v most)
 
-insert-some : (n : ℕ) {s : Float} → n < 2 ^ 24 → NonNeg s → T (le s half) → toUnsigned 64 (div binary32 (mul binary32 (count n) s) (sub binary32 one s)) ≤ n
-insert-some n {s} N q h =
+pub insert-quotient : (n : ℕ) {s : Float} → n < 2 ^ 24 → NonNeg s → T (le s half)
+    → let z = div binary32 (mul binary32 (count n) s) (sub binary32 one s) in Sgn false z × T (le z (count n))
+insert-quotient n {s} N q h =
     let p = count-nonNeg n (omega arith) in
     let x = part n N q h in
     let y = rest q h in
     let low : 1 * den (sub binary32 one s) ≤ num (sub binary32 one s) * 2 = omega (arith, le→cross (nonNeg 1 (negsuc 0)) (y .0) (y .1)) in
     let same : n * 2 * den (count n) ≤ num (count n) * (2 * 1) = omega (arith, count-cross n (omega arith)) in
-    let r = quotient-le binary32 n 2 1 2 (x .0) (y .0) p (ofInt-fits binary32 (pos n)) (zero-lt-suc 1) (zero-lt-suc 0) (x .1) low same in
+    quotient-le binary32 n 2 1 2 (x .0) (y .0) p (ofInt-fits binary32 (pos n)) (zero-lt-suc 1) (zero-lt-suc 0) (x .1) low same
+
+insert-some : (n : ℕ) {s : Float} → n < 2 ^ 24 → NonNeg s → T (le s half) → toUnsigned 64 (div binary32 (mul binary32 (count n) s) (sub binary32 one s)) ≤ n
+insert-some n {s} N q h =
+    let r = insert-quotient n N q h in
     cut-le (count n) (div binary32 (mul binary32 (count n) s) (sub binary32 one s)) n (count-value n (omega arith)) (r .0) (r .1)
 
 -- ---- s below zero: a quotient below zero or a NaN, which is cut to 0

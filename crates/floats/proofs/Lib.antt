@@ -15,6 +15,11 @@ pub mod InsertStep
 pub mod StepRules
 pub mod FastSpeeds
 pub mod PlayTime
+pub mod FewDigits
+pub mod Pace
+pub mod PaceSpeed
+pub mod InsertGrowth
+pub mod PaceSteps
 pub mod Facts
 pub mod Figures
 pub mod CutBits

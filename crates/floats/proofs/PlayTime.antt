@@ -1,4 +1,4 @@
--- Play time in a run from fresh. `Calm` values are finite, not negative and at most 2 ^ 100; 0 is one, and play time stays one as it grows by a write
+-- The moves of play time. `Calm` values are finite, not negative and at most 2 ^ 100; 0 is one, and play time stays one as it grows by a write
 -- (`grown-calm`) and as it falls to that of the frames left (`left-calm`). Assumes nothing.
 use mathlib.Core.Path.{_≡_, refl, sym, ap, _∙_}
 use mathlib.Core.Logic.{inl, inr}
@@ -84,10 +84,10 @@ most-pace : div binary32 maxPitch minPitch ≡ fin false 25 (pos 4)
 unfolding ofBits div
 most-pace = refl
 
-pace-ge : (speed pitch : Float) → T (le minPitch speed) → T (le speed maxPitch) → T (le minPitch pitch) → T (le pitch maxPitch)
-    → NonNeg (div binary32 speed pitch) × T (le (fin false 1 (negsuc 8)) (div binary32 speed pitch))
+pub pace-range : (speed pitch : Float) → T (le minPitch speed) → T (le speed maxPitch) → T (le minPitch pitch) → T (le pitch maxPitch)
+    → NonNeg (div binary32 speed pitch) × T (le (fin false 1 (negsuc 8)) (div binary32 speed pitch)) × T (le (div binary32 speed pitch) (fin false 25 (pos 4)))
 unfolding ofBits
-pace-ge speed pitch a b c d =
+pace-range speed pitch a b c d =
     let lo = nonNeg 13421773 (negsuc 27) in
     let hi = nonNeg 5 (pos 2) in
     let s = nonNeg-of-positive speed (between minPitch speed maxPitch tt tt a b) in
@@ -96,7 +96,7 @@ pace-ge speed pitch a b c d =
     let least = rw least-pace at (div-grows binary32 lo (s .0) hi (p .0) (lit< tt) (p .1) a d) in
     let most = rw most-pace at (div-grows binary32 (s .0) hi (p .0) lo (p .1) (lit< tt) b c) in
     let q = nonNeg-of-positive x (between (fin false 5368709 (negsuc 30)) x (fin false 25 (pos 4)) tt tt least most) .0 in
-    (q, cross→le (nonNeg 1 (negsuc 8)) q (omega (arith, le→cross (nonNeg 5368709 (negsuc 30)) q least)))
+    (q, cross→le (nonNeg 1 (negsuc 8)) q (omega (arith, le→cross (nonNeg 5368709 (negsuc 30)) q least)), most)
 
 no-growth : add binary32 ceiling (fin false 1 (pos 24)) ≡ ceiling
 unfolding add
@@ -107,7 +107,7 @@ pub grown-calm : (R n : ℕ) (play speed pitch : Float) → 1000 ≤ R → R ≤
 unfolding playTimeGrown
 grown-calm R n play speed pitch low high h a b c d calm =
     let t = time-le R n low high h in
-    let v = pace-ge speed pitch a b c d in
+    let v = pace-range speed pitch a b c d in
     let z = nonNeg 1 (pos 24) in
     let time = le→cross (t .0) (nonNeg 1 (pos 15)) (t .1) in
     let pace = le→cross (nonNeg 1 (negsuc 8)) (v .0) (v .1) in

@@ -1,4 +1,4 @@
--- Document 01, "Flush": the frames that it keeps at most. Definitions only.
+-- docs/RULES.md, "Read and flush": the frames that it keeps at most. Definitions only.
 use Prim.Native.Nat.{ℕ}
 use lib.Ieee.{Float, binary32, add, div, toUnsigned}
 use Rattle.floats.specs.Numbers.{half, count}

@@ -1,4 +1,4 @@
--- Document 01, "Rate." and "Volume.": N before its halving, and the gain. Definitions only.
+-- docs/RULES.md, "Rate" and "Volume": N before its halving, and the gain. Definitions only.
 use Prim.Native.Nat.{ℕ}
 use mathlib.Core.Bool.{false}
 use lib.IntN.{pos}

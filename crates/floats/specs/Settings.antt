@@ -1,4 +1,5 @@
--- Document 01, "Opening and settings": the ranges of the settings, the clamp, and the sample period. Definitions only.
+-- docs/RULES.md, "Opening and settings": the ranges of the settings, the clamp, and the sample period. Definitions
+-- only.
 use Prim.Native.Nat.{ℕ}
 use mathlib.Core.Bool.{cond}
 use lib.IntN.{pos}

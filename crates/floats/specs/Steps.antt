@@ -1,4 +1,4 @@
--- Document 01, "Stretch steps": which step is due at a local speed, its count of frames, and the time error after it,
+-- docs/RULES.md, "Stretch steps": which step is due at a local speed, its count of frames, and the time error after it,
 -- in the original's order of operations. Definitions only.
 use Prim.Native.Nat.{ℕ, _+_, max}
 use mathlib.Core.Bool.{Bool, cond, _&&_, _||_}

@@ -1,5 +1,5 @@
--- Document 01, "A write" and "Read": a sample in and out, play time, and the local speed with its test. Definitions
--- only.
+-- docs/RULES.md, "A write" and "Read and flush": a sample in and out, play time, and the local speed with its test.
+-- Definitions only.
 use Prim.Native.Nat.{ℕ}
 use mathlib.Core.Bool.{Bool, true, false, cond, _||_}
 use lib.IntN.{ℤ, pos}

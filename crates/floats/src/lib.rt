@@ -1,4 +1,4 @@
-// The float steps of document 01, in the original's order of operations. `specs/` says what each gives.
+// The float steps of docs/RULES.md, in the original's order of operations. `specs/` says what each gives.
 pub mod casts;
 mod narrowing;
 pub mod samples;

@@ -1,4 +1,5 @@
--- The four areas of samples that a call is lent (document 01, "Areas and refusals"). Definitions only. Assumes nothing.
+-- The four areas of samples that a call is lent (docs/RULES.md, "Areas and refusals"). Definitions only. Assumes
+-- nothing.
 use mathlib.Core.List.{List}
 use lib.IntN.{ℤ}
 

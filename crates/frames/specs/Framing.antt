@@ -1,4 +1,4 @@
--- An area's samples as frames. Definitions only. Assumes nothing.
+-- docs/RULES.md, "What a stream is": an area's samples as frames. Definitions only. Assumes nothing.
 use mathlib.Core.Path.{_≡_}
 use mathlib.Core.List.{List, [], _∷_, _++_}
 use Prim.Native.Nat.{ℕ, zero, suc, _+_, _*_, _≤_, _<_}

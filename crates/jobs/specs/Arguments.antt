@@ -20,5 +20,6 @@ askedOf j =
 -- a job that is asked for has each number in its range
 abbrev pub AskedInRange : Asked → Type 0
 AskedInRange Asked.Help = Unit {0}
+AskedInRange Asked.Version = Unit {0}
 AskedInRange (Asked.Wrong place) = Unit {0}
 AskedInRange (Asked.Run j) = askedOf j ≡ Asked.Run j

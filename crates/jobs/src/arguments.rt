@@ -1,4 +1,5 @@
-// The arguments behind the options: none, `--help`, or the numbers rate, channels, speed, pitch and, if wanted, volume.
+// The arguments behind the options: none, `--help`, `--version`, or the numbers rate, channels, speed, pitch and, if
+// wanted, volume.
 use crate::Asked;
 use crate::Job;
 use crate::options::Options;
@@ -124,6 +125,9 @@ pub fn read(with_status: bool) -> Asked
     }
     if count == before + 2 && is_word(before + 1, b"--help") {
         return Asked::Help;
+    }
+    if count == before + 2 && is_word(before + 1, b"--version") {
+        return Asked::Version;
     }
     if is_option(before + 1) || is_option(before + 5) {
         return Asked::Wrong(6);

@@ -25,6 +25,7 @@ pub struct Job {
 // or stands where none may, 7 for a map without a name.
 pub enum Asked {
     Help,
+    Version,
     Wrong(usize),
     Run(Job),
 }

@@ -53,18 +53,13 @@ pub(crate) fn is_option(place: usize) -> bool {
     text[0] == b'-' && text[1] == b'-'
 }
 
-// Opens the file of the map, whose name is the argument at this place, and answers a descriptor, or −1 and says why.
+// Opens the file of the map, whose name is the argument at this place, and answers a descriptor, or −1, and then errno
+// says why.
 pub fn open_map(place: usize) -> i32 {
     let mut name = io::buffer();
     let n = os::arg(place, &mut name);
     if n == 0 && os::errno() != 0 {
-        os::fail(b"skim: --map");
         return -1;
     }
-    let fd = os::open_overwrite(&name[..n]);
-    if fd < 0 {
-        os::fail(b"skim: --map");
-        return -1;
-    }
-    fd
+    os::open_overwrite(&name[..n])
 }

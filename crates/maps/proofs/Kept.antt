@@ -1,9 +1,15 @@
--- Parts of the map written: none and one more (map-same, map-trans), and nothing goes on again (map-still). Assumes nothing.
-use mathlib.Core.Path.{_≡_, refl, sym, _∙_}
+-- Parts of the map written: none and one more (map-same, map-trans); a stream that takes more did so before (map-takes), and a reel of a served job
+-- stays one (map-serving). Assumes nothing.
+use mathlib.Core.Path.{_≡_, refl, sym, ap, _∙_}
 use mathlib.Core.Bool.{true}
+use Rattle.plans.specs.declared.Plan.{Plan}
 use Rattle.reels.specs.declared.reel.Reel.{Reel}
-use Rattle.reels.specs.Reels.{going}
-use Rattle.reels.proofs.Going.{going-parts, going-of, same-input, input-trans, same-notes, notes-trans}
+use Rattle.stream.specs.declared.SonicStream.{SonicStream}
+use Rattle.reels.specs.States.{sound}
+use Rattle.reels.specs.Serving.{Serving}
+use Rattle.reels.specs.Reels.{takesMore}
+use Rattle.reels.proofs.Going.{stays-takes, same-input, input-trans, same-notes, notes-trans}
+use Rattle.reels.proofs.Serving.{serving-stays}
 use Rattle.maps.specs.Maps.{MapWritten}
 
 pub map-same : {r : Reel} → MapWritten r r
@@ -13,37 +19,30 @@ map-same =
       stream-kept = refl;
       written-kept = refl;
       out-kept = refl;
-      stalled-kept = refl;
-      place-kept = refl;
-      refusal-kept = refl;
       flushed-kept = refl;
       notes-kept = same-notes;
-      failed-stays = λ e. e;
+      state-stays = λ e. refl;
       map-stays = λ e. refl;
+      only-kept = λ o. o;
     }
 
 pub map-trans : {r s t : Reel} → MapWritten r s → MapWritten s t → MapWritten r t
-map-trans a b =
+map-trans {r} {s} {t} a b =
+    let before : sound (t .state) ≡ true → sound (s .state) ≡ true = λ e. ap sound (sym (b .state-stays e)) ∙ e in
     record {
       input-kept = input-trans (a .input-kept) (b .input-kept);
       stream-kept = b .stream-kept ∙ a .stream-kept;
       written-kept = b .written-kept ∙ a .written-kept;
       out-kept = b .out-kept ∙ a .out-kept;
-      stalled-kept = b .stalled-kept ∙ a .stalled-kept;
-      place-kept = b .place-kept ∙ a .place-kept;
-      refusal-kept = b .refusal-kept ∙ a .refusal-kept;
       flushed-kept = b .flushed-kept ∙ a .flushed-kept;
       notes-kept = notes-trans (a .notes-kept) (b .notes-kept);
-      failed-stays = λ e. a .failed-stays (b .failed-stays e);
-      map-stays = λ e. b .map-stays e ∙ a .map-stays (b .failed-stays e);
+      state-stays = λ e. b .state-stays e ∙ a .state-stays (before e);
+      map-stays = λ e. b .map-stays e ∙ a .map-stays (before e);
+      only-kept = λ o. b .only-kept (a .only-kept o);
     }
 
-pub map-still : {r t : Reel} → MapWritten r t → going t ≡ true → going r ≡ true
-map-still {r} {t} w e =
-    let g = going-parts t e in
-    going-of r
-    (record {
-      unstalled = sym (w .stalled-kept) ∙ g .unstalled;
-      unfailed = w .failed-stays (g .unfailed);
-      unrefused = sym (w .refusal-kept) ∙ g .unrefused;
-    })
+pub map-takes : (p : Plan) {r t : Reel} → MapWritten r t → takesMore p t ≡ true → takesMore p r ≡ true
+map-takes p {r} {t} w e = stays-takes p r t (ap (λ (s : SonicStream). s .held .0) (w .stream-kept)) (w .state-stays) e
+
+pub map-serving : (p : Plan) {r t : Reel} → MapWritten r t → Serving p r → Serving p t
+map-serving p {r} {t} w = serving-stays p r t (w .state-stays) (w .only-kept) (w .stream-kept)

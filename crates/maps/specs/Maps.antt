@@ -1,13 +1,16 @@
 -- Frames of a reel of which nothing came out: what a call notes of them, and the run after a part of the map was
 -- written. Definitions only. Assumes nothing.
 use mathlib.Core.Path.{_≡_}
-use mathlib.Core.Bool.{false, cond, _&&_}
+use mathlib.Core.Bool.{Bool, true, cond, _&&_}
 use Prim.Native.Nat.{ℕ, _-_}
 use lib.Dec.{eqb}
 use Rattle.passes.specs.declared.Span.{Span}
 use Rattle.passes.specs.declared.Passes.{Passes}
 use Rattle.passes.specs.Passes.{noted}
 use Rattle.reels.specs.declared.reel.Reel.{Reel}
+use Rattle.reels.specs.declared.state.RunState.{RunState}
+use Rattle.reels.specs.States.{sound}
+use Rattle.reels.specs.Serving.{OnlyTotals}
 use Rattle.reels.specs.Reels.{SameInput, SameNotes}
 
 -- frames by the first of them and the first behind them
@@ -18,9 +21,9 @@ spanOf first end = record { first = first; frames = end - first }
 unfoldable pub notedWrite : Passes → ℕ → ℕ → ℕ → Passes
 notedWrite p passed first end = cond (eqb passed 0) p (noted p passed (spanOf first end))
 
--- after a flush that was accepted and gave no frame: the frames that were held
-unfoldable pub notedFlush : Passes → ℕ → ℕ → ℕ → ℕ → Passes
-notedFlush p refusal gave first end = cond (eqb refusal 0 && eqb gave 0) (noted p 0 (spanOf first end)) p
+-- after a flush that gave no frame: the frames that were held, unless they stand behind a stall
+unfoldable pub notedFlush : Passes → Bool → ℕ → ℕ → ℕ → Passes
+notedFlush p fine gave first end = cond (fine && eqb gave 0) (noted p 0 (spanOf first end)) p
 
 -- ---- the map
 
@@ -30,10 +33,21 @@ pub record MapWritten (r r' : Reel) : Type 0 where
   pub stream-kept : r' .stream ≡ r .stream
   pub written-kept : r' .written ≡ r .written
   pub out-kept : r' .«frames_out» ≡ r .«frames_out»
-  pub stalled-kept : r' .stalled ≡ r .stalled
-  pub place-kept : r' .«stalled_at» ≡ r .«stalled_at»
-  pub refusal-kept : r' .refusal ≡ r .refusal
   pub flushed-kept : r' .flushed ≡ r .flushed
   pub notes-kept : SameNotes r r'
-  pub failed-stays : r' .failed ≡ false → r .failed ≡ false
-  pub map-stays : r' .failed ≡ false → r' .map ≡ r .map
+  pub state-stays : sound (r' .state) ≡ true → r' .state ≡ r .state
+  pub map-stays : sound (r' .state) ≡ true → r' .map ≡ r .map
+  pub only-kept : OnlyTotals (r .state) → OnlyTotals (r' .state)
+
+-- the frames from a stall on, of a run that ended stalled
+abbrev pub stalledFrom : ℕ → RunState → Span
+stalledFrom end RunState.Going = spanOf 0 0
+stalledFrom end (RunState.Stalled at) = spanOf at end
+stalledFrom end (RunState.FlushStalled at) = spanOf 0 0
+stalledFrom end (RunState.Refused number) = spanOf 0 0
+stalledFrom end RunState.ReadFailed = spanOf 0 0
+stalledFrom end RunState.WriteFailed = spanOf 0 0
+
+-- those, if no flush gave a frame of them
+abbrev pub unskimmedOf : Reel → Span
+unskimmedOf r = cond (eqb (r .gave) 0) (stalledFrom (r .«frames_in») (r .state)) (spanOf 0 0)

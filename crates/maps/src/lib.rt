@@ -6,11 +6,13 @@ use passes::map;
 use plans::Plan;
 use reels::reel::Reel;
 use reels::reel::first_held;
-use stream::refusals;
+use reels::state::RunState;
+use reels::state::is_fine;
 ghost use mathlib.Core.Path.{_≡_};
 ghost use Rattle.period.specs.Rates.{InLimits};
 ghost use Rattle.reels.specs.Reels.{firstHeld};
-ghost use Rattle.maps.specs.Maps.{spanOf, notedWrite, notedFlush, MapWritten};
+ghost use Rattle.reels.specs.States.{fine};
+ghost use Rattle.maps.specs.Maps.{spanOf, notedWrite, notedFlush, MapWritten, unskimmedOf};
 
 // Frames of a reel, by the first of them and the first behind them.
 fn span(first: u64, end: u64) -> Span
@@ -39,12 +41,13 @@ pub fn noted_write(reel: Reel) -> Passes
     reel.passes.note(reel.passed, span(reel.from, end))
 }
 
-// After the flush: if no frame waits, nothing came of the frames that were held.
+// After the flush: if no frame waits, nothing came of the frames that were held. Those behind a stall are not noted.
 pub fn noted_flush(reel: Reel) -> Passes
-    ensures { λ r. ⌜ r ≡ notedFlush (reel .passes) (reel .refusal) (reel .stream .waiting .0) (reel .from)
+    ensures { λ r. ⌜ r ≡ notedFlush (reel .passes) (fine (reel .state)) (reel .stream .waiting .0) (reel .from)
         (reel .written) ⌝ }
 {
-    if reel.refusal != refusals::ACCEPTED {
+    let state = reel.state;
+    if !is_fine(state) {
         return reel.passes;
     }
     if reel.stream.waiting.0 > 0 {
@@ -58,9 +61,8 @@ fn mapped(mut reel: Reel, taken: bool) -> Reel
     ensures { λ r. ⌜ MapWritten reel r ⌝ }
 {
     if !taken {
-        os::fail(b"skim: the map");
-        reel.failed = true;
         reel.map = Reel::NO_MAP;
+        return reel.stopped(RunState::WriteFailed);
     }
     reel
 }
@@ -100,16 +102,35 @@ pub fn put_ended(reel: Reel, before: Span, plan: Plan) -> Reel
     put_line(reel, before, plan)
 }
 
+// The frames from a stall on, if the run ended stalled and its flush, if it had one, gave no frame; otherwise none.
+fn unskimmed(reel: Reel) -> Span
+    ensures { λ r. ⌜ r ≡ unskimmedOf reel ⌝ }
+{
+    let none = Span {
+        first: 0,
+        frames: 0,
+    };
+    if reel.gave > 0 {
+        return none;
+    }
+    let state = reel.state;
+    match state {
+        RunState::Going => none,
+        RunState::Stalled(at) => span(at, reel.frames_in),
+        RunState::FlushStalled(_) => none,
+        RunState::Refused(_) => none,
+        RunState::ReadFailed => none,
+        RunState::WriteFailed => none,
+    }
+}
+
 // Ends the map, with what was the last stretch before the flush: writes its line if another has begun, that of the
-// last stretch, and that of the frames from the place on where a write stalled.
+// last stretch, and that of the frames from a stall on.
 pub fn end(reel: Reel, before: Span, plan: Plan) -> Reel
     requires { ⌜ InLimits (plan .rate) (plan .channels) ⌝ }
     ensures { λ r. ⌜ MapWritten reel r ⌝ }
 {
     let last = reel.passes.last;
     let after = put_line(put_ended(reel, before, plan), last, plan);
-    if reel.stalled && !reel.flushed {
-        return put_line(after, span(reel.stalled_at, reel.frames_in), plan);
-    }
-    after
+    put_line(after, unskimmed(reel), plan)
 }

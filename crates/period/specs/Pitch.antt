@@ -1,5 +1,5 @@
--- `find_pitch_period`, on the samples from the position on: which are searched, when the previous period is used, and
--- the record. Definitions only. Assumes nothing.
+-- docs/RULES.md, "Period search": `find_pitch_period`, on the samples from the position on: which are searched, when
+-- the previous period is used, and the record. Definitions only. Assumes nothing.
 use Prim.Native.Nat.{ℕ, _+_, _-_, _*_, _/_, _≤_, min, max}
 use mathlib.Core.Bool.{Bool, not, cond, _&&_}
 use mathlib.Core.Path.{_≡_}

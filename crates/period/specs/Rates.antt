@@ -1,4 +1,4 @@
--- What follows from the rate R (document 01, "Opening and settings" and "Period search"). Definitions only.
+-- What follows from the rate R (docs/RULES.md, "Opening and settings" and "Period search"). Definitions only.
 -- Assumes nothing.
 use Prim.Native.Nat.{ℕ, _*_, _/_, _≤_}
 use mathlib.Core.Bool.{cond}

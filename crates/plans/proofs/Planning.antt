@@ -1,31 +1,30 @@
 -- The sizes that a plan is made of, in this order:
 --   period-most, shortest-least, shortest-most            the periods
---   growth-most, fill-most                                the growth, and what a write fills the input up to
---   mostHeld, mostStaged, mostMade                        the most frames of any stream in order
---   held-most, staged-most, scaled-most, made-most        that it has no more; samples-most: in so many channels
---   no-input, no-stage, no-output, planned                the service by the three tests
+--   growth-least, fill-most                               the growth, and what a write fills the input up to
+--   block-within, rates-in, limit-most                    what the limit is made of
+--   planned, unserved                                     the service by its test
 --   usable-of                                             what a plan has shown
 -- Assumes nothing.
-use mathlib.Core.Path.{_≡_, subst}
+use mathlib.Core.Path.{_≡_, refl, subst}
 use mathlib.Core.Bool.{Bool, true, false, cond}
-use Prim.Native.Nat.{ℕ, _+_, _-_, _*_, _/_, _≤_, min}
-use native.Mathlib.Nat.{le-trans, mul-le-mul, div-le-self, div-mul-le-self, div-lt-iff-lt-mul, min-le-right}
+use Prim.Native.Nat.{ℕ, _+_, _-_, _*_, _/_, _≤_}
+use native.Mathlib.Nat.{le-trans, div-le-self, div-mul-le-self, div-lt-iff-lt-mul, le-div-iff-mul-le, min-le-left, min-le-right}
 use native.Mathlib.Omega.{arith}
 use lib.Dec.{leb}
-use lib.Ieee.{Float, binary32, mul, div, toUnsigned}
-use Rattle.floats.specs.Numbers.{two}
+use borrow.Author.Tests.{leb-true}
+use lib.Ieee.{Float, binary32, div, toUnsigned}
 use Rattle.floats.specs.Settings.{minPitch, maxPitch}
 use Rattle.period.specs.Rates.{minPeriod, maxPeriod, maxRequired, InLimits}
 use Rattle.search.specs.Search.{longestPeriod}
-use Rattle.rate.specs.Halving.{maxHalvedRate, ratesOf}
+use Rattle.rate.specs.Halving.{ratesOf}
 use Rattle.rate.proofs.Halving.{RatesWithin, rates-within}
 use Rattle.stream.specs.declared.SonicStream.{SonicStream}
 use Rattle.stream.specs.Refusals.{inOrder}
 use Rattle.stream.proofs.InOrder.{limits-of, tests-of, ranges-of, within-range}
 use Rattle.plans.specs.declared.Plan.{Plan}
 use Rattle.plans.specs.declared.Service.{Service}
-use Rattle.plans.specs.Plans.{inputArea, stageArea, outputArea, scratchArea, blockSamples, tailFrames}
-use Rattle.plans.specs.Plans.{growthOf, fillTo, heldMost, stagedMost, madeMost, served, planOf, serviceOf, Usable}
+use Rattle.plans.specs.Plans.{inputArea, blockSamples}
+use Rattle.plans.specs.Plans.{growthOf, fillTo, heldMost, limitOf, served, planOf, serviceOf, Usable}
 
 -- ---- periods, growth, filling
 
@@ -35,10 +34,9 @@ period-most {rate} l = omega (arith, div-lt-iff-lt-mul {k = 65} {x = rate} {y = 
 pub shortest-least : {rate channels : ℕ} → InLimits rate channels → 1 ≤ minPeriod rate
 shortest-least l = omega (arith, l .rate-low)
 
-growth-most : (speed pitch : Float) (longest : ℕ) → growthOf speed pitch longest ≤ longest + 1
+pub growth-least : (speed pitch : Float) (longest : ℕ) → 1 ≤ growthOf speed pitch longest
 unfolding growthOf
-growth-most speed pitch longest =
-    omega (arith, min-le-right (toUnsigned 64 (mul binary32 (div binary32 pitch speed) two)) longest)
+growth-least speed pitch longest = omega arith
 
 pub shortest-most : (rate : ℕ) → minPeriod rate ≤ maxRequired rate
 shortest-most rate = omega arith
@@ -54,20 +52,14 @@ fill-most speed pitch shortest required few = go (leb shortest s)
     go true = omega arith
     go false = omega arith
 
--- ---- the most frames of any stream in order
+-- ---- the limit
 
-abbrev pub mostHeld : ℕ
-mostHeld = 3 * scratchArea
-
-abbrev pub mostStaged : ℕ
-mostStaged = mostHeld * (longestPeriod + 1) + tailFrames
-
-abbrev pub mostMade : ℕ
-mostMade = mostStaged * maxHalvedRate + 2 + blockSamples
-
--- so many frames in so many channels
-pub samples-most : (n channels most : ℕ) → n ≤ most → channels ≤ 32 → n * channels ≤ most * 32
-samples-most n channels most h c = mul-le-mul {n₁ = n} {m₁ = channels} {n₂ = most} {m₂ = 32} h c
+-- an area of at least 32 blocks and two frames more, in frames behind a block and two
+pub block-within : (area channels : ℕ) → 1 ≤ channels → channels ≤ 32 → blockSamples + 64 ≤ area
+    → blockSamples / channels + 2 ≤ area / channels
+block-within area channels one few big =
+    let whole = div-mul-le-self blockSamples channels in
+    le-div-iff-mul-le {k = channels} {x = blockSamples / channels + 2} {y = area} (omega arith) .1 (omega arith)
 
 module _ (s : SonicStream) (o : inOrder s ≡ true) where
   pub rates-in : RatesWithin (ratesOf (s .rate) (s .pitch))
@@ -76,58 +68,37 @@ module _ (s : SonicStream) (o : inOrder s ≡ true) where
       let p = within-range minPitch maxPitch (s .pitch) (ranges-of s (tests-of s o .settings) .pitch) in
       rates-within (s .rate) (s .pitch) (l .rate-low) (l .rate-high) (p .0) (p .1)
 
-  pub held-most : heldMost s ≤ mostHeld
-  held-most = omega (arith, period-most (limits-of s o))
-
-  pub staged-most : stagedMost s ≤ mostStaged
-  staged-most =
-      let growth : ℕ = growthOf (s .speed) (s .pitch) (maxPeriod (s .rate)) in
-      let few : growth ≤ longestPeriod + 1 = omega (arith, growth-most (s .speed) (s .pitch) (maxPeriod (s .rate)), period-most (limits-of s o)) in
-      omega (arith, mul-le-mul {n₁ = heldMost s} {m₁ = growth} {n₂ = mostHeld} {m₂ = longestPeriod + 1} held-most few)
-
-  pub scaled-most : stagedMost s * ratesOf (s .rate) (s .pitch) .new ≤ mostStaged * maxHalvedRate
-  scaled-most =
-      mul-le-mul {n₁ = stagedMost s} {m₁ = ratesOf (s .rate) (s .pitch) .new} {n₂ = mostStaged} {m₂ = maxHalvedRate} staged-most (rates-in .new-most)
-
-  pub quotient-most : stagedMost s * ratesOf (s .rate) (s .pitch) .new / ratesOf (s .rate) (s .pitch) .old ≤ mostStaged * maxHalvedRate
-  quotient-most = le-trans (div-le-self (stagedMost s * ratesOf (s .rate) (s .pitch) .new) (ratesOf (s .rate) (s .pitch) .old)) scaled-most
-
-  pub made-most : madeMost s ≤ mostMade
-  made-most = omega (arith, quotient-most, div-le-self blockSamples (s .channels))
+pub limit-most : (s : SonicStream) → limitOf s ≤ inputArea
+unfolding limitOf
+limit-most s =
+    le-trans (min-le-right (heldMost s) _) (le-trans (min-le-left (inputArea / s .channels) _) (div-le-self inputArea (s .channels)))
 
 -- ---- the service
 
 module _ (s : SonicStream) where
-  pub no-input : leb (heldMost s * s .channels) inputArea ≡ false → Service.None ≡ serviceOf s
+  pub planned : leb (3 * maxRequired (s .rate)) (limitOf s) ≡ true → Service.Planned (planOf s) ≡ serviceOf s
   unfolding serviceOf
-  no-input i = rw i
+  planned e = rw e
 
-  pub no-stage : leb (heldMost s * s .channels) inputArea ≡ true → leb (stagedMost s * s .channels) stageArea ≡ false → Service.None ≡ serviceOf s
+  pub unserved : leb (3 * maxRequired (s .rate)) (limitOf s) ≡ false → Service.None ≡ serviceOf s
   unfolding serviceOf
-  no-stage i t = rw (i, t)
+  unserved e = rw e
 
-  pub no-output : leb (heldMost s * s .channels) inputArea ≡ true → leb (stagedMost s * s .channels) stageArea ≡ true
-      → leb (madeMost s * s .channels) outputArea ≡ false → Service.None ≡ serviceOf s
-  unfolding serviceOf
-  no-output i t m = rw (i, t, m)
-
-  pub planned : leb (heldMost s * s .channels) inputArea ≡ true → leb (stagedMost s * s .channels) stageArea ≡ true
-      → leb (madeMost s * s .channels) outputArea ≡ true → Service.Planned (planOf s) ≡ serviceOf s
-  unfolding serviceOf
-  planned i t m = rw (i, t, m)
-
-  plan-usable : InLimits (s .rate) (s .channels) → Usable (planOf s)
-  plan-usable l =
+  plan-usable : InLimits (s .rate) (s .channels) → served s ≡ true → Usable (planOf s)
+  plan-usable l e =
       record {
         limits = l;
         block-fits = div-mul-le-self blockSamples (s .channels);
-        full-fits = omega (arith, fill-most (s .speed) (s .pitch) (minPeriod (s .rate)) (maxRequired (s .rate)) (shortest-most (s .rate)), period-most l);
+        required-some = omega (arith, l .rate-low);
+        full-fits = fill-most (s .speed) (s .pitch) (minPeriod (s .rate)) (maxRequired (s .rate)) (shortest-most (s .rate));
+        calls-fit = leb-true (3 * maxRequired (s .rate)) (limitOf s) e;
+        limit-fits = limit-most s;
       }
 
   pub usable-of : (p : Plan) → InLimits (s .rate) (s .channels) → serviceOf s ≡ Service.Planned p → Usable p
   unfolding serviceOf
-  usable-of p l = go (served s)
+  usable-of p l = go (served s) refl
     where
-      go : (b : Bool) → cond b (Service.Planned (planOf s)) Service.None ≡ Service.Planned p → Usable p
-      go true e = let same : planOf s ≡ p = cc in subst Usable same (plan-usable l)
-      go false e = let z : _≡_ {A = ℕ} 0 1 = cc in absurd (omega arith)
+      go : (b : Bool) → served s ≡ b → cond b (Service.Planned (planOf s)) Service.None ≡ Service.Planned p → Usable p
+      go true t e = let same : planOf s ≡ p = cc in subst Usable same (plan-usable l t)
+      go false t e = let z : _≡_ {A = ℕ} 0 1 = cc in absurd (omega arith)

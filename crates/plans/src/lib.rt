@@ -1,24 +1,23 @@
-// The areas' sizes, and the jobs that they serve: those of which no call wants more room. Why none does is argued here
-// and not proved, so a refusal is told all the same. `specs/Plans.antt` says what is answered.
+// The areas' sizes, and the jobs that they serve: those of which no call wants more room. `specs/Plans.antt` says what
+// is answered; that no call of a job served is refused, but for a total past 64 bits, is proved in the crate `serving`.
 use frames::Frames;
 use frames::Samples;
 use stream::SonicStream;
 ghost use mathlib.Core.Path.{_≡_};
 ghost use mathlib.Core.Bool.{true};
-ghost use Prim.Native.Nat.{_*_, _^_, _≤_, _<_, min};
-ghost use lib.Dec.{leb};
+ghost use Prim.Native.Nat.{_≤_, min};
 ghost use Rattle.search.specs.Search.{longestPeriod};
 ghost use Rattle.stream.specs.Refusals.{inOrder};
-ghost use Rattle.plans.specs.Plans.{scratchArea, growthOf, fillTo, heldMost, stagedMost, madeMost, planOf};
-ghost use Rattle.plans.specs.Plans.{serviceOf};
+ghost use Rattle.plans.specs.Plans.{scratchArea, growthOf, fillTo, heldWithin, outputRoom, heldMost, limitOf};
+ghost use Rattle.plans.specs.Plans.{planOf, serviceOf};
 
 // The samples of each area. They serve 16,000 Hz in one channel at every speed and pitch, and 44,100 Hz in two at every
 // speed.
 pub const INPUT_AREA: usize = 196_608;
 
-pub const STAGE_AREA: usize = 524_288;
+pub const STAGE_AREA: usize = 1_048_576;
 
-pub const OUTPUT_AREA: usize = 524_288;
+pub const OUTPUT_AREA: usize = 1_048_576;
 
 // What a search at 500,000 Hz looks at.
 pub const SCRATCH_AREA: usize = 15_384;
@@ -31,13 +30,15 @@ pub const BLOCK_BYTES: usize = 8_192;
 // The frames that rate conversion keeps in the tail.
 const TAIL_FRAMES: usize = 12;
 
-// How a job is done: its rate and channels, the samples of a block in whole frames, and the frames that a write fills
-// the input up to.
+// How a job is done: its rate and channels, the samples of a block in whole frames, the frames that a write fills the
+// input up to, the frames that a search looks at, and the most frames that a call may hold.
 pub struct Plan {
     pub rate: u64,
     pub channels: usize,
     pub block: usize,
     pub full: usize,
+    pub required: usize,
+    pub limit: usize,
 }
 
 // Whether the areas serve a job.
@@ -54,12 +55,13 @@ fn least(a: usize, b: usize) -> usize
 
 // The most frames that the stretch makes of each that it uses. A skip step makes fewer than it uses. An insert step of
 // k frames makes period + k, where k is at least 1, and more than half of period·s/(1 − s) where that is 1 or more; s
-// is speed/pitch. So it makes fewer than 2/s for each, and at most the period and one.
+// is speed/pitch. So it makes fewer than 2/s for each, and at most the period and one. s of a call is rounded, which
+// 3/s leaves room for.
 fn growth(speed: f32, pitch: f32, longest: usize) -> usize
     requires { ⌜ longest ≤ longestPeriod ⌝ }
     ensures { λ r. ⌜ r ≡ growthOf speed pitch longest ⌝ }
 {
-    let most = floats::casts::f32_to_usize(pitch / speed * 2.0);
+    let most = floats::casts::f32_to_usize(pitch / speed * 3.0);
     least(most, longest) + 1
 }
 
@@ -81,84 +83,96 @@ fn fill_to(speed: f32, pitch: f32, shortest: usize, required: usize) -> usize
     }
 }
 
-// The most frames held in a call. A flush adds two times `required` to the frames held, so that they are fewer than
-// three times that.
-fn held_most(stream: SonicStream) -> Frames
-    requires { ⌜ inOrder stream ≡ true ⌝ }
-    ensures { λ r. ⌜ r .0 ≡ heldMost stream ⌝ }
+// The most frames that a call may hold so that what the stretch makes of them, behind the tail, is at most `room`
+// frames.
+fn held_within(room: usize, growth: usize) -> usize
+    requires { ⌜ 1 ≤ growth ⌝ }
+    ensures { λ r. ⌜ r ≡ heldWithin room growth ⌝ }
 {
-    Frames(3 * period::max_required(stream.rate as usize).0)
+    let stretched = if room < TAIL_FRAMES {
+        0
+    } else {
+        room - TAIL_FRAMES
+    };
+    stretched / growth
 }
 
-// The most frames in the stage: those stretched of the frames held, behind the tail.
-fn staged_most(stream: SonicStream) -> Frames
+// The stretched frames whose frames at the new rate the output has room for, behind fewer than a block.
+fn output_room(stream: SonicStream) -> usize
     requires { ⌜ inOrder stream ≡ true ⌝ }
-    ensures { λ r. ⌜ r .0 ≡ stagedMost stream ⌝ }
+    ensures { λ r. ⌜ r ≡ outputRoom stream ⌝ }
 {
-    let held = held_most(stream);
-    let growth = growth(
-        stream.speed,
-        stream.pitch,
-        period::max_period(stream.rate as usize),
-    );
-    Frames(held.0 * growth + TAIL_FRAMES)
-}
-
-// The most frames in the output: those of a call, behind fewer than a block.
-fn made_most(stream: SonicStream) -> Frames
-    requires { ⌜ inOrder stream ≡ true ⌝ }
-    ensures { λ r. ⌜ r .0 ≡ madeMost stream ⌝ }
-{
-    let staged = staged_most(stream);
+    let channels = stream.channels as usize;
     let rates = rate::rates_of(stream.rate, stream.pitch);
-    let block = Samples(BLOCK_SAMPLES).frames(stream.channels as usize);
-    Frames(staged.0 * rates.new / rates.old + 2 + block.0)
+    let area = Samples(OUTPUT_AREA).frames(channels).0;
+    let block = Samples(BLOCK_SAMPLES).frames(channels).0;
+    (area - 2 - block) * rates.old / rates.new
 }
 
-// Whether an area has room for so many frames.
-fn has_room(area: usize, count: Frames, channels: usize) -> bool
-    requires { ⌜ count .0 * channels < 2 ^ 64 ⌝ }
-    ensures { λ r. ⌜ r ≡ leb (count .0 * channels) area ⌝ }
+// The most frames held for which the growth is a bound. A call goes by a speed that is worked out from play time, which
+// is rounded at each call. Above 2 the stretch only skips, and any will do.
+fn held_most(stream: SonicStream) -> usize
+    requires { ⌜ inOrder stream ≡ true ⌝ }
+    ensures { λ r. ⌜ r ≡ heldMost stream ⌝ }
 {
-    count.samples(channels).0 <= area
+    let s = floats::casts::f32_to_usize(stream.speed / stream.pitch);
+    if s >= 2 {
+        INPUT_AREA
+    } else {
+        3 * period::max_required(stream.rate as usize).0
+    }
+}
+
+// The most frames that a call may hold: no area is too small for them, nor for what is made of them.
+fn limit(stream: SonicStream) -> Frames
+    requires { ⌜ inOrder stream ≡ true ⌝ }
+    ensures { λ r. ⌜ r .0 ≡ limitOf stream ⌝ }
+{
+    let channels = stream.channels as usize;
+    let held = held_most(stream);
+    let longest = period::max_period(stream.rate as usize);
+    let growth = growth(stream.speed, stream.pitch, longest);
+    let staged = held_within(Samples(STAGE_AREA).frames(channels).0, growth);
+    let made = held_within(output_room(stream), growth);
+    let taken = Samples(INPUT_AREA).frames(channels).0;
+    Frames(least(held, least(taken, least(staged, made))))
 }
 
 // How a job is done that the areas serve.
-fn plan_of(stream: SonicStream) -> Plan
-    requires { ⌜ inOrder stream ≡ true ⌝ }
+fn plan_of(stream: SonicStream, limit: Frames) -> Plan
+    requires { ⌜ (inOrder stream ≡ true) × (limit .0 ≡ limitOf stream) ⌝ }
     ensures { λ r. ⌜ r ≡ planOf stream ⌝ }
 {
     let channels = stream.channels as usize;
     let rate = stream.rate as usize;
     let block = Samples(BLOCK_SAMPLES).frames(channels);
+    let required = period::max_required(rate);
     let full = fill_to(
         stream.speed,
         stream.pitch,
         period::min_period(rate),
-        period::max_required(rate).0,
+        required.0,
     );
     Plan {
         rate: stream.rate as u64,
         channels,
         block: block.samples(channels).0,
         full,
+        required: required.0,
+        limit: limit.0,
     }
 }
 
-// The plan of a job, if each area has the room.
+// The plan of a job, if three times `required` are no more than the limit: a write fills the input up to that at the
+// most, and a flush adds two times `required` to fewer frames than `required`.
 pub fn serve(stream: SonicStream) -> Service
     requires { ⌜ inOrder stream ≡ true ⌝ }
     ensures { λ r. ⌜ r ≡ serviceOf stream ⌝ }
 {
-    let channels = stream.channels as usize;
-    if !has_room(INPUT_AREA, held_most(stream), channels) {
-        return Service::None;
+    let limit = limit(stream);
+    let required = period::max_required(stream.rate as usize);
+    if 3 * required.0 <= limit.0 {
+        return Service::Planned(plan_of(stream, limit));
     }
-    if !has_room(STAGE_AREA, staged_most(stream), channels) {
-        return Service::None;
-    }
-    if !has_room(OUTPUT_AREA, made_most(stream), channels) {
-        return Service::None;
-    }
-    Service::Planned(plan_of(stream))
+    Service::None
 }

@@ -14,7 +14,7 @@ pub fn print(text: &[u8]) {
     io::write_all(STDOUT_FILENO, text);
 }
 
-// Prints a space and a count, or a number of document 01, in decimal.
+// Prints a space and a count, or the number of a refusal or an outcome, in decimal.
 pub fn print_count(n: u64) {
     print(b" ");
     io::print_decimal(STDOUT_FILENO, n);

@@ -5,3 +5,4 @@ mod Finishing
 mod Working
 pub mod Claims
 pub mod Told
+pub mod Amounts

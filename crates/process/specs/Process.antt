@@ -1,5 +1,5 @@
--- Document 01, "A write" and "Flush", with no limit of room: what the calls' definitions and the ledger go by.
--- Definitions only. Assumes nothing.
+-- docs/RULES.md, "A write" and "Read and flush", with no limit of room: what the calls' definitions and the ledger go
+-- by. Definitions only. Assumes nothing.
 use mathlib.Core.List.{List, [], _++_, map}
 use Prim.Native.Nat.{ℕ, _*_, _/_}
 use lib.IntN.{pos}
@@ -31,7 +31,7 @@ joined fs s =
     withInput s (s .input ++ fs) (s .prev)
     (playTimeGrown (s .«input_play_time») (length fs) (samplePeriod (s .rate)) (s .speed) (s .pitch)) (s .«time_error»)
 
--- ---- one call's work: then rate and volume, and the totals (document 02, C-16)
+-- ---- one call's work: then rate and volume, and the totals (C-16)
 
 -- the state after it, the frames made, how many were staged for them, the steps, and what is told
 pub record Made : Type 0 where

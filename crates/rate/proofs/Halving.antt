@@ -1,4 +1,4 @@
--- The halving of N and O: its loop ends within 64 turns, and both end at 16,384 at most; for the rates and pitches of document 01 at 1 at
+-- The halving of N and O: its loop ends within 64 turns, and both end at 16,384 at most; for the rates and pitches in range at 1 at
 -- least. Assumes nothing.
 use mathlib.Core.Path.{_≡_, refl, sym, _∙_, subst}
 use mathlib.Core.Bool.{Bool, true, false, cond, _||_}
@@ -61,7 +61,7 @@ pub left-end : (first r : Rates) → Left first r → r .new ≤ maxHalvedRate �
 left-end first r l h g = sym (l .same ∙ halved-still (l .k) r h g)
 
 -- one turn of the definition: one of the two is too great, or none is
-halved-suc : (P : Rates → Type 0) (k : ℕ) (r : Rates) → ((maxHalvedRate < r .new) ⊎ (maxHalvedRate < r .old) → P (halved k (half r)))
+pub halved-suc : (P : Rates → Type 0) (k : ℕ) (r : Rates) → ((maxHalvedRate < r .new) ⊎ (maxHalvedRate < r .old) → P (halved k (half r)))
     → (r .new ≤ maxHalvedRate → r .old ≤ maxHalvedRate → P r) → P (halved (suc k) r)
 unfolding halved
 halved-suc P k r on off = go (ltb maxHalvedRate (r .new)) (ltb maxHalvedRate (r .old)) refl refl

@@ -7,3 +7,4 @@ mod Window
 mod Figures
 mod Adjusting
 pub mod Halving
+pub mod Most

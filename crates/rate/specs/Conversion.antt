@@ -1,4 +1,4 @@
--- Document 01, "Rate.": what becomes of the new frames of a call. `adjust_rate` of the Rust original. Definitions only.
+-- docs/RULES.md, "Rate": what becomes of the new frames of a call. `adjust_rate` of the original. Definitions only.
 use mathlib.Core.Bool.{cond}
 use mathlib.Core.List.{List, [], _∷_, _++_}
 use Prim.Native.Nat.{ℕ}

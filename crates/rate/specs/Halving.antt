@@ -1,4 +1,4 @@
--- Document 01, "Rate.": N and O of a rate and a pitch; N is `.new`, O is `.old`. Definitions only.
+-- docs/RULES.md, "Rate": N and O of a rate and a pitch; N is `.new`, O is `.old`. Definitions only.
 use mathlib.Core.Bool.{cond, _||_}
 use Prim.Native.Nat.{ℕ, zero, suc, _/_}
 use lib.Dec.{ltb}

@@ -1,4 +1,4 @@
--- Document 01, "Rate.": the frames that tail frames make, and the positions. In r, `.new` is N and `.old` is O; in s,
+-- docs/RULES.md, "Rate": the frames that tail frames make, and the positions. In r, `.new` is N and `.old` is O; in s,
 -- `.old` is p and `.new` is n. Definitions only.
 use mathlib.Core.Path.{_≡_}
 use mathlib.Core.Bool.{cond}

@@ -1,4 +1,4 @@
--- Document 01, "Read": what a read answers, gives and keeps. Definitions only. Assumes nothing.
+-- docs/RULES.md, "Read and flush": what a read answers, gives and keeps. Definitions only. Assumes nothing.
 use mathlib.Core.Path.{_≡_}
 use mathlib.Core.List.{List, [], map}
 use Prim.Native.Nat.{ℕ, zero, suc, _-_, _*_, _/_, min}

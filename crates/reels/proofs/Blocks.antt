@@ -3,7 +3,7 @@
 --   whole-ends                the end of a write
 --   joined-frames, counted    frames of two parts, and their count modulo 2^64
 --   few-least, front-length   a block holds a frame or more; the samples of its front
---   write-frames, write-whole the frames of a write
+--   write-length, write-frames, write-whole    the samples and the frames of a write
 -- Assumes nothing.
 use mathlib.Core.Path.{_≡_, sym, ap, _∙_}
 use mathlib.Core.List.{List}
@@ -45,14 +45,14 @@ counted w n k after e =
 pub few-least : (ch : ℕ) → 1 ≤ ch → ch ≤ 32 → 1 ≤ blockSamples / ch
 few-least ch low high = le-div-iff-mul-le {k = ch} {x = 1} {y = blockSamples} low .1 (omega arith)
 
-slice-length : (block : List Float) (at end : ℕ) → at ≤ end → end ≤ length block → length (take (end - at) (drop at block)) ≡ end - at
-slice-length block at end h l = length-take (end - at) (drop at block) ∙ min-eq-left {n = end - at} (omega (arith, length-drop at block))
+pub write-length : (block : List Float) (at end : ℕ) → at ≤ end → end ≤ length block → length (take (end - at) (drop at block)) ≡ end - at
+write-length block at end h l = length-take (end - at) (drop at block) ∙ min-eq-left {n = end - at} (omega (arith, length-drop at block))
 
 -- the frames up to `at`, and those of the write from there to `end`
 pub write-frames : (block : List Float) (at end : ℕ) {ch : ℕ} → 1 ≤ ch → at ≤ end → end ≤ length block → at % ch ≡ 0
     → at / ch + length (take (end - at) (drop at block)) / ch ≡ end / ch
 write-frames block at end {ch} c h l e =
-    ap (λ (k : ℕ). at / ch + k / ch) (slice-length block at end h l) ∙ joined-frames at end ch c h e
+    ap (λ (k : ℕ). at / ch + k / ch) (write-length block at end h l) ∙ joined-frames at end ch c h e
 
 -- the samples of a part from the front
 pub front-length : (block : List Float) (n : ℕ) → n ≤ length block → length (take n block) ≡ n
@@ -64,7 +64,7 @@ pub write-whole : (block : List Float) (at end ch : ℕ) → at ≤ end → end 
 write-whole block at end ch h l a e =
     let n = at / ch in
     let whole : n * ch + (end - at) ≡ end = omega (arith, div-add-mod' at ch) in
-    ap (λ (k : ℕ). k % ch) (slice-length block at end h l) ∙ sym (mul-add-mod-self-right n ch (end - at)) ∙ ap (λ (k : ℕ). k % ch) whole ∙ e
+    ap (λ (k : ℕ). k % ch) (write-length block at end h l) ∙ sym (mul-add-mod-self-right n ch (end - at)) ∙ ap (λ (k : ℕ). k % ch) whole ∙ e
 
 -- a full block of whole frames leaves no byte over
 pub full-whole : (block bytes ch : ℕ) → block % ch ≡ 0 → bytes ≡ 2 * block → bytes % (2 * ch) ≡ 0

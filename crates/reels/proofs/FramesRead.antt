@@ -4,7 +4,7 @@
 -- Assumes nothing.
 use mathlib.Core.Path.{_≡_, refl}
 use mathlib.Core.Bool.{true}
-use mathlib.Core.List.{List}
+use mathlib.Core.List.{List, []}
 use Prim.Native.Nat.{ℕ, zero, suc, _-_, _*_, _/_, _≤_, _<_, min}
 use native.Mathlib.Nat.{le-trans, mul-le-mul-right, div-mul-le-self, min-le-left, min-le-right, le-div-iff-mul-le, le-min}
 use native.Mathlib.Omega.{arith}
@@ -13,6 +13,7 @@ use lib.Ieee.{Float}
 use lib.ListN.{length}
 use Rattle.frames.specs.declared.Frames.{Frames}
 use Rattle.frames.specs.Framing.{framesOf}
+use Rattle.frames.proofs.Framing.{length-framesOf}
 use Rattle.stream.specs.declared.SonicStream.{SonicStream}
 use Rattle.stream.specs.Stream.{stateOf, streamOf, unlent}
 use Rattle.stream.specs.Refusals.{inOrder, readRefusal}
@@ -29,6 +30,7 @@ pub record Given (s : SonicStream) (slice : List Float) (n : Frames) (t : SonicS
   pub some : 32 ≤ length slice → 0 < s .waiting .0 → 0 < n .0
   pub left : t .waiting .0 ≡ s .waiting .0 - n .0
   pub channels-kept : t .channels ≡ s .channels
+  pub held-kept : t .held .0 ≡ s .held .0
 
 -- a refusal with this number, which left the stream t
 pub record Same (s : SonicStream) (number : ℕ) (t : SonicStream) : Type 0 where
@@ -61,7 +63,15 @@ module _ (s : SonicStream) (slice : List Float) (output : List ℤ) where
 
   given : inOrder s ≡ true → Given s slice (record { 0 = count }) (streamOf (unlent s) (s .waiting .0 - count))
   unfolding streamOf stateOf
-  given o = record { fits = count-few; waited = count-waited; some = count-some o; left = refl; channels-kept = refl }
+  given o =
+      record {
+        fits = count-few;
+        waited = count-waited;
+        some = count-some o;
+        left = refl;
+        channels-kept = refl;
+        held-kept = length-framesOf (s .channels) (s .held .0) [];
+      }
 
   abbrev by : ℕ → Gave
   by k = readBy k s count (framesOf (s .channels) (s .waiting .0) output) .answer

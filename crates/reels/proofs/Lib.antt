@@ -1,3 +1,4 @@
 pub mod Blocks
 mod FramesRead
 pub mod Going
+pub mod Serving

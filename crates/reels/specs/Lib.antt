@@ -1,1 +1,3 @@
+pub mod Serving
 pub mod Reels
+pub mod States

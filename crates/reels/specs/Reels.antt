@@ -1,16 +1,15 @@
 -- What a run keeps of each answer and of each block, in this order:
---   going, isStalled, freshReel       what a run is asked; a run that has not begun
+--   takesMore, readsMore, freshReel   what a run is asked; a run that has not begun
 --   SameInput, SameNotes              what is as it was
+--   Stopped                           after a refusal or a failure
 --   Answered, BlockCounted            after a call of the stream; after a block was filled
 --   WrittenOut, FewerWait, Drained    after frames that wait were written out
 --   BlockReadAs                       after a block was read
 -- Definitions only. Assumes nothing.
 use mathlib.Core.Path.{_≡_}
-use mathlib.Core.Bool.{Bool, true, false, not, cond, _&&_, _||_}
+use mathlib.Core.Bool.{Bool, true, false, not, cond, _&&_}
 use Prim.Native.Nat.{ℕ, _+_, _-_, _*_, _/_, _%_, _^_, _≤_, _<_}
-use lib.Dec.{eqb, ltb}
-use Rattle.fill.specs.declared.Outcome.{Outcome}
-use Rattle.fill.specs.declared.Outcome.the-variants.{Empty, Copied, Waiting, Stretched, Stalled}
+use lib.Dec.{ltb}
 use Rattle.stream.specs.declared.SonicStream.{SonicStream}
 use Rattle.adding.specs.declared.Wrote.{Wrote}
 use Rattle.read.specs.declared.Gave.{Gave}
@@ -22,18 +21,18 @@ use Rattle.plans.specs.declared.Plan.{Plan}
 use Rattle.reels.specs.declared.reading.BlockBytes.{BlockBytes}
 use Rattle.reels.specs.declared.reading.BlockRead.{BlockRead}
 use Rattle.reels.specs.declared.reel.Reel.{Reel}
+use Rattle.reels.specs.declared.state.RunState.{RunState}
+use Rattle.reels.specs.declared.state.Stalls.{Stalls}
+use Rattle.reels.specs.States.{sound, failed, takes, kept, stateIn}
+use Rattle.reels.specs.Serving.{Serving}
 
--- nothing has stopped the stretching
-abbrev pub going : Reel → Bool
-going r = not (r .stalled) && (not (r .failed) && eqb (r .refusal) 0)
+-- the stream takes a frame more
+abbrev pub takesMore : Plan → Reel → Bool
+takesMore p r = takes p (r .stream .held .0) (r .state)
 
--- whether an outcome is a stall
-abbrev pub isStalled : Outcome → Bool
-isStalled Empty = false
-isStalled Copied = false
-isStalled Waiting = false
-isStalled Stretched = false
-isStalled Stalled = true
+-- more of the input is read: it has not ended, and nothing failed
+abbrev pub readsMore : Reel → Bool
+readsMore r = not (r .ended) && not (failed (r .state))
 
 -- a run that has not begun, and the descriptor of its map
 unfoldable pub freshReel : SonicStream → ℕ → Reel
@@ -44,10 +43,8 @@ freshReel stream map =
       written = 0;
       «frames_out» = 0;
       partial = 0;
-      stalled = false;
-      «stalled_at» = 0;
-      refusal = 0;
-      failed = false;
+      state = RunState.Going;
+      stalls = record { count = 0; first = 0 };
       ended = false;
       flushed = false;
       from = 0;
@@ -64,8 +61,9 @@ pub record SameInput (r r' : Reel) : Type 0 where
   pub partial-same : r' .partial ≡ r .partial
   pub ended-same : r' .ended ≡ r .ended
 
--- what is noted of frames of which nothing came out is as it was
+-- what is noted of stalls and of frames of which nothing came out is as it was
 pub record SameNotes (r r' : Reel) : Type 0 where
+  pub stalls-same : r' .stalls ≡ r .stalls
   pub from-same : r' .from ≡ r .from
   pub passed-same : r' .passed ≡ r .passed
   pub gave-same : r' .gave ≡ r .gave
@@ -78,29 +76,29 @@ pub record SameNotes (r r' : Reel) : Type 0 where
 abbrev pub firstHeld : ℕ → SonicStream → ℕ
 firstHeld written s = written - s .held .0
 
--- whether a call stalled
-abbrev pub stalledIn : Wrote → Bool
-stalledIn (Wrote.Refused number s) = false
-stalledIn (Wrote.Done told s) = isStalled (told .outcome)
-
--- the number of its refusal, or the number so far
-abbrev pub refusalIn : Wrote → ℕ → ℕ
-refusalIn (Wrote.Refused number s) n = number
-refusalIn (Wrote.Done told s) n = n
-
 -- the periods that it passed over
 abbrev pub passedIn : Wrote → ℕ
 passedIn (Wrote.Refused number s) = 0
 passedIn (Wrote.Done told s) = told .passed
 
--- after a call, with so many frames written, flushed or not, with these frames noted, and so many given by the flush; a
--- stall began at the first frame held before it
-pub record Answered (written : ℕ) (flushed : Bool) (passes : Passes) (gave : ℕ) (r : Reel) (answer : Wrote) (r' : Reel)
-    : Type 0 where
+-- after a refusal or a failure: only the state is another
+pub record Stopped (state : RunState) (r r' : Reel) : Type 0 where
+  pub state-is : r' .state ≡ state
+  pub input-kept : SameInput r r'
+  pub stream-kept : r' .stream ≡ r .stream
+  pub written-kept : r' .written ≡ r .written
+  pub out-kept : r' .«frames_out» ≡ r .«frames_out»
+  pub flushed-kept : r' .flushed ≡ r .flushed
+  pub notes-kept : SameNotes r r'
+  pub map-kept : r' .map ≡ r .map
+
+-- after a call that leaves `stall` if it stalled, with so many frames written, flushed or not, with these stalls and
+-- these frames noted, and so many given by the flush
+pub record Answered (stall : RunState) (written : ℕ) (flushed : Bool) (stalls : Stalls) (passes : Passes) (gave : ℕ)
+    (r : Reel) (answer : Wrote) (r' : Reel) : Type 0 where
   pub stream-is : r' .stream ≡ streamAfter answer
-  pub refusal-is : r' .refusal ≡ refusalIn answer (r .refusal)
-  pub stalled-is : r' .stalled ≡ cond (stalledIn answer) true (r .stalled)
-  pub place-is : r' .«stalled_at» ≡ cond (stalledIn answer) (firstHeld (r .written) (r .stream)) (r .«stalled_at»)
+  pub state-is : r' .state ≡ kept (r .state) (stateIn stall answer)
+  pub stalls-is : r' .stalls ≡ stalls
   pub written-is : r' .written ≡ written
   pub flushed-is : r' .flushed ≡ flushed
   pub from-is : r' .from ≡ firstHeld (r .written) (r .stream)
@@ -109,7 +107,6 @@ pub record Answered (written : ℕ) (flushed : Bool) (passes : Passes) (gave : �
   pub passes-is : r' .passes ≡ passes
   pub gave-is : r' .gave ≡ gave
   pub map-kept : r' .map ≡ r .map
-  pub failed-kept : r' .failed ≡ r .failed
   pub out-kept : r' .«frames_out» ≡ r .«frames_out»
   pub input-kept : SameInput r r'
 
@@ -119,13 +116,10 @@ pub record BlockCounted (p : Plan) (r : Reel) (f : BlockBytes) (r' : Reel) : Typ
   pub frames-is : r' .«frames_in» ≡ (r .«frames_in» + f .bytes / (2 * p .channels)) % 2 ^ 64
   pub partial-is : r' .partial ≡ f .bytes % (2 * p .channels)
   pub ended-is : r' .ended ≡ ltb (f .bytes) (2 * p .block)
-  pub failed-is : r' .failed ≡ (f .failed || r .failed)
+  pub state-is : r' .state ≡ cond (f .failed) (kept (r .state) RunState.ReadFailed) (r .state)
   pub stream-kept : r' .stream ≡ r .stream
   pub written-kept : r' .written ≡ r .written
   pub out-kept : r' .«frames_out» ≡ r .«frames_out»
-  pub stalled-kept : r' .stalled ≡ r .stalled
-  pub place-kept : r' .«stalled_at» ≡ r .«stalled_at»
-  pub refusal-kept : r' .refusal ≡ r .refusal
   pub flushed-kept : r' .flushed ≡ r .flushed
   pub notes-kept : SameNotes r r'
   pub map-kept : r' .map ≡ r .map
@@ -137,27 +131,26 @@ pub record WrittenOut (r r' : Reel) : Type 0 where
   pub input-kept : SameInput r r'
   pub written-kept : r' .written ≡ r .written
   pub flushed-kept : r' .flushed ≡ r .flushed
-  pub stalled-kept : r' .stalled ≡ r .stalled
-  pub place-kept : r' .«stalled_at» ≡ r .«stalled_at»
   pub notes-kept : SameNotes r r'
   pub map-kept : r' .map ≡ r .map
   pub channels-kept : r' .stream .channels ≡ r .stream .channels
-  pub failed-stays : r' .failed ≡ false → r .failed ≡ false
-  pub refused-stays : r' .refusal ≡ 0 → r .refusal ≡ 0
-  pub accounted : r' .failed ≡ false → (r' .«frames_out» + r' .stream .waiting .0) % 2 ^ 64
+  pub held-kept : r' .stream .held .0 ≡ r .stream .held .0
+  pub state-stays : sound (r' .state) ≡ true → r' .state ≡ r .state
+  pub accounted : sound (r' .state) ≡ true → (r' .«frames_out» + r' .stream .waiting .0) % 2 ^ 64
       ≡ (r .«frames_out» + r .stream .waiting .0) % 2 ^ 64
+  pub serving-kept : (p : Plan) → Serving p r → Serving p r'
 
 -- after one turn, a read with this answer, which takes a frame or more if any waits
 pub record FewerWait (answer : Gave) (r r' : Reel) : Type 0 where
   pub out : WrittenOut r r'
   pub stream-is : r' .stream ≡ streamAfterRead answer
-  pub fewer : r' .failed ≡ false → r' .refusal ≡ 0 → 0 < r .stream .waiting .0
+  pub fewer : sound (r' .state) ≡ true → 0 < r .stream .waiting .0
       → r' .stream .waiting .0 < r .stream .waiting .0
 
 -- after the turns, which leave fewer than `few`
 pub record Drained (few : ℕ) (r r' : Reel) : Type 0 where
   pub out : WrittenOut r r'
-  pub fewer : r' .failed ≡ false → r' .refusal ≡ 0 → r' .stream .waiting .0 < few
+  pub fewer : sound (r' .state) ≡ true → r' .stream .waiting .0 < few
 
 -- ---- a block read
 

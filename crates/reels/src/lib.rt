@@ -1,6 +1,6 @@
-// A reel through the stream in fixed areas: `reading` reads blocks, and `reel` keeps what became of the frames and
-// writes out those that wait. `say` and `progress` tell of them. `specs/Reels.antt` says what is kept.
-pub mod progress;
+// A reel through the stream in fixed areas: `reading` reads blocks, `reel` keeps what became of the frames and writes
+// out those that wait, and `state` is how the run goes. Nothing is told here: the program tells it. `specs/` says what
+// is kept.
 pub mod reading;
 pub mod reel;
-pub mod say;
+pub mod state;

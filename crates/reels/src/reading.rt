@@ -1,6 +1,6 @@
 // Blocks of the input.
-use crate::progress;
 use crate::reel::Reel;
+use crate::state::RunState;
 use frames::Frames;
 use libc::STDIN_FILENO;
 use plans::Plan;
@@ -56,8 +56,7 @@ fn count(mut reel: Reel, filled: BlockBytes, plan: Plan) -> Reel
     reel.partial = filled.bytes % frame;
     reel.ended = filled.bytes < 2 * plan.block;
     if filled.failed {
-        os::fail(b"skim: standard input");
-        reel.failed = true;
+        return reel.stopped(RunState::ReadFailed);
     }
     reel
 }
@@ -76,7 +75,6 @@ pub fn read_block(reel: Reel, plan: Plan, block: &mut [f32], bytes: &mut [u8]) -
     let samples = frames.samples(channels).0;
     pcm::decode(bytes, samples, block);
     let counted = count(reel, filled, plan);
-    progress::show(plan, reel.frames_in, counted.frames_in);
     BlockRead {
         reel: counted,
         samples,

@@ -1,20 +1,29 @@
 // A run: its stream, with what is told of it at the end.
+use crate::state::RunState;
+use crate::state::Stalls;
+use crate::state::has_failed;
+use crate::state::leaves_room;
+use crate::state::passed_in;
+use crate::state::state_in;
+use crate::state::stream_after;
+use crate::state::then;
 use adding::Wrote;
-use fill::Outcome;
 use frames::Frames;
 use libc::STDOUT_FILENO;
 use passes::Passes;
 use plans::BLOCK_SAMPLES;
+use plans::Plan;
 use read::Gave;
 use stream::SonicStream;
-use stream::refusals;
 ghost use mathlib.Core.Path.{_≡_};
 ghost use Prim.Native.Nat.{_-_, _*_, _≤_};
 ghost use lib.ListN.{length};
 ghost use Rattle.pcm.specs.Pcm.{Encoded};
 ghost use Rattle.read.specs.Reading.{readCall};
-ghost use Rattle.plans.specs.Plans.{blockSamples};
-ghost use Rattle.reels.specs.Reels.{going, isStalled, freshReel, Answered, FewerWait, Drained};
+ghost use Rattle.plans.specs.Plans.{outputArea, blockSamples, Usable};
+ghost use Rattle.reels.specs.States.{kept, failed};
+ghost use Rattle.reels.specs.Reels.{takesMore, readsMore, freshReel};
+ghost use Rattle.reels.specs.Reels.{Answered, Stopped, FewerWait, Drained};
 
 pub struct Reel {
     pub stream: SonicStream,
@@ -24,13 +33,10 @@ pub struct Reel {
     pub frames_out: u64,
     // The bytes at the end of the input that are no whole frame.
     pub partial: usize,
-    // Whether a write or the flush stalled, and the first frame held before it.
-    pub stalled: bool,
-    pub stalled_at: u64,
-    // The number of a refusal, or 0.
-    pub refusal: u32,
-    // Whether a read or a write failed, the input has ended, and the stream is flushed.
-    pub failed: bool,
+    // How the run goes, and the writes that stalled.
+    pub state: RunState,
+    pub stalls: Stalls,
+    // Whether the input has ended, and the stream is flushed.
     pub ended: bool,
     pub flushed: bool,
     // The first frame held before the last call, the periods that the call passed over, and the frames that the flush
@@ -43,18 +49,6 @@ pub struct Reel {
     // The frames of which nothing came out, and the descriptor of the map, or NO_MAP.
     pub passes: Passes,
     pub map: u32,
-}
-
-fn is_stalled(outcome: Outcome) -> bool
-    ensures { λ r. ⌜ r ≡ isStalled outcome ⌝ }
-{
-    match outcome {
-        Outcome::Empty => false,
-        Outcome::Copied => false,
-        Outcome::Waiting => false,
-        Outcome::Stretched => false,
-        Outcome::Stalled => true,
-    }
 }
 
 // The first frame held.
@@ -87,10 +81,8 @@ impl Reel {
             written: 0,
             frames_out: 0,
             partial: 0,
-            stalled: false,
-            stalled_at: 0,
-            refusal: refusals::ACCEPTED,
-            failed: false,
+            state: RunState::Going,
+            stalls: Stalls { count: 0, first: 0 },
             ended: false,
             flushed: false,
             from: 0,
@@ -102,51 +94,96 @@ impl Reel {
         }
     }
 
-    // Whether the stream takes more.
-    pub fn is_going(self) -> bool
-        ensures { λ r. ⌜ r ≡ going self ⌝ }
+    // Whether the stream takes a frame more. A run that has stalled goes on as long as its flush has room.
+    pub fn takes_more(self, plan: Plan) -> bool
+        requires { ⌜ Usable plan ⌝ }
+        ensures { λ r. ⌜ r ≡ takesMore plan self ⌝ }
     {
-        if self.stalled {
-            return false;
+        let state = self.state;
+        match state {
+            RunState::Going => true,
+            RunState::Stalled(_) => leaves_room(self.stream.held.0, plan),
+            RunState::FlushStalled(_) => false,
+            RunState::Refused(_) => false,
+            RunState::ReadFailed => false,
+            RunState::WriteFailed => false,
         }
-        if self.failed {
-            return false;
-        }
-        self.refusal == refusals::ACCEPTED
     }
 
-    // After a write or a flush with this answer.
-    pub fn answered(mut self, answer: Wrote) -> Reel
-        ensures { λ r. ⌜ Answered (self .written) (self .flushed) (self .passes) (self .gave) self answer r ⌝ }
+    // The same run in another state.
+    fn with_state(self, state: RunState) -> Reel
+        ensures { λ r. ⌜ Stopped state self r ⌝ }
+    {
+        let stream = self.stream;
+        let stalls = self.stalls;
+        let tail = self.tail;
+        let passes = self.passes;
+        Reel {
+            stream,
+            frames_in: self.frames_in,
+            written: self.written,
+            frames_out: self.frames_out,
+            partial: self.partial,
+            state,
+            stalls,
+            ended: self.ended,
+            flushed: self.flushed,
+            from: self.from,
+            passed: self.passed,
+            gave: self.gave,
+            tail,
+            passes,
+            map: self.map,
+        }
+    }
+
+    // After a refusal or a failure.
+    pub fn stopped(self, by: RunState) -> Reel
+        ensures { λ r. ⌜ Stopped (kept (self .state) by) self r ⌝ }
+    {
+        let state = self.state;
+        self.with_state(then(state, by))
+    }
+
+    // Whether a read or a write failed.
+    pub fn has_failed(self) -> bool
+        ensures { λ r. ⌜ r ≡ failed (self .state) ⌝ }
+    {
+        let state = self.state;
+        has_failed(state)
+    }
+
+    // Whether more of the input is read.
+    pub fn reads_more(self) -> bool
+        ensures { λ r. ⌜ r ≡ readsMore self ⌝ }
+    {
+        if self.ended {
+            return false;
+        }
+        !self.has_failed()
+    }
+
+    // After a write or a flush with this answer, which leaves `stall` if it stalled.
+    pub fn answered(mut self, answer: Wrote, stall: RunState) -> Reel
+        ensures { λ r. ⌜ Answered stall (self .written) (self .flushed) (self .stalls) (self .passes) (self .gave) self
+            answer r ⌝ }
     {
         let place = first_held(self.written, self.stream.held.0 as u64);
-        self.from = place;
         let tail = self.stream.tail;
+        let before = self.state;
+        let state = then(before, state_in(stall, answer));
+        let stream = stream_after(answer);
+        self.from = place;
         self.tail = tail;
-        match answer {
-            Wrote::Refused(number, stream) => {
-                self.stream = stream;
-                self.refusal = number;
-                self.passed = 0;
-                self
-            }
-            Wrote::Done(told, stream) => {
-                let outcome = told.outcome;
-                self.stream = stream;
-                self.passed = told.passed as u64;
-                if is_stalled(outcome) {
-                    self.stalled = true;
-                    self.stalled_at = place;
-                    return self;
-                }
-                self
-            }
-        }
+        self.stream = stream;
+        self.passed = passed_in(answer);
+        self.with_state(state)
     }
 
     // Reads a block of the frames waiting, and writes it out.
     fn write_out(mut self, output: &mut [i16], values: &mut [f32], bytes: &mut [u8]) -> Reel
-        requires { ⌜ (32 ≤ length (now values)) × (2 * length (now values) ≤ length (now bytes)) ⌝ }
+        requires { ⌜ (32 ≤ length (now values)) × (2 * length (now values) ≤ length (now bytes))
+            × (outputArea ≡ length (now output)) ⌝ }
         ensures { λ r. ⌜ FewerWait (readCall (self .stream) blockSamples (now (values .entry))
             (now (output .entry)) .answer) self r ⌝ }
     {
@@ -154,7 +191,7 @@ impl Reel {
         match read::read_f32(self.stream, Frames(BLOCK_SAMPLES), values, output) {
             Gave::Refused(number, stream) => {
                 self.stream = stream;
-                self.refusal = number;
+                self = self.stopped(RunState::Refused(number));
             }
             Gave::Done(n, stream) => {
                 let count = n.samples(channels).0;
@@ -162,8 +199,7 @@ impl Reel {
                 if write_values(values, count, bytes) {
                     self.frames_out = std::num::wrapping_add_u64(self.frames_out, n.0 as u64);
                 } else {
-                    os::fail(b"skim: standard output");
-                    self.failed = true;
+                    self = self.stopped(RunState::WriteFailed);
                 }
             }
         }
@@ -172,12 +208,13 @@ impl Reel {
 
     // Writes out the frames waiting, while there are as many as `few`, at least 1. Each turn gives one or more.
     pub fn drain(self, few: usize, output: &mut [i16], values: &mut [f32], bytes: &mut [u8]) -> Reel
-        requires { ⌜ (1 ≤ few) × (32 ≤ length (now values)) × (2 * length (now values) ≤ length (now bytes)) ⌝ }
+        requires { ⌜ (1 ≤ few) × (32 ≤ length (now values)) × (2 * length (now values) ≤ length (now bytes))
+            × (outputArea ≡ length (now output)) ⌝ }
         ensures { λ r. ⌜ Drained few self r ⌝ }
     {
         let mut reel = self;
         let mut turns = reel.stream.waiting.0;
-        while turns > 0 && reel.stream.waiting.0 >= few && !reel.failed {
+        while turns > 0 && reel.stream.waiting.0 >= few && !reel.has_failed() {
             reel = reel.write_out(output, values, bytes);
             turns -= 1;
         }

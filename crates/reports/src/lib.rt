@@ -1,9 +1,14 @@
-// What became of a run of the skim tool, on standard error. `specs/Report.antt` says what the status is.
+// What is told of a run of the skim tool, on standard error: `progress` while it goes on, and at its end what became of
+// it; the last line is that of `summary`. `specs/Report.antt` says what the status is.
+pub mod progress;
+pub mod say;
+mod stalls;
+mod summary;
+
 use passes::Passes;
 use plans::Plan;
-use reels::progress;
 use reels::reel::Reel;
-use reels::say;
+use reels::state::RunState;
 use stream::refusals;
 ghost use mathlib.Core.Path.{_≡_};
 ghost use Rattle.period.specs.Rates.{InLimits};
@@ -38,7 +43,7 @@ fn say_time(frames: u64, plan: Plan)
 }
 
 // A frame, and its time.
-fn say_place(frame: u64, plan: Plan)
+pub(crate) fn say_place(frame: u64, plan: Plan)
     requires { ⌜ InLimits (plan .rate) (plan .channels) ⌝ }
 {
     say::number(b" frame ", frame);
@@ -63,28 +68,6 @@ fn say_partial(bytes: u64) {
         );
         say::text(b"\n");
     }
-}
-
-// Where a write or the flush stalled.
-fn say_stall(reel: Reel, plan: Plan)
-    requires { ⌜ InLimits (plan .rate) (plan .channels) ⌝ }
-{
-    let after = std::num::wrapping_sub_u64(reel.frames_in, reel.stalled_at);
-    if reel.flushed {
-        say::text(b"skim: the flush stalled at or after");
-        say_place(reel.stalled_at, plan);
-        say::number(b": of the last ", after);
-        say::text(b" frames not all came out\n");
-        return;
-    }
-    say::text(b"skim: stalled at");
-    say_place(reel.stalled_at, plan);
-    say::text(
-        b": the pitch period there gives no frame, and nothing after it can be skimmed at this speed\n",
-    );
-    say::number(b"skim: not skimmed: the ", after);
-    say::number(b" frames from there on, and ", reel.stream.tail.0 as u64);
-    say::text(b" stretched frames before them, in the tail\n");
 }
 
 // The periods that writes passed over, and the frames of which nothing came out.
@@ -133,69 +116,55 @@ fn say_cleared(reel: Reel) {
     }
 }
 
-fn say_frame(name: &[u8], told: bool, frame: u64) {
-    if told {
-        say::number(name, frame);
-    } else {
-        say::text(name);
-        say::text(b"none");
+// A read or a write that failed, with what the system says of it, which the next call that fails changes. `map` is the
+// descriptor of the map that was wanted: a run whose map was not taken is without one.
+fn say_failure(reel: Reel, map: u32) {
+    let state = reel.state;
+    match state {
+        RunState::Going => (),
+        RunState::Stalled(_) => (),
+        RunState::FlushStalled(_) => (),
+        RunState::Refused(_) => (),
+        RunState::ReadFailed => os::fail(b"skim: standard input"),
+        RunState::WriteFailed => {
+            if reel.map == map {
+                os::fail(b"skim: standard output");
+            } else {
+                os::fail(b"skim: the map");
+            }
+        }
     }
 }
 
-// 0 fine; 1 a partial frame, a failed read or write, a refusal, or a stall before the flush.
-fn status(reel: Reel) -> u64
-    ensures { λ r. ⌜ r ≡ statusOf reel ⌝ }
+// How a run ended that stalled or was refused.
+fn say_end(reel: Reel, plan: Plan)
+    requires { ⌜ InLimits (plan .rate) (plan .channels) ⌝ }
 {
-    if reel.partial > 0 {
-        return 1;
+    let state = reel.state;
+    match state {
+        RunState::Going => (),
+        RunState::Stalled(at) => stalls::say_stall(reel, at, plan),
+        RunState::FlushStalled(at) => stalls::say_flush_stall(reel, at, plan),
+        RunState::Refused(number) => refused(number),
+        RunState::ReadFailed => (),
+        RunState::WriteFailed => (),
     }
-    if reel.failed {
-        return 1;
-    }
-    if reel.refusal != refusals::ACCEPTED {
-        return 1;
-    }
-    if reel.stalled && !reel.flushed { 1 } else { 0 }
 }
 
-// The line for scripts.
-fn say_summary(reel: Reel, status: u64) {
-    let stalled = reel.stalled && !reel.flushed;
-    let cut = reel.stalled && reel.flushed;
-    let balance = reel.stream.balance;
-    say::number(b"skim: frames_in=", reel.frames_in);
-    say::number(b" frames_out=", reel.frames_out);
-    say::number(b" stalls=", stalled as u64);
-    say_frame(b" stalled_at=", stalled, reel.stalled_at);
-    say_frame(b" flush_stalled_at=", cut, reel.stalled_at);
-    say::number(b" refusal=", reel.refusal as u64);
-    say::number(b" skipped=", balance.skipped);
-    say::number(b" inserted=", balance.inserted);
-    say::number(b" passed=", reel.passes.periods);
-    say::number(b" passed_frames=", reel.passes.frames);
-    say::number(b" status=", status);
-    say::text(b"\n");
-}
-
-// Tells what became of a run, and answers the status.
-pub fn run(reel: Reel, plan: Plan) -> u64
+// Tells what became of a run, with the descriptor of the map that was wanted, and answers the status.
+pub fn run(reel: Reel, plan: Plan, map: u32) -> u64
     requires { ⌜ InLimits (plan .rate) (plan .channels) ⌝ }
     ensures { λ r. ⌜ r ≡ statusOf reel ⌝ }
 {
+    say_failure(reel, map);
     progress::end(plan, reel.frames_in);
     say_partial(reel.partial as u64);
-    if reel.stalled {
-        say_stall(reel, plan);
-    }
+    stalls::say_stalls(reel, plan);
+    say_end(reel, plan);
     say_passes(reel.passes, plan);
     if reel.flushed && reel.passed > 0 {
         say_flush(reel, plan);
     }
     say_cleared(reel);
-    if reel.refusal != refusals::ACCEPTED {
-        refused(reel.refusal);
-    }
-    let status = status(reel);
-    say_summary(reel, status);
-    status
+    summary::told(reel)
 }

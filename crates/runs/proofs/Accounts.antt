@@ -1,4 +1,4 @@
--- What the steps of calls add up to, and what these leave of the input and of the totals (document 02, C-16). Here:
+-- What the steps of calls add up to, and what these leave of the input and of the totals (C-16). Here:
 --   staged-out        a call's frames out are those that go into rate conversion
 --   Accounts          frames added, steps and frames cleared account for two states, one behind the other
 --   work-accounts     of a call's work that does not stall

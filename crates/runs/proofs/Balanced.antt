@@ -1,4 +1,4 @@
--- Document 02, C-16, proved: `totals`, `balance`, `reconciled`. The claims are in `specs/Balance.antt`. Passed on: staged-out (`Accounts`), by
+-- C-16, proved: `totals`, `balance`, `reconciled`. The claims are in `specs/Balance.antt`. Passed on: staged-out (`Accounts`), by
 -- which the frames out of the steps are those that go into rate conversion. Assumes nothing.
 use mathlib.Core.Path.{_≡_, ap, subst}
 use Prim.Native.Nat.{ℕ, _+_}

@@ -92,7 +92,7 @@ rate-between rate e =
     let n = neither (ltb rate 1000) (ltb 500000 rate) e in
     (ltb-false rate 1000 (n .0), ltb-false 500000 rate (n .1))
 
-pitch-range : T (le minPitch maxPitch)
+pub pitch-range : T (le minPitch maxPitch)
 unfolding le ofBits neg
 pitch-range = tt
 

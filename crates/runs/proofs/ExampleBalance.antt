@@ -1,13 +1,13 @@
 -- Two runs that there are, computed: 1,000 Hz, 1 channel, and 30 frames, a pulse in every fifth of them. One at speed 2 skips, and its flush skips
--- more; one at speed 0.5 inserts. `balance`, `reconciled` and `totals` for them. No proof cites this file. Assumes nothing.
-use mathlib.Core.Path.{_≡_, refl, sym}
+-- more; one at speed 0.5 inserts. `ledger-claim`, `balance`, `reconciled` and `totals` for them. No proof cites this file. Assumes nothing.
+use mathlib.Core.Path.{_≡_, refl, sym, ap, _∙_}
 use mathlib.Core.List.{List, [], _∷_, _++_}
 use Prim.Native.Nat.{ℕ, _+_}
 use lib.IntN.{ℤ, pos}
 use lib.Ieee.{Float, binary32, ofBits, neg, ofInt, toUnsigned, toSigned, round, add, sub, mul, div, lt, le, eq}
 use lib.ListN.{take, replicate}
 use Rattle.frames.specs.Areas.{Areas, areas}
-use Rattle.frames.specs.Framing.{framesOf, flat}
+use Rattle.frames.specs.Framing.{Frame, framesOf, flat}
 use Rattle.frames.specs.Clamp.{clampZ}
 use Rattle.floats.specs.Numbers.{zero, half, one, two, narrow}
 use Rattle.floats.specs.Scales.{newRate}
@@ -44,11 +44,12 @@ use Rattle.fill.specs.Taking.{removed, stepped, stretched, takenAt, taken, coun
 use Rattle.process.specs.Process.{wholeFrames, joined, counting, finished, process, writeWork, flushWork, expected, cleared}
 use Rattle.adding.specs.declared.Wrote.{Wrote}
 use Rattle.adding.specs.Calls.{refusedCall, acceptedCall, writeCall, flushCall}
-use Rattle.runs.specs.Ledger.{begun, entry}
-use Rattle.runs.specs.Run.{Event, setting-went, write-went, flush-went, opening, Agree, leave, afterSetting, afterCall, end, fed}
+use Rattle.runs.specs.Ledger.{begun, entry, posted, ledgerFrom, ledger}
+use Rattle.runs.specs.Run.{Event, setting-went, write-went, flush-went, opening, Agree, leave, afterSetting, afterCall, end, values, total, fed}
 use Rattle.runs.specs.Run as Run
-use Rattle.runs.specs.Demand.{RunOf, ledgerOf, unlessRead, acceptedIn, framesIn}
+use Rattle.runs.specs.Demand.{RunOf, last, ledgerOf, unlessRead, acceptedIn, framesIn}
 use Rattle.runs.specs.Balance.{stepsOf, stepsFrom, silentIn, clearedBy, clearedFrom, tallyOf}
+use Rattle.runs.proofs.Claims.{ledger-claim}
 use Rattle.runs.proofs.Balanced.{totals, balance, reconciled}
 
 -- ---- streams, areas and samples
@@ -132,6 +133,26 @@ skipping = record {
     ),
   );
 }
+
+-- its ledger: of the frames that the flush makes the first 10 are kept
+skipping-ledger : (ledgerOf skipping .made ≡ framesOf 1 15 (held ++ held ++ held)) × (ledgerOf skipping .outcomes ≡ Stretched ∷ Stretched ∷ [])
+unfolding skipping faster skips flushes pulse six
+    ledger ledgerFrom posted begun entry fed fresh withSetting framesOf flat wholeFrames
+    writeWork flushWork process counting counted stalled tally booked finished expected expectedFrames cleared
+    taken takenAt stretched stepped removed answerFor lastPlace joined
+    steps stepsIn nextStep after placeAfter prevAfter errorAfter copyingDue skipCount errorSkipped
+    searchAt findPitchPeriod chosen prevPeriodBetter found coarse valuesOf skip findPitchPeriodInRange sweep lesser greater diffs
+    samplesOf samplesOut skipPitchPeriod overlapAdd crossfadeTo crossfadeFrame crossfadeSample
+    sampleIn unitClamped playTimeGrown playTimeLeft localSpeed speedChanges adjustRate scaled clampZ clamped
+    samplePeriod narrow ofBits neg div round ofInt toUnsigned toSigned le lt eq mul add sub
+skipping-ledger = (refl, refl)
+
+-- what demand 3 says of it
+skipping-total : (total (last skipping) ≡ values (framesOf 1 15 (held ++ held ++ held))) × (last skipping .outcomes ≡ Stretched ∷ Stretched ∷ [])
+skipping-total = (
+  ledger-claim 1000 1 skipping .0 ∙ ap (λ (fs : List Frame). values fs) (skipping-ledger .0),
+  ledger-claim 1000 1 skipping .1 ∙ skipping-ledger .1,
+)
 
 -- its steps, added up
 skipping-tally : tallyOf skipping ≡ record { out = 31; used = 62; skipped = 31; inserted = 0; passed = 0 }

@@ -12,7 +12,11 @@ mod Accounts
 pub mod Claims
 pub mod Balanced
 pub mod SteppedOver
+pub mod PlayTimes
+pub mod CCalls
 mod Example
 mod ExampleParts
 mod ExampleBalance
+mod ExampleStall
 mod ExampleStepOver
+mod ExampleC

@@ -1,4 +1,4 @@
--- Document 02, C-18, proved over whole runs: `never-stalls`. The claim is in `specs/StepOver.antt`. With it `balance` and `reconciled` hold of
+-- C-18, proved over whole runs: `never-stalls`. The claim is in `specs/StepOver.antt`. With it `balance` and `reconciled` hold of
 -- every run that steps over. Assumes nothing.
 use mathlib.Core.Path.{_≡_, refl, sym, ap, _∙_, subst}
 use mathlib.Core.Bool.{true, false, false≢true}

@@ -1,6 +1,6 @@
--- Document 02, C-16: the balance of a run, as types: `TotalsClaim`, `BalanceClaim`, `ReconciledClaim`; before them what
--- they speak of: the steps of a run, the silent frames of its flushes, and the frames that these clear.
--- `proofs/Balanced.antt` proves the claims. Definitions only. Assumes nothing.
+-- docs/RULES.md, "A balance of frames": the balance of a run, as types: `TotalsClaim`, `BalanceClaim`,
+-- `ReconciledClaim`; before them what they speak of: the steps of a run, the silent frames of its flushes, and the
+-- frames that these clear. `proofs/Balanced.antt` proves the claims. Definitions only. Assumes nothing.
 use mathlib.Core.Path.{_≡_}
 use mathlib.Core.List.{List, [], _∷_, _++_}
 use Prim.Native.Nat.{ℕ, _+_, _*_}

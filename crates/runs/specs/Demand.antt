@@ -142,7 +142,7 @@ framesIn channels (read most ∷ cs) = framesIn channels cs
 
 -- ---- the claims
 
--- After every run, frames read followed by frames waiting, and the outcomes, are exactly those of document 01's ledger.
+-- After every run, frames read followed by frames waiting, and the outcomes, are exactly those of the ledger.
 abbrev pub LedgerClaim : Type 0
 LedgerClaim = (rate channels : ℕ) (a : RunOf rate channels)
     → (total (last a) ≡ values (ledgerOf a .made)) × (last a .outcomes ≡ ledgerOf a .outcomes)
@@ -167,7 +167,7 @@ abbrev pub heldPitch : Float → Float
 heldPitch x = clamped x minPitch maxPitch
 
 -- In such a run, if no write is accepted before the last accepted pitch, that pitch is other than 1 and no flush is
--- accepted, F frames accepted give exactly max(0, F − 12) times N over O, rounded up (N and O as in 01). The last
+-- accepted, F frames accepted give exactly max(0, F − 12) times N over O, rounded up. The last
 -- accepted pitch is x, `before` and `behind` are the accepted calls on its two sides; `-` ends at 0, `.new` is N,
 -- `.old` is O.
 abbrev pub CountClaim : Type 0

@@ -1,4 +1,4 @@
--- Document 01, "Ledger of demand 3": what it is fed, what it holds, and what each call does to it. Definitions only.
+-- docs/RULES.md, "Ledger of demand 3": what it is fed, what it holds, and what each call does to it. Definitions only.
 -- Assumes nothing.
 use mathlib.Core.Bool.{Bool, cond}
 use mathlib.Core.List.{List, [], _∷_, _++_}
@@ -24,8 +24,8 @@ pub record Fed : Type 0 where
   pub call : Call
   pub accepted : Bool
 
--- the state (rate, channels, settings, document 02's stepping over among them, input, tail, p, n, period record, play
--- time, time error, and document 02's totals, without limit), the frames made and the outcomes
+-- the state (rate, channels, settings, stepping over (C-18) among them, input, tail, p, n, period record, play
+-- time, time error, and the totals (C-16), without limit), the frames made and the outcomes
 pub record Ledger : Type 0 where
   pub state : State
   pub made : List Frame

@@ -3,3 +3,5 @@ pub mod Run
 pub mod Demand
 pub mod Balance
 pub mod StepOver
+pub mod PlayTimes
+pub mod CCalls

@@ -1,4 +1,4 @@
--- Runs of demand 3 (document 01, "Areas and refusals" and "Read and flush"): calls from a fresh stream on, each with
+-- Runs of demand 3 (docs/RULES.md, "Ledger of demand 3"): calls from a fresh stream on, each with
 -- the areas that it was lent and left. A call's answer and what it leaves are those that its contract ensures. In
 -- order: calls as they went, what each meets, what each leaves, runs, what the ledger is fed. Definitions only. Assumes
 -- nothing.

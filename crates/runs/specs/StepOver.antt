@@ -1,5 +1,5 @@
--- Document 02, C-18, over whole runs, as a type: `NeverStallsClaim`. `proofs/SteppedOver.antt` proves it. Definitions
--- only. Assumes nothing.
+-- docs/RULES.md, "Stepping over a stall", over whole runs, as a type: `NeverStallsClaim`. `proofs/SteppedOver.antt`
+-- proves it. Definitions only. Assumes nothing.
 use mathlib.Core.Path.{_≡_}
 use mathlib.Core.Bool.{true}
 use mathlib.Core.List.{List, _∷_, _++_}

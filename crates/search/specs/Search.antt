@@ -1,6 +1,7 @@
--- `find_pitch_period_in_range`: for period q the sum D(q) of |x[i] − x[i+q]|, i < q. Answer: the smallest q with least
--- D(q)/q, and the whole parts of the least and the greatest D(q)/q. `proofs/SearchRule.antt` shows that the definition
--- says this of every q of the range. Definitions only. Assumes nothing.
+-- docs/RULES.md, "Period search": `find_pitch_period_in_range`. For period q the sum D(q) of |x[i] − x[i+q]|, i < q.
+-- Answer: the smallest q with least D(q)/q, and the whole parts of the least and the greatest D(q)/q.
+-- `proofs/SearchRule.antt` shows that the definition says this of every q of the range. Definitions only. Assumes
+-- nothing.
 use Prim.Native.Nat.{ℕ, zero, suc, _+_, _-_, _*_, _/_, _≤_}
 use mathlib.Core.Bool.{cond}
 use mathlib.Core.List.{List}

@@ -1,6 +1,6 @@
--- `find_sinc_coefficient` and `interpolate` of the Rust original: the coefficient of a tap, an interpolated sample, an
--- interpolated frame. N is the new rate, the width of one step of the old rate; r is the ratio, below N; i is the tap.
--- Definitions only. Assumes nothing.
+-- docs/RULES.md, "Rate": `find_sinc_coefficient` and `interpolate` of the original, the coefficient of a tap, an
+-- interpolated sample, an interpolated frame. N is the new rate, the width of one step of the old rate; r is the ratio,
+-- below N; i is the tap. Definitions only. Assumes nothing.
 use mathlib.Core.List.{List, [], _∷_}
 use Prim.Native.Nat.{ℕ, zero, suc, _+_, _-_, _*_, _/_}
 use lib.IntN.{ℤ, pos, negsuc, _+ℤ_, _*ℤ_}

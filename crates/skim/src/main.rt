@@ -1,6 +1,7 @@
 // skim: changes speed, pitch and volume of 16-bit little-endian PCM, from standard input to standard output. A thin
-// program: `jobs` reads what is asked for, `plans` finds the room for it, and `skimming` does it. `reports` tells what
-// became of the frames; `usage` tells of the arguments.
+// program: `jobs` reads what is asked for, `plans` finds the room for it, and `running` does it in the areas of
+// `lending`. `reports` tells how far the run is and what became of the frames; `usage` tells of the arguments. Nothing
+// below `reports` writes to standard error.
 //
 // A Rattle program has no exit status. The last line on standard error ends in the one it would have, and with
 // `--status` it is written to descriptor 3 too, from which tools/skim.sh takes it.
@@ -28,6 +29,7 @@ fn open_map(place: usize) -> u32 {
     }
     let fd = jobs::open_map(place);
     if fd < 0 {
+        os::fail(b"skim: --map");
         return BAD_MAP;
     }
     if fd <= STDERR_FILENO {
@@ -62,8 +64,8 @@ fn run(job: Job) -> u64 {
                         return usage::bad_usage();
                     }
                     let begun = maps::begin(Reel::new(stream, map));
-                    let reel = skimming::skim(begun, plan);
-                    reports::run(reel, plan)
+                    let reel = lending::skim(begun, plan);
+                    reports::run(reel, plan, map)
                 }
             }
         }
@@ -75,6 +77,10 @@ fn answer(asked: Asked) -> u64 {
     match asked {
         Asked::Help => {
             usage::usage();
+            0
+        }
+        Asked::Version => {
+            usage::version();
             0
         }
         Asked::Wrong(place) => {

@@ -1,5 +1,9 @@
 // The usage, on standard output, and what is said of bad usage.
-use reels::say;
+use reports::say;
+
+pub(crate) fn version() {
+    say::line(b"skim (kelpladder) 0.2.0");
+}
 
 pub(crate) fn usage() {
     say_arguments();
@@ -18,12 +22,15 @@ fn say_arguments() {
     say::line(b"  SPEED     0.05 to 20, with digits before and behind the point, as 20 or 1.25");
     say::line(b"  PITCH     0.05 to 20");
     say::line(b"  VOLUME    0.01 to 100, 1 if it is left out");
-    say::line(b"With no numbers: 8000 1 20 0.5.");
+    say::line(b"With no numbers: 8000 1 20 0.5. --help tells this, --version the version.");
     say::line(
         b"A pitch period that is too short to give a frame at this speed is passed over: nothing comes out of it.",
     );
     say::line(
-        b"  --as-original  stops at the first such period, as the Rust original does: that is a stall",
+        b"  --as-original  stalls at such a period, as the Rust original does. Each later write tries again, a frame",
+    );
+    say::line(
+        b"                 further, and may leave the stall; what a write made before it stalled comes again",
     );
     say::line(
         b"  --map FILE     writes to FILE a line for each stretch of the reel of which nothing came out:",
@@ -43,14 +50,18 @@ fn say_report() {
     );
     say::line(b"  inserted=N passed=N passed_frames=N status=N");
     say::line(
-        b"FRAME is none where nothing stalled. skipped, inserted: frames of pitch periods taken out and put in.",
+        b"stalls: writes that stalled. stalled_at: the first frame held before the first of them. flush_stalled_at:",
     );
+    say::line(
+        b"that of a flush that stalled, where no stall of a write was left open. FRAME is none where none stalled.",
+    );
+    say::line(b"skipped, inserted: frames of pitch periods taken out and put in.");
     say::line(
         b"passed: pitch periods passed over before the flush. passed_frames: frames of the reel of which nothing",
     );
     say::line(b"came out, without those behind a stall.");
     say::line(
-        b"status: 0 fine; 1 stalled before the flush, refused, a partial frame at the end, or a read or a write",
+        b"status: 0 fine; 1 a stall that was not left, a refusal, a partial frame at the end, or a read or a write",
     );
     say::line(b"failed; 2 bad usage or a FILE that cannot be opened, and then nothing was read.");
     say::line(b"With --status the status is written to descriptor 3 too.");

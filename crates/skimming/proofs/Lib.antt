@@ -1,2 +1,3 @@
 pub mod Starting
 mod Turning
+mod Serving

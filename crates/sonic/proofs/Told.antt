@@ -1,4 +1,4 @@
--- Demand 1 and document 02, C-18: an accepted write or flush answers stalled exactly when stepping over is off and one of its stretch steps
+-- Demand 1 and C-18: an accepted write or flush answers stalled exactly when stepping over is off and one of its stretch steps
 -- gives no frame; it tells as many periods as its steps pass over, none if that is off; and where it tells one, it answers stretched. Assumes
 -- nothing.
 use mathlib.Core.Path.{_≡_, refl, sym, subst}

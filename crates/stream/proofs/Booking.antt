@@ -1,4 +1,4 @@
--- What `book` answers says of the totals (document 02, C-16). For the crates above. Assumes nothing.
+-- What `book` answers says of the totals (C-16). For the crates above. Assumes nothing.
 use mathlib.Core.Path.{_≡_, refl}
 use mathlib.Core.Bool.{Bool, true, false, cond}
 use Rattle.stream.specs.declared.balance.Balance.{Balance}

@@ -2,6 +2,7 @@
 --   ready-in-order      a stream that a call's work goes by, with its settings in range, is in order
 --   state-in-order      so is the stream of such a state
 --   open-in-order       the stream of an accepted opening is in order
+--   zero-not-in-order, refused-not-in-order    the stream with every field 0 is not, nor so that of a refused opening
 --   setting-in-order, set-in-order     a setting keeps it so; the stream of an accepted one is in order
 --   waiting-in-order    a stream in order stays so with other frames waiting and the sample period of its rate
 --   totals-free         whether a stream is in order does not go by its totals
@@ -178,6 +179,27 @@ open-in-order rate channels s e = go (rateBad rate) (channelsBad channels) refl 
     go false false p q h =
         let same : streamOf (fresh rate channels) 0 ≡ s = cc in
         subst (λ (t : SonicStream). inOrder t ≡ true) same (fresh-in-order rate channels (limits-in rate channels p q))
+
+-- 3 refuses what a refused opening carries
+pub zero-not-in-order : inOrder zeroStream ≡ false
+unfolding inOrder limitsInOrder rateBad zeroStream
+zero-not-in-order = refl
+
+pub refused-not-in-order : (rate channels number given : ℕ) (s : SonicStream) → openCall rate channels ≡ Opened.Refused number given s
+    → inOrder s ≡ false
+unfolding openCall
+refused-not-in-order rate channels number given s = go (rateBad rate) (channelsBad channels)
+  where
+    not-in-order : zeroStream ≡ s → inOrder s ≡ false
+    not-in-order e = subst (λ (t : SonicStream). inOrder t ≡ false) e zero-not-in-order
+
+    go : (a b : Bool)
+        → cond a (Opened.Refused badRate rate zeroStream)
+        (cond b (Opened.Refused badChannels channels zeroStream) (Opened.Done (streamOf (fresh rate channels) 0))) ≡ Opened.Refused number given s
+        → inOrder s ≡ false
+    go true b h = let same : zeroStream ≡ s = cc in not-in-order same
+    go false true h = let same : zeroStream ≡ s = cc in not-in-order same
+    go false false h = let z : true ≡ false = cc in absurd (true≢false z)
 
 -- ---- a setting
 

@@ -1,4 +1,4 @@
--- Document 02, C-16: the balance of frames. Definitions only. Assumes nothing.
+-- docs/RULES.md, "A balance of frames". Definitions only. Assumes nothing.
 use mathlib.Core.Bool.{Bool, cond, _||_}
 use Prim.Native.Nat.{ℕ, _+_, _-_, _^_}
 use lib.Dec.{ltb}

@@ -1,4 +1,4 @@
--- Document 01, "Areas and refusals": the table's tests, in its order; behind them document 02's. Definitions only.
+-- docs/RULES.md, "Areas and refusals": the table's tests, in its order. Definitions only.
 -- Assumes nothing.
 use mathlib.Core.Bool.{Bool, not, cond, _&&_, _||_}
 use mathlib.Core.List.{List}

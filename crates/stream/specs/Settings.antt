@@ -1,4 +1,4 @@
--- Document 01, "Opening and settings", and document 02, C-18: the fresh values, what a setting changes, and what an
+-- docs/RULES.md, "Opening and settings", with C-18: the fresh values, what a setting changes, and what an
 -- opening, a setting and `available_frames` answer. Definitions only. Assumes nothing.
 use mathlib.Core.Bool.{cond}
 use mathlib.Core.List.{[]}

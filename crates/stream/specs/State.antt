@@ -1,5 +1,5 @@
--- What a stream and its areas hold, the frames waiting apart (document 01, "Ledger of demand 3"; document 02, C-16: its
--- totals, and C-18: whether it steps over). Definitions only. Assumes nothing.
+-- What a stream and its areas hold, the frames waiting apart (docs/RULES.md, "What a stream is"), with its
+-- totals (C-16) and whether it steps over (C-18). Definitions only. Assumes nothing.
 use mathlib.Core.Bool.{Bool}
 use mathlib.Core.List.{List}
 use Prim.Native.Nat.{ℕ}

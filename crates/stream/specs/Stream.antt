@@ -32,7 +32,7 @@ stateOf s input stage =
       balance = s .balance;
     }
 
--- the stream of a state, with w frames waiting; its sample period is document 01's T
+-- the stream of a state, with w frames waiting; its sample period is T, that of the rate
 unfoldable pub streamOf : State → ℕ → SonicStream
 streamOf s w =
     record {

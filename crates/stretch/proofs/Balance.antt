@@ -1,4 +1,4 @@
--- Document 02, C-16 and C-18: what steps add up to. Here:
+-- What steps add up to (C-16 and C-18). Here:
 --   balanced          frames out plus skipped are frames used plus inserted
 --   tally-append      of two lists, one behind the other
 --   position-used     the place after the last step lies behind the frames used

@@ -1,4 +1,4 @@
--- Figures of document 01 and of document 02, C-18, that the definitions of the stretch steps give, computed. Assumes nothing.
+-- Figures of docs/RULES.md, and of C-18, that the definitions of the stretch steps give, computed. Assumes nothing.
 use mathlib.Core.Path.{_≡_, refl}
 use mathlib.Core.Bool.{true, false}
 use lib.IntN.{pos, negsuc}

@@ -9,5 +9,6 @@ pub mod Balance
 pub mod StepOver
 pub mod OneStep
 pub mod Claims
+pub mod Growth
 pub mod Framed
 pub mod Figures

@@ -1,4 +1,4 @@
--- Document 02, C-18: stepping over, no step stalls; not stepping over, none passes over a period. Assumes nothing.
+-- docs/RULES.md, "Stepping over a stall": stepping over, no step stalls; not stepping over, none passes over a period. Assumes nothing.
 use mathlib.Core.Path.{_≡_, refl, sym, ap, _∙_}
 use mathlib.Core.Bool.{Bool, true, false, cond, _&&_, _||_, false≢true}
 use mathlib.Core.List.{List}

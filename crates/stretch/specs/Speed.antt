@@ -1,4 +1,4 @@
--- Document 01, "Stretch steps": `change_speed`. The list of a call's steps, and what is computed from it. u is the
+-- docs/RULES.md, "Stretch steps": `change_speed`. The list of a call's steps, and what is computed from it. u is the
 -- call, x the held input, h a place. Definitions only.
 use Prim.Native.Nat.{ℕ, zero, suc, _+_, _*_, _≤_}
 use mathlib.Core.Bool.{Bool, false, cond, _||_}

@@ -1,5 +1,5 @@
--- Document 01, "Stretch steps": which step is due at a place, what it gives and uses, and the place after it; with
--- document 02, C-16 and C-18. u is the call, x the held input, h a place. Definitions only.
+-- docs/RULES.md, "Stretch steps": which step is due at a place, what it gives and uses, and the place after it; with
+-- C-16 and C-18. u is the call, x the held input, h a place. Definitions only.
 use Prim.Native.Nat.{ℕ, _+_, _-_, _*_, _^_, _≤_}
 use mathlib.Core.Path.{_≡_}
 use mathlib.Core.Bool.{Bool, false, cond, _&&_}

@@ -1,4 +1,5 @@
--- Document 02, C-16 and C-18: what the steps of a list add up to. Definitions only. Assumes nothing.
+-- What the steps of a list add up to (docs/RULES.md, "A balance of frames" and "Stepping over a stall"). Definitions
+-- only. Assumes nothing.
 use Prim.Native.Nat.{ℕ, _+_}
 use mathlib.Core.List.{List, [], _∷_}
 use Rattle.stretch.specs.declared.Step.{Step}

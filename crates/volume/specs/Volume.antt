@@ -1,4 +1,4 @@
--- Document 01, "Volume.": `scale_samples` of the Rust original. Definitions only.
+-- docs/RULES.md, "Volume": `scale_samples` of the original. Definitions only.
 use mathlib.Core.Bool.{cond}
 use lib.IntN.{ℤ, pos, negsuc, _*ℤ_}
 use lib.Signed.{shrZ}

@@ -1,74 +1,44 @@
-//! The module of document 01 in plain Rust, written from the document and requests C-16 and C-18 alone. It says which calls are refused and
-//! how the accepted ones go. A model may carry one wrong edit, by its number: such a model has to be found out by the comparison.
+//! The module of docs/RULES.md in plain Rust, written from that text and requests C-16 and C-18 alone. It says which calls are refused and
+//! how the accepted ones go. The rules are traits, whose methods can be overridden: a model with one of them wrong (edits/) has to be found
+//! out by the comparison.
 
-pub mod balance;
 pub mod calls;
 pub mod edits;
-pub mod numbers;
+pub mod events;
+pub mod flush;
 pub mod order;
-pub mod passing;
 pub mod rate;
+pub mod rules;
 pub mod search;
-pub mod stretch;
+pub mod settings;
+pub mod step_over;
+pub mod steps;
+pub mod totals;
+pub mod volume;
 pub mod write;
 
-use std::cell::Cell;
+use std::rc::Rc;
 
 use crate::interface::{Balance, Stream, EMPTY};
-use edits::Edit;
+use events::{Event, Seen};
+use rules::Rules;
 
-/// What a run may meet inside a call.
-#[derive(Clone, Copy, Debug)]
-pub enum Event {
-    CopyingFast,
-    CopyingSlow,
-    CopyingAll,
-    SkipWhole,
-    SkipPart,
-    InsertWhole,
-    InsertPart,
-    InsertOne,
-    StalledAtOnce,
-    StalledLater,
-    PassedOver,
-    PassedInfinite,
-    PassedAlone,
-    PassedAndMade,
-    SecondSearch,
-    PreviousPeriod,
-    PositionsWrapped,
-    LowestSample,
-    Trimmed,
+/// The model: its rules, and what it met.
+pub struct Model {
+    pub rules: Rules,
+    seen: Rc<Seen>,
 }
 
-/// Every event with the words for it.
-pub const EVENTS: [(Event, &str); 19] = [
-    (Event::CopyingFast, "copying steps, s above 1"),
-    (Event::CopyingSlow, "copying steps, s below 1"),
-    (Event::CopyingAll, "copying steps of all frames left"),
-    (Event::SkipWhole, "skip steps, s below 2"),
-    (Event::SkipPart, "skip steps, s from 2 on"),
-    (Event::InsertWhole, "insert steps, s above 0.5"),
-    (Event::InsertPart, "insert steps, s up to 0.5"),
-    (Event::InsertOne, "insert steps of one frame"),
-    (Event::StalledAtOnce, "stalls at the first step"),
-    (Event::StalledLater, "stalls after frames were made"),
-    (Event::PassedOver, "periods passed over"),
-    (Event::PassedInfinite, "periods passed over, s infinite"),
-    (Event::PassedAlone, "calls that passed over every step"),
-    (Event::PassedAndMade, "calls that passed over some steps"),
-    (Event::SecondSearch, "second searches"),
-    (Event::PreviousPeriod, "previous periods used"),
-    (Event::PositionsWrapped, "times both positions became 0"),
-    (Event::LowestSample, "interpolated samples of -32768"),
-    (Event::Trimmed, "flushes that dropped frames"),
-];
+impl Model {
+    /// A model of these rules.
+    pub fn new(rules: Rules) -> Model {
+        Model { rules, seen: Rc::default() }
+    }
 
-/// The model, with the number of its wrong edit; 0 is none.
-pub struct Model {
-    table: &'static [i16],
-    mutation: u32,
-    seen: [Cell<u64>; EVENTS.len()],
+    /// How often an event was met.
+    pub fn met(&self, event: Event) -> u64 {
+        self.seen.met(event)
+    }
 }
 
 /// Frames that the stage and the output can take.
@@ -78,26 +48,30 @@ pub struct Room {
     pub output: usize,
 }
 
-/// A call under way: the stream, what is held, the tail, what was made, the frames that were in the stage, the frames of periods that its
-/// steps have skipped and inserted, the periods passed over, and the outcome.
+/// A call under way.
 pub struct Work {
+    /// The stream as it came, and as the call has it by now.
+    pub entering: Stream,
     pub stream: Stream,
+    /// The samples held with those added, and the frames that were added.
     pub input: Vec<i16>,
-    pub tail: Vec<i16>,
-    pub made: Vec<i16>,
+    pub added: usize,
+    /// The frames before the next step's.
+    pub position: usize,
+    /// The samples that were stretched or copied and have not gone on, and all frames that were in the stage.
+    pub stretched: Vec<i16>,
     pub staged: usize,
+    pub tail: Vec<i16>,
+    /// The samples that go out.
+    pub made: Vec<i16>,
+    /// The frames of periods that the steps have skipped and inserted, and the periods passed over.
     pub counted: Balance,
     pub passed: usize,
     pub outcome: u32,
+    seen: Rc<Seen>,
 }
 
 impl Work {
-    /// A call that starts with a stream, its held samples with those added, and its tail.
-    pub fn new(stream: Stream, input: Vec<i16>, tail: Vec<i16>) -> Work {
-        let (made, staged, counted) = (Vec::new(), stream.tail, Balance::default());
-        Work { stream, input, tail, made, staged, counted, passed: 0, outcome: EMPTY }
-    }
-
     /// The channels.
     pub fn channels(&self) -> usize {
         self.stream.channels as usize
@@ -113,27 +87,30 @@ impl Work {
         let samples = frames * self.channels();
         self.input.drain(..samples);
     }
-}
-
-impl Model {
-    /// A model with the table S and the number of a wrong edit.
-    pub fn new(table: &'static [i16], mutation: u32) -> Model {
-        Model { table, mutation, seen: std::array::from_fn(|_| Cell::new(0)) }
-    }
-
-    /// Whether this model carries the edit.
-    fn wrong(&self, edit: Edit) -> bool {
-        self.mutation == edit.number()
-    }
 
     /// Counts an event.
     fn saw(&self, event: Event) {
-        let count = &self.seen[event as usize];
-        count.set(count.get() + 1);
+        self.seen.saw(event);
     }
+}
 
-    /// How often an event was met.
-    pub fn met(&self, event: Event) -> u64 {
-        self.seen[event as usize].get()
+impl Model {
+    /// A call that starts with a stream, the samples of its held frames, those added with the play time that they make, and the tail.
+    fn work(&self, stream: Stream, held: &[i16], added: &write::Added, tail: &[i16]) -> Work {
+        Work {
+            entering: stream,
+            stream: Stream { input_play_time: added.play_time, ..stream },
+            input: [held, &added.samples].concat(),
+            added: added.samples.len() / stream.channels as usize,
+            position: 0,
+            stretched: Vec::new(),
+            staged: stream.tail,
+            tail: tail.to_vec(),
+            made: Vec::new(),
+            counted: Balance::default(),
+            passed: 0,
+            outcome: EMPTY,
+            seen: Rc::clone(&self.seen),
+        }
     }
 }

@@ -1,15 +1,13 @@
-//! Refusals 3 and 4 of document 01: streams in order, and areas that reach.
+//! Streams in order, areas that reach, and the turn of the refusals: docs/RULES.md, "Areas and refusals".
 
-use super::edits::Edit;
-use super::numbers::{sample_period, PITCHES, SPEEDS, VOLUMES};
-use super::search::{max_period, max_required, min_period};
-use super::Model;
-use crate::interface::{Areas, Stream};
+use super::settings::{max_period, max_required, min_period, sample_period, PITCHES, SPEEDS, VOLUMES};
+use super::{Model, Room, Work};
+use crate::interface::{Areas, Stream, Told, Wrote};
 
 /// The longest area, in samples.
 pub const LONGEST_AREA: usize = 16_777_216;
 /// The greatest least mean.
-const GREATEST_MEAN: usize = 65_535;
+pub const GREATEST_MEAN: usize = 65_535;
 /// The rates that can be opened.
 pub const RATES: std::ops::RangeInclusive<u32> = 1_000..=500_000;
 /// The channel counts that can be opened.
@@ -20,70 +18,110 @@ fn within(value: f32, (low, high): (f32, f32)) -> bool {
     low <= value && value <= high
 }
 
-impl Model {
-    /// Whether a stream is in order.
-    pub fn in_order(&self, stream: &Stream) -> bool {
+/// The rules for what is refused, and in which turn.
+pub trait Order {
+    /// Whether a stream is in order, N and O being its rates.
+    fn in_order(&self, stream: &Stream, (new, old): (usize, usize)) -> bool {
         RATES.contains(&stream.rate)
             && CHANNELS.contains(&stream.channels)
-            && self.settings_in_order(stream)
-            && self.record_in_order(stream)
-            && self.positions_in_order(stream)
-            && !(self.wrong(Edit::TwoOutOfOrder) && stream.step_over > 1)
-            && !(self.wrong(Edit::FullTotalOutOfOrder) && stream.balance.skipped.max(stream.balance.inserted) == u64::MAX)
+            && within(stream.speed, SPEEDS)
+            && within(stream.pitch, PITCHES)
+            && self.volume_in_order(stream.volume)
+            && self.previous_period_in_order(stream)
+            && self.least_mean_in_order(stream.prev_min_diff)
+            && self.positions_in_order(stream, new, old)
+            && self.sample_period_in_order(stream)
     }
 
-    /// Whether the settings and the sample period are in order.
-    fn settings_in_order(&self, stream: &Stream) -> bool {
-        let volume = within(stream.volume, VOLUMES);
-        let volume = if self.wrong(Edit::VolumeEndInDouble) { volume && f64::from(stream.volume) >= 0.01 } else { volume };
-        let period = stream.sample_period == sample_period(stream.rate) || self.wrong(Edit::AnySamplePeriod);
-        within(stream.speed, SPEEDS) && within(stream.pitch, PITCHES) && volume && period
+    /// Whether a volume is in order.
+    fn volume_in_order(&self, volume: f32) -> bool {
+        within(volume, VOLUMES)
     }
 
-    /// Whether the record of the last search is in order.
-    fn record_in_order(&self, stream: &Stream) -> bool {
+    /// Whether the previous period is 0 or in range.
+    fn previous_period_in_order(&self, stream: &Stream) -> bool {
         let periods = min_period(stream.rate)..=max_period(stream.rate);
-        let period = stream.prev_period == 0 || periods.contains(&stream.prev_period) || self.wrong(Edit::AnyPreviousPeriod);
-        let greatest = if self.wrong(Edit::LeastMeanOneHigher) { GREATEST_MEAN + 1 } else { GREATEST_MEAN };
-        period && stream.prev_min_diff <= greatest
+        stream.prev_period == 0 || periods.contains(&stream.prev_period)
+    }
+
+    /// Whether a previous least mean is in order.
+    fn least_mean_in_order(&self, mean: usize) -> bool {
+        mean <= GREATEST_MEAN
     }
 
     /// Whether p is below O, and n the least whole number with n·O ≥ p·N.
-    fn positions_in_order(&self, stream: &Stream) -> bool {
-        let (new, old) = self.rates(stream.rate, stream.pitch);
+    fn positions_in_order(&self, stream: &Stream, new: usize, old: usize) -> bool {
         let (p, n) = (stream.old_rate_position, stream.new_rate_position);
-        let least = if p < old { (p * new).div_ceil(old) } else { 0 };
-        p < old && (n == least || (n > least && self.wrong(Edit::NewPositionAhead)))
+        p < old && n == (p * new).div_ceil(old)
     }
 
-    /// Whether an area holds so many frames.
-    fn reaches(&self, area: &[i16], frames: usize, channels: u32) -> bool {
-        let channels = channels as usize;
-        if self.wrong(Edit::CountsWrap) {
-            return frames.wrapping_mul(channels) <= area.len();
-        }
-        frames <= area.len() / channels
+    /// Whether T is that of the rate.
+    fn sample_period_in_order(&self, stream: &Stream) -> bool {
+        stream.sample_period == sample_period(stream.rate)
     }
 
     /// Whether an area is not too long.
     fn short_enough(&self, area: &[i16]) -> bool {
-        area.len() <= LONGEST_AREA || self.wrong(Edit::AnyAreaLength)
+        area.len() <= LONGEST_AREA
+    }
+
+    /// Whether the scratch is long enough.
+    fn scratch_reaches(&self, scratch: &[i16], rate: u32) -> bool {
+        scratch.len() >= max_required(rate)
+    }
+
+    /// Whether an area holds so many frames.
+    fn reaches(&self, area: &[i16], frames: usize, channels: u32) -> bool {
+        frames <= area.len() / channels as usize
     }
 
     /// Whether the areas of a write or a flush are those that the stream needs.
-    pub fn areas_in_order(&self, stream: &Stream, areas: &Areas<'_>) -> bool {
+    fn areas_in_order(&self, stream: &Stream, areas: &Areas<'_>) -> bool {
         let all = [&*areas.input, &*areas.stage, &*areas.output, &*areas.scratch];
-        let required = max_required(stream.rate) - usize::from(self.wrong(Edit::ScratchOneShort));
         all.iter().all(|area| self.short_enough(area))
-            && areas.scratch.len() >= required
+            && self.scratch_reaches(areas.scratch, stream.rate)
             && self.reaches(areas.input, stream.held, stream.channels)
             && self.reaches(areas.stage, stream.tail, stream.channels)
             && self.reaches(areas.output, stream.waiting, stream.channels)
     }
 
     /// Whether the output area of a read is what the stream needs.
-    pub fn output_in_order(&self, stream: &Stream, output: &[i16]) -> bool {
-        let short = self.short_enough(output) || self.wrong(Edit::ReadOfAnyLength);
-        short && self.reaches(output, stream.waiting, stream.channels)
+    fn output_in_order(&self, stream: &Stream, output: &[i16]) -> bool {
+        self.short_enough(output) && self.reaches(output, stream.waiting, stream.channels)
+    }
+
+    /// Refusal 3 or 4 of a write or a flush, if met.
+    fn early_refusal(&self, stream: &Stream, in_order: bool, areas: &Areas<'_>) -> Option<u32> {
+        if !in_order {
+            return Some(3);
+        }
+        (!self.areas_in_order(stream, areas)).then_some(4)
+    }
+
+    /// Whether frames held and frames added exceed the input.
+    fn input_full(&self, stream: &Stream, added: usize, room: usize) -> bool {
+        stream.held + added > room
+    }
+
+    /// The frames of the stage that are free: the tail takes its part at every pitch.
+    fn stage_free(&self, stream: &Stream, stage: usize) -> usize {
+        stage - stream.tail
+    }
+
+    /// Refusal 5 before those that the work meets: 6, 7 and then 12.
+    fn refuse_in_turn(&self, full: bool, room: Room, process: &dyn Fn(Room) -> Result<Work, u32>) -> Result<Work, u32> {
+        if full { Err(5) } else { process(room) }
+    }
+
+    /// A refused write or flush: the stream as it came, and the areas as they were.
+    fn refused(&self, refusal: u32, stream: Stream, _areas: Areas<'_>) -> Wrote {
+        Wrote { refusal, told: Told::default(), stream }
+    }
+}
+
+impl Model {
+    /// Whether a stream is in order.
+    pub fn in_order(&self, stream: &Stream) -> bool {
+        self.rules.order.in_order(stream, self.rules.rate.rates(stream.rate, stream.pitch))
     }
 }

@@ -1,11 +1,14 @@
-//! The pitch period search of document 01.
+//! The pitch period search: docs/RULES.md, "Period search".
 
-use super::edits::Edit;
-use super::{Event, Model};
+use std::borrow::Cow;
+
+use super::events::Event;
+use super::settings::{max_period, max_required, min_period};
+use super::{Model, Work};
 use crate::interface::Stream;
 
 /// Samples per second that the first search is held to.
-const COARSE_RATE: usize = 4_000;
+pub const COARSE_RATE: usize = 4_000;
 
 /// What a search gives: the period, and the least and the greatest mean difference.
 #[derive(Clone, Copy)]
@@ -18,8 +21,8 @@ pub struct Found {
 /// A sum of differences over the period that it was taken for.
 #[derive(Clone, Copy)]
 pub struct Mean {
-    sum: u64,
-    period: u64,
+    pub sum: u64,
+    pub period: u64,
 }
 
 impl Mean {
@@ -29,29 +32,9 @@ impl Mean {
     }
 
     /// Whether this mean is below the other.
-    fn below(self, other: Mean) -> bool {
+    pub fn below(self, other: Mean) -> bool {
         self.sum * other.period < other.sum * self.period
     }
-
-    /// The mean itself.
-    fn exact(self) -> f64 {
-        self.sum as f64 / self.period as f64
-    }
-}
-
-/// The shortest period of a rate.
-pub fn min_period(rate: u32) -> usize {
-    rate as usize / 400
-}
-
-/// The longest period of a rate.
-pub fn max_period(rate: u32) -> usize {
-    rate as usize / 65
-}
-
-/// The frames that a search needs.
-pub fn max_required(rate: u32) -> usize {
-    2 * max_period(rate)
 }
 
 /// D(q): the sum of |x[i] − x[i+q]| over i < q, at most 7,692·65,535.
@@ -61,22 +44,15 @@ fn difference(x: &[i16], q: usize) -> Mean {
     Mean { sum: u64::from(sum), period: q as u64 }
 }
 
-impl Model {
-    /// Samples per value of the first search.
-    pub fn skip(&self, rate: u32) -> usize {
-        let first = if self.wrong(Edit::SkipAboveEightThousand) { 2 * COARSE_RATE } else { COARSE_RATE };
-        if rate as usize > first { rate as usize / COARSE_RATE } else { 1 }
-    }
-
+/// The rules of the period search.
+pub trait Search {
     /// The smallest period with the least mean difference, and the least and the greatest mean.
     fn search(&self, x: &[i16], low: usize, high: usize) -> Found {
-        let high = if self.wrong(Edit::LongestPeriodLeftOut) && high > low { high - 1 } else { high };
         let first = difference(x, low);
         let mut found = Found { period: low, least: first, greatest: first };
         for q in low + 1..=high {
             let mean = difference(x, q);
-            let tie = self.wrong(Edit::TieToLaterPeriod) && !found.least.below(mean);
-            if mean.below(found.least) || tie {
+            if self.better(mean, found.least) {
                 found.least = mean;
                 found.period = q;
             }
@@ -84,74 +60,94 @@ impl Model {
                 found.greatest = mean;
             }
         }
-        if self.wrong(Edit::SilenceHasLongestPeriod) && found.greatest.sum == 0 {
-            found.period = high;
-        }
         found
     }
 
-    /// Averages of so many samples each, cut toward zero.
+    /// Whether a later period's mean is better than the least one.
+    fn better(&self, mean: Mean, least: Mean) -> bool {
+        mean.below(least)
+    }
+
+    /// Samples per value of the first search.
+    fn skip(&self, rate: u32) -> usize {
+        if rate as usize > COARSE_RATE { rate as usize / COARSE_RATE } else { 1 }
+    }
+
+    /// The average of some samples, cut toward zero.
+    fn average(&self, samples: &[i16]) -> i16 {
+        (samples.iter().map(|&sample| i32::from(sample)).sum::<i32>() / samples.len() as i32) as i16
+    }
+
+    /// Averages of so many samples each.
     fn averages(&self, x: &[i16], per: usize, count: usize) -> Vec<i16> {
-        let average = |group: &[i16]| {
-            let sum: i32 = group.iter().map(|&s| i32::from(s)).sum();
-            let per = group.len() as i32;
-            (if self.wrong(Edit::MeanRoundedDown) { sum.div_euclid(per) } else { sum / per }) as i16
-        };
-        x.chunks(per).take(count).map(average).collect()
+        x.chunks(per).take(count).map(|samples| self.average(samples)).collect()
     }
 
     /// One value per frame: the average of the channels.
-    fn mixed(&self, x: &[i16], channels: usize, count: usize) -> Vec<i16> {
-        if self.wrong(Edit::FirstChannelSearched) {
-            return x.chunks(channels).take(count).map(|frame| frame[0]).collect();
-        }
-        self.averages(x, channels, count)
+    fn mixed<'a>(&self, x: &'a [i16], channels: usize, count: usize) -> Cow<'a, [i16]> {
+        if channels == 1 { x.into() } else { self.averages(x, channels, count).into() }
     }
 
     /// The search of one step, in the frames from its position on.
     fn found(&self, x: &[i16], rate: u32, channels: usize) -> Found {
         let (low, high, required, skip) = (min_period(rate), max_period(rate), max_required(rate), self.skip(rate));
+        let mixed = self.mixed(x, channels, required);
         if skip == 1 {
-            return if channels == 1 { self.search(x, low, high) } else { self.search(&self.mixed(x, channels, required), low, high) };
+            return self.search(&mixed, low, high);
         }
-        let coarse = self.search(&self.averages(x, channels * skip, required / skip), low / skip, high / skip);
-        let around = if self.wrong(Edit::SecondSearchNarrow) { 4 } else { 4 * skip };
-        let middle = coarse.period * skip;
-        let low = if self.wrong(Edit::SecondSearchBelowShortest) { 1 } else { low };
-        let (low, high) = (low.max(middle.saturating_sub(around)), high.min(middle + around));
-        self.saw(Event::SecondSearch);
-        let fine = if channels == 1 { self.search(x, low, high) } else { self.search(&self.mixed(x, channels, required), low, high) };
-        if self.wrong(Edit::MeansOfFirstSearch) { Found { period: fine.period, ..coarse } } else { fine }
+        let averages = self.averages(x, channels * skip, required / skip);
+        self.second_search(&mixed, rate, self.search(&averages, low / skip, high / skip))
+    }
+
+    /// The second search, at full rate: its period and its means.
+    fn second_search(&self, x: &[i16], rate: u32, first: Found) -> Found {
+        let (low, high) = self.second_range(rate, first.period * self.skip(rate));
+        self.search(x, low, high)
+    }
+
+    /// The periods of the second search: within 4·skip of the first one's, inside the range.
+    fn second_range(&self, rate: u32, middle: usize) -> (usize, usize) {
+        let around = 4 * self.skip(rate);
+        (min_period(rate).max(middle.saturating_sub(around)), max_period(rate).min(middle + around))
     }
 
     /// Whether the previous period is used in place of the one found.
     fn previous_better(&self, stream: &Stream, found: Found) -> bool {
-        let (least, greatest, previous) = (found.least.whole(), found.greatest.whole(), stream.prev_min_diff);
-        if stream.prev_period == 0 || least == 0 {
-            return false;
-        }
-        if self.wrong(Edit::MeansComparedExactly) {
-            let (least, greatest) = (found.least.exact(), found.greatest.exact());
-            return greatest <= 3.0 * least && 2.0 * least > 3.0 * previous as f64;
-        }
-        let close = if self.wrong(Edit::PreviousBelowThrice) { greatest < 3 * least } else { greatest <= 3 * least };
-        let worse = if self.wrong(Edit::PreviousAtEqualMeans) { 2 * least >= 3 * previous } else { 2 * least > 3 * previous };
-        close && worse
+        let (least, greatest) = (found.least.whole(), found.greatest.whole());
+        stream.prev_period != 0 && least != 0 && self.means_close(least, greatest) && self.mean_worse(least, stream.prev_min_diff)
     }
 
-    /// The period that a step uses; the stream's record takes what was found.
-    pub fn period(&self, stream: &mut Stream, x: &[i16]) -> usize {
-        let found = self.found(x, stream.rate, stream.channels as usize);
-        let previous = self.previous_better(stream, found);
-        let used = if previous { stream.prev_period } else { found.period };
-        if previous {
-            self.saw(Event::PreviousPeriod);
-        }
-        if self.wrong(Edit::RecordWithoutSilence) && found.least.whole() == 0 {
-            return used;
-        }
-        stream.prev_period = if self.wrong(Edit::RecordTakesPeriodUsed) { used } else { found.period };
+    /// Whether the greatest mean is not far from the least.
+    fn means_close(&self, least: usize, greatest: usize) -> bool {
+        greatest <= 3 * least
+    }
+
+    /// Whether the least mean is worse than the previous one.
+    fn mean_worse(&self, least: usize, previous: usize) -> bool {
+        2 * least > 3 * previous
+    }
+
+    /// The record takes the period found, whichever is used, and its mean.
+    fn record(&self, stream: &mut Stream, found: Found, _used: usize) {
+        stream.prev_period = found.period;
         stream.prev_min_diff = found.least.whole();
+    }
+}
+
+impl Model {
+    /// The period that the next step uses.
+    pub fn period(&self, work: &mut Work) -> usize {
+        let (rules, channels) = (self.rules.search, work.channels());
+        let found = rules.found(&work.input[work.position * channels..], work.stream.rate, channels);
+        if rules.skip(work.stream.rate) > 1 {
+            work.saw(Event::SecondSearch);
+        }
+        let previous = rules.previous_better(&work.stream, found);
+        if previous {
+            work.saw(Event::PreviousPeriod);
+        }
+        let used = if previous { work.stream.prev_period } else { found.period };
+        rules.record(&mut work.stream, found, used);
         used
     }
 }

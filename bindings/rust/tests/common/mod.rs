@@ -1,5 +1,10 @@
-//! Reels and runs that several tests share. All arithmetic of a reel is exact, so that it is the same on every machine.
+//! Runs that several tests share. Their reels are saws, which are the same on every machine.
 #![allow(dead_code)]
+
+#[path = "../../../../tests/signals.rs"]
+pub mod signals;
+
+use signals::saw;
 
 /// A stream of either implementation.
 pub trait Stretcher {
@@ -45,35 +50,6 @@ macro_rules! stretcher {
     };
 }
 
-/// Pseudorandom numbers.
-pub struct Dice(pub u32);
-
-impl Dice {
-    pub fn throw(&mut self) -> u32 {
-        self.0 = self.0.wrapping_mul(1_664_525).wrapping_add(1_013_904_223);
-        self.0 >> 8
-    }
-
-    /// One of 0 to `count` − 1.
-    pub fn below(&mut self, count: usize) -> usize {
-        self.throw() as usize % count
-    }
-}
-
-/// A saw of a period in frames, from frame `from` on; each channel is weaker than the one before, and `noise` is added.
-pub fn voice(from: usize, frames: usize, channels: usize, period: usize, noise: u32) -> Vec<f32> {
-    let mut dice = Dice(from as u32 + 12345);
-    let mut all = Vec::with_capacity(frames * channels);
-    for f in from..from + frames {
-        let saw = (f % period) as i32 * 24_000 / period as i32 - 12_000;
-        for c in 1..=channels as i32 {
-            let rustle = if noise == 0 { 0 } else { (dice.throw() % noise) as i32 - noise as i32 / 2 };
-            all.push((saw / c + rustle) as f32 / 32_768.0);
-        }
-    }
-    all
-}
-
 /// A run: settings, a voice, and how it is written and read.
 pub struct Case {
     pub name: &'static str,
@@ -114,7 +90,7 @@ pub fn run<S: Stretcher>(case: &Case) -> Vec<f32> {
     let mut stream = S::open(case.rate, case.channels);
     let (speed, pitch, volume) = case.settings;
     stream.set(speed, pitch, volume);
-    let samples = voice(0, case.frames, case.channels as usize, case.period, case.noise);
+    let samples = saw(0, case.frames, case.channels as usize, case.period, case.noise);
     let chunks: Vec<&[f32]> = samples.chunks(case.chunk * case.channels as usize).collect();
     let mut given = Vec::new();
     for (i, chunk) in chunks.iter().enumerate() {

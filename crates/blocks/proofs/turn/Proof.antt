@@ -7,7 +7,7 @@ use lib.ListN.{length-take}
 use Rattle.stream.specs.declared.SonicStream.{SonicStream}
 use Rattle.reels.proofs.Blocks.{front-length}
 use Rattle.blocks.specs.Blocks.{BlockWritten}
-use Rattle.blocks.proofs.Parts.{samples-whole, turned}
+use Rattle.blocks.proofs.Parts.{read-serving, read-none-waits, samples-whole, turned}
 use Rattle.blocks.proofs.turn.Statement.{statement}
 use Rattle.blocks.proofs.turn.Tie as tie
 
@@ -42,7 +42,13 @@ write-block-requires c κs =
         ap (λ (s : SonicStream). s .channels) (e .1 .counted .stream-kept) ∙ p .0 .1,
         ap (λ (k : ℕ). k % channels) (front-length _ (b .samples) (e .0)) ∙ samples-whole (start r .args .plan) (start r .args .reel) b (e .1),
       ),
-      (omega arith, omega (arith, r .read-block .kept .1 .1 .1 .0)),
+      (
+        omega arith,
+        omega (arith, r .read-block .kept .1 .1 .1 .0),
+        p .1 .3,
+        read-serving (start r .args .plan) (start r .args .reel) b (e .1) (p .1 .4),
+        read-none-waits (start r .args .plan) (start r .args .reel) b (e .1) (p .1 .5),
+      ),
     )
 
 returns : tie.Need-returns
@@ -55,7 +61,7 @@ returns c =
     let e = r .read-block .ensures in
     let size = front-length _ (b .samples) (e .0) in
     turned (a .plan) (a .reel) b (w .write-block .result) (s .pre .0 .0 .limits .channels-low) (s .pre .0 .2) (e .1)
-    (subst (λ (n : ℕ). BlockWritten (n / a .plan .channels) (b .reel) (w .write-block .result)) size (w .write-block .ensures))
+    (subst (λ (n : ℕ). BlockWritten (a .plan) (n / a .plan .channels) (b .reel) (w .write-block .result)) size (w .write-block .ensures))
 
 -- ---- what search closes
 
@@ -66,25 +72,25 @@ slice-reshare-prefix-write-block : tie.Need-slice-reshare-prefix-write-block
 slice-reshare-prefix-write-block c = search needs
 
 same-length : tie.Need-same-length
-same-length c = search needs
+same-length c = let w = after-write c in omega (arith, w .write-block .kept .1 .1 .1 .0)
 
 same-length-2 : tie.Need-same-length-2
-same-length-2 c = search needs
+same-length-2 c = let w = after-write c in omega (arith, w .write-block .kept .1 .1 .1 .1 .0)
 
 same-length-3 : tie.Need-same-length-3
-same-length-3 c = search needs
+same-length-3 c = let w = after-write c in omega (arith, w .write-block .kept .1 .1 .1 .1 .1 .0)
 
 same-length-4 : tie.Need-same-length-4
-same-length-4 c = search needs
+same-length-4 c = let w = after-write c in omega (arith, w .write-block .kept .1 .1 .1 .1 .1 .1 .0)
 
 same-length-5 : tie.Need-same-length-5
-same-length-5 c = search needs
+same-length-5 c = read-before (after-write c .before) .read-block .kept .1 .1 .0
 
 same-length-6 : tie.Need-same-length-6
-same-length-6 c = search needs
+same-length-6 c = let w = after-write c in omega (arith, w .write-block .kept .1 .1 .1 .1 .1 .1 .1 .0)
 
 same-length-7 : tie.Need-same-length-7
-same-length-7 c = search needs
+same-length-7 c = let w = after-write c in omega (arith, w .write-block .kept .1 .1 .1 .1 .1 .1 .1 .1 .0, read-before (w .before) .read-block .kept .1 .1 .1 .0)
 
 pub turn-spec : {M : Type 1} → statement M
 turn-spec =

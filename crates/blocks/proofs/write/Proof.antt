@@ -1,11 +1,12 @@
 -- `blocks::write` meets its contract. Assumes nothing.
 use borrow.Author.Needs.{needs}
-use mathlib.Core.Path.{ap, _∙_}
+use mathlib.Core.Path.{ap, subst, _∙_}
 use Prim.Native.Nat.{ℕ, _+_, _%_, _^_}
 use Rattle.adding.specs.declared.Wrote.{Wrote}
 use Rattle.frames.specs.Areas.{areas}
-use Rattle.adding.specs.Calls.{writeCall}
-use Rattle.blocks.proofs.Parts.{answered-with, noted-as}
+use Rattle.adding.specs.Calls.{writeCall, OrderAfter}
+use Rattle.reels.specs.declared.state.RunState.{RunState}
+use Rattle.blocks.proofs.Parts.{answered-with, counted-as, noted-as}
 use Rattle.blocks.proofs.write.Statement.{statement}
 use Rattle.blocks.proofs.write.Tie as tie
 
@@ -17,34 +18,24 @@ start w = w .before .before .before .before .before .before
 abbrev after-write : tie.After-frames → tie.After-write-f32
 after-write c = c .before .before .before .before .before
 
--- ---- the answer
+-- the answer
 
 abbrev answer : tie.After-write-f32 → Wrote
 answer w =
     let a = start w .args in
     writeCall (a .reel .stream) (a .samples .now) (areas (a .input .now) (a .stage .now) (a .output .now) (a .scratch .now)) .answer
 
-returns : tie.Need-returns
-returns c =
-    let u = c .before in
-    let n = u .before in
-    let f = n .before in
-    let w = after-write f in
-    let t = n .answered .result in
-    let a = n .answered .ensures in
-    let same = w .write-f32 .ensures .0 .answer in
-    let written = u .wrapping-add-u64 .ensures ∙ ap (λ (k : ℕ). (start w .args .reel .written + k) % 2 ^ 64) (f .frames .ensures) in
-    let noted = c .noted-write .ensures ∙ noted-as a same written in
-    answered-with t (u .wrapping-add-u64 .result) (t .flushed) (c .noted-write .result) (t .gave) {answer = answer w} same written (a .flushed-is) noted
-    (a .gave-is) a
-
--- ---- what search closes
-
 write-f32-requires : tie.Need-write-f32-requires
 write-f32-requires c κs = search needs
 
 frames-requires : tie.Need-frames-requires
 frames-requires c κs = search needs
+
+first-held-requires : tie.Need-first-held-requires
+first-held-requires c κs = search needs
+
+count-stall-requires : tie.Need-count-stall-requires
+count-stall-requires c κs = search needs
 
 answered-requires : tie.Need-answered-requires
 answered-requires c κs = search needs
@@ -67,12 +58,34 @@ same-length-3 c = search needs
 same-length-4 : tie.Need-same-length-4
 same-length-4 c = search needs
 
+returns : tie.Need-returns
+returns c =
+    let u = c .before in
+    let n = u .before in
+    let k = n .before in
+    let h = k .before in
+    let f = h .before in
+    let w = after-write f in
+    let t = n .answered .result in
+    let a = n .answered .ensures in
+    let same = w .write-f32 .ensures .0 .answer in
+    let place = h .first-held .ensures in
+    let written = u .wrapping-add-u64 .ensures ∙ ap (λ (k : ℕ). (start w .args .reel .written + k) % 2 ^ 64) (f .frames .ensures) in
+    let counted = counted-as (start w .args .reel .stalls) place same (k .count-stall .ensures) in
+    let noted = c .noted-write .ensures ∙ noted-as a same written in (
+      answered-with t (u .wrapping-add-u64 .result) (t .flushed) (k .count-stall .result) (c .noted-write .result) (t .gave) {answer = answer w}
+          (ap RunState.Stalled place) same written (a .flushed-is) counted noted (a .gave-is) a,
+      subst OrderAfter same (w .write-f32 .ensures .1),
+    )
+
 pub write-spec : {M : Type 1} → statement M
 write-spec =
     tie.close
     (tie.spec
     write-f32-requires
     frames-requires
+    first-held-requires
+    count-stall-requires
     answered-requires
     wrapping-add-u64-requires
     noted-write-requires

@@ -1,21 +1,25 @@
 -- `blocks::write_block` meets its contract and ends: each write takes a sample or more of the block. Assumes nothing.
 use borrow.Author.Needs.{needs}
-use mathlib.Core.Path.{_≡_, refl, sym, ap, _∙_}
+use mathlib.Core.Path.{_≡_, refl, sym, ap, _∙_, subst}
 use mathlib.Core.Bool.{true}
 use mathlib.Core.List.{List}
 use mathlib.Core.Logic.{⊎-elim}
-use Prim.Native.Nat.{ℕ, _-_, _*_, _/_, _%_, _^_, _≤_, _<_}
+use Prim.Native.Nat.{ℕ, _+_, _-_, _*_, _/_, _%_, _^_, _≤_, _<_}
 use native.Mathlib.Nat.{zero-div, zero-mod}
 use native.Mathlib.Omega.{arith}
 use lib.Ieee.{Float}
 use lib.ListN.{length, take, drop}
 use Rattle.frames.specs.Areas.{Areas, areas}
 use Rattle.adding.specs.Calls.{writeCall}
-use Rattle.reels.specs.Reels.{going}
-use Rattle.reels.proofs.Blocks.{few-least, write-frames, write-whole}
-use Rattle.reels.proofs.Going.{failed-once}
+use Rattle.reels.specs.Reels.{takesMore}
+use Rattle.plans.specs.Plans.{blockSamples}
+use Rattle.serving.specs.Steady.{AreasSized}
+use Rattle.reels.specs.States.{sound}
+use Rattle.reels.proofs.Blocks.{few-least, write-length, write-frames, write-whole}
+use Rattle.reels.proofs.Going.{failed-once, takes-sound}
 use Rattle.blocks.specs.Blocks.{PartWritten}
 use Rattle.blocks.proofs.StreamAfter.{write-keeps}
+use Rattle.blocks.proofs.Serving.{takes-one, write-serving}
 use Rattle.blocks.proofs.Parts.{part-start, part-more, part-end}
 use Rattle.blocks.proofs.write_block.Statement.{statement}
 use Rattle.blocks.proofs.write_block.Tie as tie
@@ -56,7 +60,7 @@ abbrev Inv-loop : tie.InvT-loop
 Inv-loop reel₀ block plan input₀ stage₀ output₀ scratch₀ values₀ bytes₀ few at₀ reel input stage output scratch values bytes at =
     (at ≤ length block) × (length input ≡ length input₀) × (length stage ≡ length stage₀) × (length output ≡ length output₀)
     × (length scratch ≡ length scratch₀) × (length values ≡ length values₀) × (length bytes ≡ length bytes₀) × (at % plan .channels ≡ 0)
-    × PartWritten (at / plan .channels) reel₀ reel
+    × PartWritten plan (at / plan .channels) reel₀ reel × (sound (reel .state) ≡ true → reel .stream .waiting .0 ≤ few)
 
 abbrev μ-loop : tie.MeasureT-loop
 μ-loop reel₀ block plan input₀ stage₀ output₀ scratch₀ values₀ bytes₀ few at₀ reel input stage output scratch values bytes at = length block - at
@@ -65,8 +69,18 @@ loop-holds : tie.Need-loop-holds Inv-loop μ-loop
 loop-holds c =
     let s = c .before .before .before .before in
     let channels = s .args .plan .channels in
-    let fits : s .args .reel .written < 2 ^ 64 = omega (arith, s .good .0) in
-    (omega arith, refl, refl, refl, refl, refl, refl, zero-mod channels, part-start (0 / channels) (zero-div channels) fits)
+    let fits : s .args .reel .written < 2 ^ 64 = omega (arith, s .good .0) in (
+      omega arith,
+      refl,
+      refl,
+      refl,
+      refl,
+      refl,
+      refl,
+      zero-mod channels,
+      part-start (0 / channels) (zero-div channels) fits (s .pre .1 .3),
+      λ e. omega (arith, s .pre .1 .4 e),
+    )
 
 frames-requires : tie.Need-frames-requires Inv-loop μ-loop
 frames-requires c κs = c .before .before .before .pre .0 .0 .limits .channels-low
@@ -75,7 +89,8 @@ write-end-requires : tie.Need-write-end-requires Inv-loop μ-loop
 write-end-requires c κs =
     let l = turn-loop c in
     let p = start l .pre in
-    (p .0 .0, omega arith, l .loop .inv .7, p .0 .2)
+    let goes = sym (c .before .takes-more .ensures) ∙ c .if1 .taken in
+    (p .0 .0, omega arith, l .loop .inv .7, p .0 .2, takes-one (start l .args .plan) (l .loop .reel) (p .0 .0) (l .loop .inv .8 .serving) goes)
 
 write-requires : tie.Need-write-requires Inv-loop μ-loop
 write-requires c κs =
@@ -90,20 +105,26 @@ write-requires c κs =
 
 -- the lengths that a drain asks for
 roomy : (l : tie.At-loop Inv-loop μ-loop) → (32 ≤ length (l .loop .values)) × (2 * length (l .loop .values) ≤ length (l .loop .bytes))
+    × AreasSized (areas (l .loop .input) (l .loop .stage) (l .loop .output) (l .loop .scratch))
 roomy l =
     let p = start l .pre .1 in
     let inv = l .loop .inv in
-    (omega (arith, p .0, inv .5), omega (arith, p .1, inv .5, inv .6))
+    let z = p .2 in (
+      omega (arith, p .0, inv .5),
+      omega (arith, p .1, inv .5, inv .6),
+      record { input = inv .1 ∙ z .input; stage = inv .2 ∙ z .stage; output = inv .3 ∙ z .output; scratch = inv .4 ∙ z .scratch },
+    )
 
 put-ended-requires : tie.Need-put-ended-requires Inv-loop μ-loop
 put-ended-requires c κs = start (turn-loop (after-end (written c .before) .before)) .pre .0 .0 .limits
 
 drain-requires : tie.Need-drain-requires Inv-loop μ-loop
 drain-requires c κs =
-    let l = turn-loop (after-end (after-write (after-put c) .before) .before) in
+    let w = after-write (after-put c) in
+    let l = turn-loop (after-end (w .before) .before) in
     let u = start l .pre .0 .0 .limits in
     let r = roomy l in
-    (omega (arith, l .before .frames .ensures, few-least (start l .args .plan .channels) (u .channels-low) (u .channels-high)), r .0, r .1)
+    (omega (arith, l .before .frames .ensures, few-least (start l .args .plan .channels) (u .channels-low) (u .channels-high)), r .0, r .1, omega (arith, w .write .kept .1 .1 .1 .1 .1 .0, r .2 .output))
 
 loop-less : tie.Need-loop-less Inv-loop μ-loop
 loop-less c =
@@ -124,10 +145,18 @@ loop-again c =
     let channels-low = s .pre .0 .0 .limits .channels-low in
     let lent : Areas = areas (l .loop .input) (l .loop .stage) (l .loop .output) (l .loop .scratch) in
     let samples : List Float = take (end .result - at) (drop at (s .args .block .now)) in
-    let same = write-keeps (l .loop .reel .stream) samples lent (w .write .ensures .stream-is) in
+    let done = w .write .ensures in
+    let same = write-keeps (l .loop .reel .stream) samples lent (done .0 .stream-is) in
     let before : at ≤ end .result = omega (arith, end .ensures .0) in
     let frames = write-frames (s .args .block .now) at (end .result) channels-low before (end .ensures .1) (inv .7) in
-    let goes = sym (e .before .before .is-going .ensures) ∙ e .before .if1 .taken in (
+    let goes = sym (e .before .before .takes-more .ensures) ∙ e .before .if1 .taken in
+    let r = l .loop .reel in
+    let ch = s .args .plan .channels in
+    let few : r .stream .waiting .0 ≤ blockSamples / ch =
+    omega (arith, inv .9 (takes-sound (s .args .plan) (r .stream .held .0) (r .state) goes), l .before .frames .ensures) in
+    let within : r .stream .held .0 + length samples / ch ≤ s .args .plan .limit =
+    subst (λ (k : ℕ). r .stream .held .0 + k / ch ≤ s .args .plan .limit) (sym (write-length (s .args .block .now) at (end .result) before (end .ensures .1))) (end .ensures .3) in
+    let serving = write-serving (s .args .plan) r (w .write .result) samples lent _ (roomy l .2) few within goes (inv .8 .serving) (done .1) (done .0) in (
       end .ensures .1,
       omega (arith, w .write .kept .1 .1 .1 .0, inv .1),
       omega (arith, w .write .kept .1 .1 .1 .1 .0, inv .2),
@@ -136,12 +165,13 @@ loop-again c =
       omega (arith, d .drain .kept .1 .1 .1 .0, inv .5),
       omega (arith, d .drain .kept .1 .1 .1 .1 .0, inv .6),
       end .ensures .2,
-      part-more {answer = writeCall (l .loop .reel .stream) samples lent .answer} _ _ _ frames goes (inv .8) (w .write .ensures) same
-          (p .put-ended .ensures) (d .drain .ensures .out),
+      part-more {answer = writeCall (l .loop .reel .stream) samples lent .answer} _ _ _ frames goes (inv .8) (done .0) same
+          serving (p .put-ended .ensures) (d .drain .ensures .out),
+      λ x. omega (arith, d .drain .ensures .fewer x),
     )
 
 drain-requires-2 : tie.Need-drain-requires-2 Inv-loop μ-loop
-drain-requires-2 c κs = let r = roomy (left-loop c .before) in (omega arith, r .0, r .1)
+drain-requires-2 c κs = let r = roomy (left-loop c .before) in (omega arith, r .0, r .1, sym (r .2 .output))
 
 returns : tie.Need-returns Inv-loop μ-loop
 returns c =
@@ -150,7 +180,7 @@ returns c =
     let l = left .before in
     let a = start l .args in
     let channels = a .plan .channels in
-    let all : going (l .loop .reel) ≡ true → l .loop .at / channels ≡ length (a .block .now) / channels =
+    let all : takesMore (a .plan) (l .loop .reel) ≡ true → l .loop .at / channels ≡ length (a .block .now) / channels =
     λ g. ⊎-elim (λ w. absurd (failed-once g (sym (w .1 .ensures) ∙ w .2 .left)))
     (λ w. let same : l .loop .at ≡ length (a .block .now) = omega (arith, l .loop .inv .0) in ap (λ (k : ℕ). k / channels) same)
     (left .loop-test .came) in
@@ -158,8 +188,8 @@ returns c =
 
 -- ---- what search closes
 
-is-going-requires : tie.Need-is-going-requires Inv-loop μ-loop
-is-going-requires c κs = search needs
+takes-more-requires : tie.Need-takes-more-requires Inv-loop μ-loop
+takes-more-requires c κs = search needs
 
 mul-write : tie.Need-mul-write Inv-loop μ-loop
 mul-write c = search needs
@@ -174,22 +204,22 @@ part-write-end : tie.Need-part-write-end Inv-loop μ-loop
 part-write-end c = search needs
 
 same-length : tie.Need-same-length Inv-loop μ-loop
-same-length c = search needs
+same-length c = let d = last-drain c in omega (arith, left-loop (d .before) .before .loop .inv .1)
 
 same-length-2 : tie.Need-same-length-2 Inv-loop μ-loop
-same-length-2 c = search needs
+same-length-2 c = let d = last-drain c in omega (arith, left-loop (d .before) .before .loop .inv .2)
 
 same-length-3 : tie.Need-same-length-3 Inv-loop μ-loop
-same-length-3 c = search needs
+same-length-3 c = let d = last-drain c in omega (arith, d .drain2 .kept .1 .1 .0, left-loop (d .before) .before .loop .inv .3)
 
 same-length-4 : tie.Need-same-length-4 Inv-loop μ-loop
-same-length-4 c = search needs
+same-length-4 c = let d = last-drain c in omega (arith, left-loop (d .before) .before .loop .inv .4)
 
 same-length-5 : tie.Need-same-length-5 Inv-loop μ-loop
-same-length-5 c = search needs
+same-length-5 c = let d = last-drain c in omega (arith, d .drain2 .kept .1 .1 .1 .0, left-loop (d .before) .before .loop .inv .5)
 
 same-length-6 : tie.Need-same-length-6 Inv-loop μ-loop
-same-length-6 c = search needs
+same-length-6 c = let d = last-drain c in omega (arith, d .drain2 .kept .1 .1 .1 .1 .0, left-loop (d .before) .before .loop .inv .6)
 
 pub write-block-spec : {M : Type 1} → statement M
 write-block-spec =
@@ -199,7 +229,7 @@ write-block-spec =
     μ-loop
     frames-requires
     loop-holds
-    is-going-requires
+    takes-more-requires
     write-end-requires
     mul-write
     sub-write

@@ -10,27 +10,18 @@ put-ended-requires c κs = search needs
 put-line-requires : tie.Need-put-line-requires
 put-line-requires c κs = search needs
 
-span-requires : tie.Need-span-requires
-span-requires c κs = search needs
+unskimmed-requires : tie.Need-unskimmed-requires
+unskimmed-requires c κs = search needs
 
 put-line-requires-2 : tie.Need-put-line-requires-2
 put-line-requires-2 c κs = search needs
 
 returns : tie.Need-returns
 returns c =
-    let p = c .before .before .before .before .before in
-    map-trans (p .before .put-ended .ensures) (map-trans (p .put-line .ensures) (c .put-line2 .ensures))
-
-returns-2 : tie.Need-returns-2
-returns-2 c = map-trans (c .before .before .put-ended .ensures) (c .before .put-line .ensures)
+    let l = c .before .before in
+    map-trans (l .before .put-ended .ensures) (map-trans (l .put-line .ensures) (c .put-line2 .ensures))
 
 pub end-spec : {M : Type 1} → statement M
 end-spec =
     tie.close
-    (tie.spec
-    put-ended-requires
-    put-line-requires
-    span-requires
-    put-line-requires-2
-    returns
-    returns-2)
+    (tie.spec put-ended-requires put-line-requires unskimmed-requires put-line-requires-2 returns)

@@ -13,6 +13,12 @@ returns c = search needs
 open-map-requires : tie.Need-open-map-requires
 open-map-requires c κs = search needs
 
+slice-aggregate-fail : tie.Need-slice-aggregate-fail
+slice-aggregate-fail c = search needs
+
+fail-requires : tie.Need-fail-requires
+fail-requires c κs = search needs
+
 returns-2 : tie.Need-returns-2
 returns-2 c = search needs
 
@@ -42,6 +48,8 @@ open-map-spec =
     (tie.spec
     returns
     open-map-requires
+    slice-aggregate-fail
+    fail-requires
     returns-2
     close-requires
     closed-stream-requires

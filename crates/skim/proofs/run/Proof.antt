@@ -3,8 +3,14 @@ use borrow.Author.Needs.{needs}
 use mathlib.Core.Path.{sym, subst, _∙_}
 use Rattle.stream.proofs.InOrder.{limits-of}
 use Rattle.stream.proofs.Stays.{open-in-order}
+use Rattle.stream.specs.declared.SonicStream.{SonicStream}
+use Rattle.stream.specs.declared.Setting.the-variants.{Speed, Pitch, Volume, StepOver}
+use Rattle.jobs.specs.declared.Job.{Job}
+use Rattle.jobs.specs.Settings.{settled}
+use Rattle.serving.specs.Steady.{Fresh}
+use Rattle.serving.proofs.Fresh.{fresh-opened, fresh-set}
 use Rattle.plans.specs.Plans.{Usable}
-use Rattle.skimming.specs.Skimming.{ReelReady}
+use Rattle.skimming.specs.Skimming.{Underway}
 use Rattle.plans.proofs.Planning.{usable-of}
 use Rattle.skimming.proofs.Starting.{ready-of, ready-mapped}
 use Rattle.skim.proofs.run.Statement.{statement}
@@ -19,7 +25,36 @@ usable c =
     let s = v .before .settle in
     usable-of (s .result) _ (limits-of (s .result) (s .ensures .0)) (sym (v .serve .ensures) ∙ c .plan .given .1)
 
+-- a fresh stream with the job's settings is fresh
+fresh-settled : (s : SonicStream) (job : Job) → Fresh s → Fresh (settled s job)
+fresh-settled s job f =
+    fresh-set _ (StepOver (job .«step_over»)) (fresh-set _ (Volume (job .volume)) (fresh-set _ (Pitch (job .pitch)) (fresh-set s (Speed (job .speed)) f)))
+
 -- ---- needs
+
+settle-requires : tie.Need-settle-requires
+settle-requires c κs =
+    let k = c .before in
+    let n = k .before .before in
+    open-in-order (n .before .args .job .rate) (n .before .args .job .channels) _ (sym (n .new .ensures) ∙ k .fresh .given .1)
+
+skim-requires : tie.Need-skim-requires
+skim-requires c κs =
+    let k = c .before .before .before .before .before in
+    let v = k .before .before in
+    let s = v .before .settle .result in
+    let g = v .before .before .before in
+    let n = g .before .before in
+    let job = n .before .args .job in
+    let opened = fresh-opened (job .rate) (job .channels) _ (sym (n .new .ensures) ∙ g .fresh .given .1) in
+    let settled = subst Fresh (sym (v .before .settle .ensures .1)) (fresh-settled _ job opened) in
+    let fresh = ready-of s (c .before .before .before .open-map .result) (k .plan .given .0 .0) settled (sym (v .serve .ensures) ∙ k .plan .given .1) in
+    (usable k, ready-mapped (subst (Underway (k .plan .given .0 .0)) (sym (c .before .new2 .ensures)) fresh) (c .begin .ensures))
+
+run-requires : tie.Need-run-requires
+run-requires c κs = usable (c .before .before .before .before .before .before) .limits
+
+-- ---- what search closes
 
 new-requires : tie.Need-new-requires
 new-requires c κs = search needs
@@ -35,12 +70,6 @@ bad-usage-requires c κs = search needs
 
 enum-known-fresh : tie.Need-enum-known-fresh
 enum-known-fresh c = search needs
-
-settle-requires : tie.Need-settle-requires
-settle-requires c κs =
-    let k = c .before in
-    let n = k .before .before in
-    open-in-order (n .before .args .job .rate) (n .before .args .job .channels) _ (sym (n .new .ensures) ∙ k .fresh .given .1)
 
 serve-requires : tie.Need-serve-requires
 serve-requires c κs = search needs
@@ -71,17 +100,6 @@ new-requires-2 c κs = search needs
 
 begin-requires : tie.Need-begin-requires
 begin-requires c κs = search needs
-
-skim-requires : tie.Need-skim-requires
-skim-requires c κs =
-    let k = c .before .before .before .before .before in
-    let v = k .before .before in
-    let s = v .before .settle .result in
-    let fresh = ready-of s (c .before .before .before .open-map .result) (k .plan .given .0 .0) (sym (v .serve .ensures) ∙ k .plan .given .1) in
-    (usable k, ready-mapped (subst (ReelReady (k .plan .given .0 .0)) (sym (c .before .new2 .ensures)) fresh) (c .begin .ensures))
-
-run-requires : tie.Need-run-requires
-run-requires c κs = usable (c .before .before .before .before .before .before) .limits
 
 returns-2 : tie.Need-returns-2
 returns-2 c = search needs

@@ -31,6 +31,7 @@ same-job j k =
 
 asked-in-range : (j : Job) (r : Asked) → r ≡ askedOf j → AskedInRange r
 asked-in-range j Asked.Help e = tt
+asked-in-range j Asked.Version e = tt
 asked-in-range j (Asked.Wrong place) e = tt
 asked-in-range j (Asked.Run k) e = cc (same-job j k e)
 

@@ -1,6 +1,6 @@
 -- `reels::reading::count` meets its contract. Assumes nothing.
 use borrow.Author.Needs.{needs}
-use mathlib.Core.Path.{refl}
+use mathlib.Core.Path.{refl, _∙_}
 use Rattle.reels.proofs.reading.count.Statement.{statement}
 use Rattle.reels.proofs.reading.count.Tie as tie
 
@@ -19,29 +19,33 @@ rem-reel c = search needs
 mul-reel : tie.Need-mul-reel
 mul-reel c = search needs
 
-slice-aggregate-fail : tie.Need-slice-aggregate-fail
-slice-aggregate-fail c = search needs
-
-fail-requires : tie.Need-fail-requires
-fail-requires c κs = search needs
+stopped-requires : tie.Need-stopped-requires
+stopped-requires c κs = search needs
 
 returns : tie.Need-returns
 returns c =
-    let w = c .before .before .before .before .before .before in
+    let i = c .before in
+    let w = i .before .before .before .before in
+    let k = c .stopped .ensures in
     record {
-      frames-is = w .wrapping-add-u64 .ensures;
-      partial-is = refl;
-      ended-is = refl;
-      failed-is = rw (c .before .before .if1 .taken);
-      stream-kept = refl;
-      written-kept = refl;
-      out-kept = refl;
-      stalled-kept = refl;
-      place-kept = refl;
-      refusal-kept = refl;
-      flushed-kept = refl;
-      notes-kept = record { from-same = refl; passed-same = refl; gave-same = refl; tail-same = refl; passes-same = refl };
-      map-kept = refl;
+      frames-is = k .input-kept .frames-same ∙ w .wrapping-add-u64 .ensures;
+      partial-is = k .input-kept .partial-same;
+      ended-is = k .input-kept .ended-same;
+      state-is = rw (i .if1 .taken) (k .state-is);
+      stream-kept = k .stream-kept;
+      written-kept = k .written-kept;
+      out-kept = k .out-kept;
+      flushed-kept = k .flushed-kept;
+      notes-kept =
+          record {
+            stalls-same = k .notes-kept .stalls-same;
+            from-same = k .notes-kept .from-same;
+            passed-same = k .notes-kept .passed-same;
+            gave-same = k .notes-kept .gave-same;
+            tail-same = k .notes-kept .tail-same;
+            passes-same = k .notes-kept .passes-same;
+          };
+      map-kept = k .map-kept;
     }
 
 returns-2 : tie.Need-returns-2
@@ -51,15 +55,13 @@ returns-2 c =
       frames-is = w .wrapping-add-u64 .ensures;
       partial-is = refl;
       ended-is = refl;
-      failed-is = rw (c .if1 .left);
+      state-is = rw (c .if1 .left);
       stream-kept = refl;
       written-kept = refl;
       out-kept = refl;
-      stalled-kept = refl;
-      place-kept = refl;
-      refusal-kept = refl;
       flushed-kept = refl;
-      notes-kept = record { from-same = refl; passed-same = refl; gave-same = refl; tail-same = refl; passes-same = refl };
+      notes-kept =
+          record { stalls-same = refl; from-same = refl; passed-same = refl; gave-same = refl; tail-same = refl; passes-same = refl };
       map-kept = refl;
     }
 
@@ -72,7 +74,6 @@ count-spec =
     wrapping-add-u64-requires
     rem-reel
     mul-reel
-    slice-aggregate-fail
-    fail-requires
+    stopped-requires
     returns
     returns-2)

@@ -53,13 +53,9 @@ decode-requires c κs =
       omega (arith, few f, n .samples .ensures),
     )
 
-show-requires : tie.Need-show-requires
-show-requires c κs = start (after-fill (after-samples (after-decode c .before))) .pre .0 .limits
-
 returns : tie.Need-returns
 returns c =
-    let k = c .before in
-    let d = after-decode k in
+    let d = after-decode c in
     let n = after-samples (d .before) in
     let f = after-fill n in
     let s = start f in
@@ -70,7 +66,7 @@ returns c =
       record {
         filled = f .fill .result;
         fits = omega (arith, f .fill .ensures, size, least);
-        counted = k .count .ensures;
+        counted = c .count .ensures;
         samples-are = n .samples .ensures;
       },
       d .decode .ensures,
@@ -115,7 +111,6 @@ read-block-spec =
     samples-requires
     decode-requires
     count-requires
-    show-requires
     same-length
     same-length-2
     returns)

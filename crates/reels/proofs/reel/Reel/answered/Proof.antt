@@ -1,85 +1,56 @@
--- `reels::reel::Reel::answered` meets its contract, by the cases of the answer. Assumes nothing.
+-- `reels::reel::Reel::answered` meets its contract. Assumes nothing.
 use borrow.Author.Needs.{needs}
-use mathlib.Core.Path.{refl, sym, _∙_}
+use mathlib.Core.Path.{ap, _∙_}
+use Rattle.reels.specs.States.{kept}
 use Rattle.reels.proofs.reel.Reel.answered.Statement.{statement}
 use Rattle.reels.proofs.reel.Reel.answered.Tie as tie
 
 first-held-requires : tie.Need-first-held-requires
 first-held-requires c κs = search needs
 
-enum-known-answer : tie.Need-enum-known-answer
-enum-known-answer c = search needs
+state-in-requires : tie.Need-state-in-requires
+state-in-requires c κs = search needs
 
-enum-known-answer-2 : tie.Need-enum-known-answer-2
-enum-known-answer-2 c = search needs
+then-requires : tie.Need-then-requires
+then-requires c κs = search needs
 
-is-stalled-requires : tie.Need-is-stalled-requires
-is-stalled-requires c κs = search needs
+stream-after-requires : tie.Need-stream-after-requires
+stream-after-requires c κs = search needs
+
+passed-in-requires : tie.Need-passed-in-requires
+passed-in-requires c κs = search needs
+
+with-state-requires : tie.Need-with-state-requires
+with-state-requires c κs = search needs
 
 returns : tie.Need-returns
 returns c =
-    let k = c .before .before .before in
-    let e = k .answer2 .given .1 in
-    let s = sym (c .before .is-stalled .ensures) ∙ c .if1 .taken in
+    let p = c .before in
+    let s = p .before in
+    let t = s .before in
+    let n = t .before in
+    let f = n .before .before in
+    let r = f .before .args .self in
+    let k = c .with-state .ensures in
     record {
-      stream-is = rw e;
-      refusal-is = rw e;
-      stalled-is = rw (e, s);
-      place-is = rw (e, s) (k .before .before .before .first-held .ensures);
-      written-is = refl;
-      flushed-is = refl;
-      from-is = k .before .before .before .first-held .ensures;
-      passed-is = rw e;
-      passes-is = refl;
-      gave-is = refl;
-      tail-is = refl;
-      map-kept = refl;
-      failed-kept = refl;
-      out-kept = refl;
-      input-kept = record { frames-same = refl; partial-same = refl; ended-same = refl };
-    }
-
-returns-2 : tie.Need-returns-2
-returns-2 c =
-    let e = c .before .answer .given .1 in
-    record {
-      stream-is = rw e;
-      refusal-is = rw e;
-      stalled-is = rw e;
-      place-is = rw e;
-      written-is = refl;
-      flushed-is = refl;
-      from-is = c .before .before .before .before .first-held .ensures;
-      passed-is = rw e;
-      passes-is = refl;
-      gave-is = refl;
-      tail-is = refl;
-      map-kept = refl;
-      failed-kept = refl;
-      out-kept = refl;
-      input-kept = record { frames-same = refl; partial-same = refl; ended-same = refl };
-    }
-
-returns-3 : tie.Need-returns-3
-returns-3 c =
-    let e = c .before .before .before .answer2 .given .1 in
-    let s = sym (c .before .is-stalled .ensures) ∙ c .if1 .left in
-    record {
-      stream-is = rw e;
-      refusal-is = rw e;
-      stalled-is = rw (e, s);
-      place-is = rw (e, s);
-      written-is = refl;
-      flushed-is = refl;
-      from-is = c .before .before .before .before .before .before .first-held .ensures;
-      passed-is = rw e;
-      passes-is = refl;
-      gave-is = refl;
-      tail-is = refl;
-      map-kept = refl;
-      failed-kept = refl;
-      out-kept = refl;
-      input-kept = record { frames-same = refl; partial-same = refl; ended-same = refl };
+      stream-is = k .stream-kept ∙ s .stream-after .ensures;
+      state-is = k .state-is ∙ t .then .ensures ∙ ap (kept (r .state)) (n .state-in .ensures);
+      stalls-is = k .notes-kept .stalls-same;
+      written-is = k .written-kept;
+      flushed-is = k .flushed-kept;
+      from-is = k .notes-kept .from-same ∙ f .first-held .ensures;
+      tail-is = k .notes-kept .tail-same;
+      passed-is = k .notes-kept .passed-same ∙ p .passed-in .ensures;
+      passes-is = k .notes-kept .passes-same;
+      gave-is = k .notes-kept .gave-same;
+      map-kept = k .map-kept;
+      out-kept = k .out-kept;
+      input-kept =
+          record {
+            frames-same = k .input-kept .frames-same;
+            partial-same = k .input-kept .partial-same;
+            ended-same = k .input-kept .ended-same;
+          };
     }
 
 pub answered-spec : {M : Type 1} → statement M
@@ -87,9 +58,9 @@ answered-spec =
     tie.close
     (tie.spec
     first-held-requires
-    enum-known-answer
-    enum-known-answer-2
-    is-stalled-requires
-    returns
-    returns-2
-    returns-3)
+    state-in-requires
+    then-requires
+    stream-after-requires
+    passed-in-requires
+    with-state-requires
+    returns)

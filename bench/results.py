@@ -1,0 +1,77 @@
+#!/usr/bin/env python3
+"""Runs the benchmarks and writes bench/RESULTS.md: results.py, in the repository, with all built (make bench).
+
+With ROUNDS=N in the environment each measurement has N rounds, instructions are not counted, and the file is target/bench/RESULTS.md: a
+quick run, to see that it works.
+"""
+import datetime
+import os
+import platform
+import re
+import subprocess
+from pathlib import Path
+
+QUICK = os.environ.get("ROUNDS")
+TEXT = """# Speed
+
+Written by `make bench` on {date}: {processor}, {cores} processors, load {load} before the run; {compiler}; kit {kit}.{quick}
+
+Ours and the original's times, libsonic-rs df77af760d (rustc -O), are taken in one process by turns, and every job gives the same frames on
+both sides, bit for bit. Times are processor times, those of kernels by the clock.
+
+## Whole jobs
+
+Each line: job and reel, our time over the original's, both in milliseconds (medians). mono is ten minutes at 8,000 Hz, stereo one minute
+at 44,100 Hz, speech ten minutes of several voices, noise and pauses at 8,000 Hz. skim is speed 20 and pitch 0.5, short is writes and reads
+of 160 frames at speed 2, step-over is skim on speech, beside the original without its `return` at a step that gave no frame. To reach:
+skim and speed-2 0.70, speed-0.5 and pitch-0.5 0.80, copy and short 1.0, step-over 0.55.
+
+The line of the tool: its time over the library's on the same reel, from start to end, with its reads and writes (least of the rounds).
+Instructions are counted by valgrind; the last column shows that cost grows in proportion to the reel's length. Not so for short reads out
+of one long write, as in the original, because a read moves what remains to the front. The stack is that of a call, a few frames of the
+benchmark among it.
+
+```
+{jobs}```
+
+## Kernels
+
+Each line: the function, our time over the original's, both in nanoseconds (medians).
+
+```
+{kernels}```
+
+## Other programs
+
+The tool and other programs on one reel: ten minutes of one voice at 8,000 Hz, mono, at speed 20 and pitch 0.5, or how each of them says
+that (bench/peers.py). Times from start to end, the least of the rounds ({peer_rounds}). sonic alone takes out whole pitch periods, as the
+tool does, and its track and the tool's are shorter than a twentieth, since a step gives a whole number of frames. sox, soundstretch and
+ffmpeg overlap windows of the sound, and rubberband is a phase vocoder: less or more work, and another sound.
+
+{peers}"""
+
+
+def run(*command):
+    return subprocess.run(command, stdout=subprocess.PIPE, check=True, text=True).stdout
+
+
+def processor():
+    names = re.findall(r"^model name\s*: (.*)$", Path("/proc/cpuinfo").read_text(), re.MULTILINE)
+    return names[0] if names else platform.machine()
+
+
+def main():
+    path = Path("target/bench/RESULTS.md" if QUICK else "bench/RESULTS.md")
+    rounds = QUICK or "15"
+    load = f"{os.getloadavg()[0]:.2f}"
+    text = TEXT.format(
+        date=datetime.date.today().isoformat(), processor=processor(), cores=os.cpu_count(), load=load,
+        compiler=run("rustc", "--version").strip(), kit=run("rt", "version").strip(),
+        quick=f" A quick run, rounds: {rounds}." if QUICK else "",
+        jobs=run("target/bench/jobs"), kernels=run("target/bench/kernels"), peer_rounds=rounds,
+        peers=run("bench/peers.py", "target/bin/skim", "tools/make_reel.py", rounds))
+    path.write_text(text)
+    print(f"{text}\nwritten to {path}")
+
+
+main()

@@ -1,0 +1,16 @@
+-- docs/RULES.md, "A write", over whole runs, as a type: `PlayTimeClaim`. `proofs/PlayTimes.antt` proves it. Definitions
+-- only. Assumes nothing.
+use mathlib.Core.Path.{_≡_}
+use mathlib.Core.Bool.{false}
+use Prim.Native.Nat.{ℕ}
+use lib.IntN.{ℤ}
+use lib.Ieee.{Float, fin}
+use Rattle.runs.specs.Demand.{RunOf, last}
+
+-- finite and not negative: m·2^e, of the sign +
+abbrev pub FiniteNotNegative : Float → Type 0
+FiniteNotNegative x = (m : ℕ) × (e : ℤ) × (x ≡ fin false m e)
+
+-- After every run play time is finite and not negative.
+abbrev pub PlayTimeClaim : Type 0
+PlayTimeClaim = (rate channels : ℕ) (a : RunOf rate channels) → FiniteNotNegative (last a .stream .«input_play_time»)

@@ -1,0 +1,67 @@
+//! What the model counts of the inside of its calls.
+
+use std::cell::Cell;
+
+/// What a run may meet inside a call.
+#[derive(Clone, Copy, Debug)]
+pub enum Event {
+    CopyingFast,
+    CopyingSlow,
+    CopyingAll,
+    SkipWhole,
+    SkipPart,
+    InsertWhole,
+    InsertPart,
+    InsertOne,
+    StalledAtOnce,
+    StalledLater,
+    PassedOver,
+    PassedInfinite,
+    PassedAlone,
+    PassedAndMade,
+    SecondSearch,
+    PreviousPeriod,
+    PositionsWrapped,
+    LowestSample,
+    Trimmed,
+}
+
+/// Every event with the words for it.
+pub const EVENTS: [(Event, &str); 19] = [
+    (Event::CopyingFast, "copying steps, s above 1"),
+    (Event::CopyingSlow, "copying steps, s below 1"),
+    (Event::CopyingAll, "copying steps of all frames left"),
+    (Event::SkipWhole, "skip steps, s below 2"),
+    (Event::SkipPart, "skip steps, s from 2 on"),
+    (Event::InsertWhole, "insert steps, s above 0.5"),
+    (Event::InsertPart, "insert steps, s up to 0.5"),
+    (Event::InsertOne, "insert steps of one frame"),
+    (Event::StalledAtOnce, "stalls at the first step"),
+    (Event::StalledLater, "stalls after frames were made"),
+    (Event::PassedOver, "periods passed over"),
+    (Event::PassedInfinite, "periods passed over, s infinite"),
+    (Event::PassedAlone, "calls that passed over every step"),
+    (Event::PassedAndMade, "calls that passed over some steps"),
+    (Event::SecondSearch, "second searches"),
+    (Event::PreviousPeriod, "previous periods used"),
+    (Event::PositionsWrapped, "times both positions became 0"),
+    (Event::LowestSample, "interpolated samples of -32768"),
+    (Event::Trimmed, "flushes that dropped frames"),
+];
+
+/// How often each event was met.
+#[derive(Default)]
+pub struct Seen([Cell<u64>; EVENTS.len()]);
+
+impl Seen {
+    /// Counts an event.
+    pub fn saw(&self, event: Event) {
+        let count = &self.0[event as usize];
+        count.set(count.get() + 1);
+    }
+
+    /// How often an event was met.
+    pub fn met(&self, event: Event) -> u64 {
+        self.0[event as usize].get()
+    }
+}
