@@ -37,9 +37,10 @@ test:
 	$(MAKE) --no-print-directory compare; compared=$$?; \
 	wait $$refusals && test $$compared = 0; } && tail -n 1 "$$log"
 
-compare: target/tests/floats target/tests/narrowing target/tests/header target/tests/environment differential rust tool
+compare: target/tests/floats target/tests/narrowing target/tests/removal target/tests/header target/tests/environment differential rust tool
 	target/tests/narrowing 20
 	target/tests/floats 5
+	target/tests/removal
 	target/tests/header
 	target/tests/environment
 	tests/install.sh
@@ -133,6 +134,9 @@ stream:
 
 target/tests/floats: tests/floats.rs kernels
 	$(RUSTC) $< -o $@ $(LINK_KERNELS)
+
+target/tests/removal: tests/removal.rs tests/signals.rs kernels stream
+	$(RUSTC) $< -o $@ $(LINK_KERNELS) $(LINK_STREAM)
 
 target/tests/narrowing: tests/narrowing.c kernels
 	$(CC) -O2 -Wall -Wextra -Werror $< target/staticlib/libkernels_c.a -o $@ -lm

@@ -8,7 +8,7 @@
 // of it the calls use.
 // ROUNDS in the environment gives the rounds, 15 if it is not set; with fewer, instructions are not counted.
 // `jobs JOB REEL` times one job only, `jobs tool` the tool, `jobs stack` measures the stack only. `jobs SIDE JOB REEL SECONDS` runs one job
-// on one side (ours, original), for a profiler.
+// on one side (ours, original), `jobs read LENGTH` a read that takes all, out of an output of that length, for a profiler.
 
 #[path = "../../bindings/rust/src/calls.rs"]
 #[allow(dead_code)]
@@ -30,7 +30,7 @@ mod times;
 #[path = "../../bench/jobs/tool.rs"]
 mod tool;
 
-use reels::{pairs, samples_of, Job, Reel, JOBS, REELS, SPEECH, STEPPING};
+use reels::{pairs, samples_of, Job, Reel};
 use sides::{Ours, Side};
 use std::hint::black_box;
 
@@ -46,7 +46,7 @@ fn run<S: Side>(job: Job, reel: Reel, samples: &[f32], sink: &mut dyn FnMut(&[f3
     let mut side = S::open(reel, job);
     for chunk in samples.chunks(job.chunk * reel.channels as usize) {
         side.write(chunk);
-        side.read(job.most, sink);
+        while side.read(job.most, sink) > 0 && job.until_none {}
     }
     side.flush();
     side.read(usize::MAX, sink);
@@ -93,11 +93,11 @@ fn beside_original(job: Job, reel: Reel) {
 }
 
 fn find_job(name: &str) -> Job {
-    JOBS.into_iter().chain([STEPPING]).find(|job| job.name == name).expect("a job's name")
+    pairs().map(|(job, _)| job).find(|job| job.name == name).expect("a job's name")
 }
 
 fn find_reel(name: &str) -> Reel {
-    REELS.into_iter().chain([SPEECH]).find(|reel| reel.name == name).expect("a reel's name")
+    pairs().map(|(_, reel)| reel).find(|reel| reel.name == name).expect("a reel's name")
 }
 
 fn everything() {
@@ -107,6 +107,7 @@ fn everything() {
     tool::beside_library();
     if rounds() >= ROUNDS {
         instructions::count_instructions();
+        instructions::count_read_all();
     }
     stack::measure_stack();
 }
@@ -119,6 +120,7 @@ fn main() {
             let reel = Reel { seconds: seconds.parse().expect("seconds"), ..find_reel(reel) };
             instructions::measured(*side == "ours", &find_job(job), &reel, &samples_of(reel));
         }
+        ["read", length] => instructions::read_all(length.parse().expect("samples")),
         [job, reel] => beside_original(find_job(job), find_reel(reel)),
         ["tool"] => tool::beside_library(),
         ["stack"] => stack::measure_stack(),

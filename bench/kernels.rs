@@ -18,6 +18,7 @@ struct Search {
 
 extern "C" {
     fn kernel_samples_in(source: *const f32, source_len: usize, area: *mut i16, area_len: usize);
+    fn kernel_samples_out(area: *const i16, area_len: usize, slice: *mut f32, slice_len: usize);
     fn kernel_find_pitch_period_in_range(samples: *const i16, len: usize, low: usize, high: usize) -> Search;
     fn kernel_down_sample_input(samples: *const i16, len: usize, out: *mut i16, out_len: usize, count: usize, per: usize);
     fn kernel_interpolate_frame(
@@ -25,6 +26,7 @@ extern "C" {
     );
     fn kernel_overlap_add(k: usize, channels: usize, input: *const i16, input_len: usize, down: usize, up: usize, stage: *mut i16, stage_len: usize);
     fn kernel_scale_samples(area: *mut i16, area_len: usize, volume: f32);
+    fn kernel_remove_front(area: *mut i16, area_len: usize, count: usize, kept: usize);
 }
 
 /// The rounds: 41, or those that ROUNDS in the environment says.
@@ -75,6 +77,23 @@ fn bench_samples_in() {
         );
         assert_eq!(area, queue);
     }
+}
+
+fn bench_samples_out() {
+    let area = voice(16_384, 1, 62);
+    let mut slice = vec![0f32; area.len()];
+    let mut given: Vec<f32> = Vec::with_capacity(area.len());
+    beside(
+        "sample out",
+        20,
+        || unsafe { kernel_samples_out(area.as_ptr(), area.len(), slice.as_mut_ptr(), slice.len()) },
+        || {
+            given.clear();
+            given.extend(black_box(&area).iter().map(|&s| f32::from(s) / 32767.0));
+            black_box(&given);
+        },
+    );
+    assert_eq!(slice, given);
 }
 
 fn bench_search() {
@@ -187,11 +206,32 @@ fn bench_volume() {
     assert_eq!(ours, theirs);
 }
 
+fn bench_removal() {
+    const COUNT: usize = 160;
+    for kept in [4_096, 480_000] {
+        let x = voice(COUNT + kept, 1, 62);
+        let (mut ours, mut theirs) = (x.clone(), x.clone());
+        beside(
+            &format!("removal of {COUNT}, {kept} remain"),
+            if kept > 100_000 { 20 } else { 1_000 },
+            || unsafe { kernel_remove_front(ours.as_mut_ptr(), ours.len(), COUNT, kept) },
+            || {
+                theirs.drain(..black_box(COUNT));
+                theirs.extend_from_slice(&x[kept..]);
+                black_box(&theirs);
+            },
+        );
+        assert_eq!(ours, theirs);
+    }
+}
+
 fn main() {
     bench_samples_in();
+    bench_samples_out();
     bench_search();
     bench_averages();
     bench_interpolation();
     bench_crossfade();
     bench_volume();
+    bench_removal();
 }

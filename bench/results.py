@@ -22,14 +22,17 @@ both sides, bit for bit. Times are processor times, those of kernels by the cloc
 ## Whole jobs
 
 Each line: job and reel, our time over the original's, both in milliseconds (medians). mono is ten minutes at 8,000 Hz, stereo one minute
-at 44,100 Hz, speech ten minutes of several voices, noise and pauses at 8,000 Hz. skim is speed 20 and pitch 0.5, short is writes and reads
-of 160 frames at speed 2, step-over is skim on speech, beside the original without its `return` at a step that gave no frame. To reach:
-skim and speed-2 0.70, speed-0.5 and pitch-0.5 0.80, copy and short 1.0, step-over 0.55.
+at 44,100 Hz, speech ten minutes of several voices, noise and pauses at 8,000 Hz, minute one minute at 8,000 Hz. Writes are of 4,096 frames,
+each followed by a read that takes all, unless it is said: skim is speed 20 and pitch 0.5, short is writes and reads of 160 frames at speed
+2, step-over is skim on speech, beside the original without its `return` at a step that gave no frame. copy, read-all, read-160 and
+long-write are at speed and pitch 1: read-all is writes of 160 frames, each followed by a read that takes all; in read-160 each write, and in
+long-write the one write of a minute, is followed by reads of 160 frames. To reach: skim and speed-2 0.70, speed-0.5 and pitch-0.5 0.80, copy
+0.85, short, read-all, read-160 and long-write 1.0, step-over 0.55.
 
 The line of the tool: its time over the library's on the same reel, from start to end, with its reads and writes (least of the rounds).
-Instructions are counted by valgrind; the last column shows that cost grows in proportion to the reel's length. Not so for short reads out
-of one long write, as in the original, because a read moves what remains to the front. The stack is that of a call, a few frames of the
-benchmark among it.
+Instructions are counted by valgrind; the last column shows that cost grows in proportion to the reel's length. Not so for long-write, as in
+the original, because a read moves what remains to the front; a read that takes all moves nothing, and its instructions are the same
+whatever the output could hold. The stack is that of a call, a few frames of the benchmark among it.
 
 ```
 {jobs}```

@@ -139,7 +139,8 @@ kelpladder_wrote kelpladder_write_f32(kelpladder_stream stream, const float *sam
                                       int16_t *input, size_t input_length, int16_t *stage, size_t stage_length,
                                       int16_t *output, size_t output_length, int16_t *scratch, size_t scratch_length);
 
-/* Gives the least of the frames waiting, `most_frames` and the whole frames of the slice; its other places stay. Refusals 3 and 4. */
+/* Gives the least of the frames waiting, `most_frames` and the whole frames of the slice; its other places stay. Refusals 3 and 4. The
+ * frames that wait on are moved to the front of the output, so a read of few frames out of many costs most; one of all moves nothing. */
 kelpladder_gave kelpladder_read_f32(kelpladder_stream stream, size_t most_frames, float *slice, size_t slice_length,
                                     int16_t *output, size_t output_length);
 

@@ -2,7 +2,7 @@
 
 use crate::signals::{speech, voice};
 
-/// Settings, frames of a write, and the most frames of a read.
+/// Settings, frames of a write, the most frames of a read, and whether the reads behind a write go on until one gives none; else it is one.
 #[derive(Clone, Copy)]
 pub struct Job {
     pub name: &'static str,
@@ -11,23 +11,30 @@ pub struct Job {
     pub step_over: bool,
     pub chunk: usize,
     pub most: usize,
+    pub until_none: bool,
 }
 
 pub const fn job(name: &'static str, speed: f32, pitch: f32) -> Job {
-    Job { name, speed, pitch, step_over: false, chunk: 4_096, most: usize::MAX }
+    Job { name, speed, pitch, step_over: false, chunk: 4_096, most: usize::MAX, until_none: false }
 }
 
-pub const JOBS: [Job; 6] = [
+pub const JOBS: [Job; 8] = [
     job("skim", 20.0, 0.5),
     job("speed-2", 2.0, 1.0),
     job("speed-0.5", 0.5, 1.0),
     job("pitch-0.5", 1.0, 0.5),
     job("copy", 1.0, 1.0),
     Job { chunk: 160, most: 160, ..job("short", 2.0, 1.0) },
+    Job { chunk: 160, ..job("read-all", 1.0, 1.0) },
+    SHORT_READS,
 ];
 
 /// A skim track that steps over.
 pub const STEPPING: Job = Job { step_over: true, ..job("step-over", 20.0, 0.5) };
+
+/// Short reads out of each write, and out of one long write.
+const SHORT_READS: Job = Job { most: 160, until_none: true, ..job("read-160", 1.0, 1.0) };
+const LONG_WRITE: Job = Job { name: "long-write", chunk: 480_000, ..SHORT_READS };
 
 /// What is to be heard: a voice of one period in frames, or speech of several voices with noise and pauses, for one channel.
 #[derive(Clone, Copy)]
@@ -54,9 +61,15 @@ pub const REELS: [Reel; 2] = [
 /// A reel at which a skim track stalls unless it steps over.
 pub const SPEECH: Reel = Reel { name: "speech", rate: 8_000, channels: 1, seconds: 600, sound: Sound::Speech };
 
-/// Every job with every reel, and the one that steps over with the reel made for it.
+/// A minute, which the long write writes at once.
+pub const MINUTE: Reel = Reel { name: "minute", seconds: 60, ..REELS[0] };
+
+/// Jobs with a reel of their own.
+pub const OWN_REELS: [(Job, Reel); 2] = [(STEPPING, SPEECH), (LONG_WRITE, MINUTE)];
+
+/// Every job of the list with every reel of the list, and those with a reel of their own.
 pub fn pairs() -> impl Iterator<Item = (Job, Reel)> {
-    REELS.into_iter().flat_map(|reel| JOBS.map(|job| (job, reel))).chain([(STEPPING, SPEECH)])
+    REELS.into_iter().flat_map(|reel| JOBS.map(|job| (job, reel))).chain(OWN_REELS)
 }
 
 /// The samples of a recording.

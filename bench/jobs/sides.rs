@@ -8,12 +8,17 @@ use std::hint::black_box;
 
 const STALLED: u32 = 4;
 
-/// One of the two implementations, as a job uses it. Frames read are handed to `sink`.
+/// One of the two implementations, as a job uses it. Frames read are handed to `sink`, and a read tells how many samples they have.
 pub trait Side {
     fn open(reel: Reel, job: Job) -> Self;
     fn write(&mut self, samples: &[f32]);
-    fn read(&mut self, most: usize, sink: &mut dyn FnMut(&[f32]));
+    fn read(&mut self, most: usize, sink: &mut dyn FnMut(&[f32])) -> usize;
     fn flush(&mut self);
+}
+
+/// Frames that a period search looks at.
+fn required(reel: Reel) -> usize {
+    2 * (reel.rate as usize / 65)
 }
 
 /// The stream with the areas lent to it.
@@ -27,6 +32,15 @@ pub struct Ours {
 }
 
 impl Ours {
+    /// A fresh stream with the job's settings, and areas of this length.
+    pub fn with_areas(reel: Reel, job: Job, length: usize) -> Ours {
+        let faster = calls::set_speed(calls::open(reel.rate, reel.channels).stream, job.speed);
+        let lower = calls::set_pitch(faster.stream, job.pitch);
+        let stream = calls::set_step_over(lower.stream, u32::from(job.step_over)).stream;
+        let area = || vec![0i16; length];
+        Ours { stream, input: area(), stage: area(), output: area(), scratch: vec![0; required(reel)], frames: vec![0.0; length] }
+    }
+
     fn lend(&mut self) -> calls::Areas<'_> {
         calls::Areas { input: &mut self.input, stage: &mut self.stage, output: &mut self.output, scratch: &mut self.scratch }
     }
@@ -41,13 +55,8 @@ impl Ours {
 
 impl Side for Ours {
     fn open(reel: Reel, job: Job) -> Self {
-        let required = 2 * (reel.rate as usize / 65);
-        let length = (8 * required * reel.channels as usize).max(65_536);
-        let faster = calls::set_speed(calls::open(reel.rate, reel.channels).stream, job.speed);
-        let lower = calls::set_pitch(faster.stream, job.pitch);
-        let stream = calls::set_step_over(lower.stream, u32::from(job.step_over)).stream;
-        let area = || vec![0i16; length];
-        Ours { stream, input: area(), stage: area(), output: area(), scratch: vec![0; required], frames: vec![0.0; length] }
+        let frames = (8 * required(reel)).max(job.chunk);
+        Ours::with_areas(reel, job, (frames * reel.channels as usize).max(65_536))
     }
 
     fn write(&mut self, samples: &[f32]) {
@@ -55,11 +64,13 @@ impl Side for Ours {
         assert_ne!(self.accept(answer), STALLED, "the voice stalled");
     }
 
-    fn read(&mut self, most: usize, sink: &mut dyn FnMut(&[f32])) {
+    fn read(&mut self, most: usize, sink: &mut dyn FnMut(&[f32])) -> usize {
         let answer = calls::read_f32(self.stream, most, &mut self.frames, &mut self.output);
         assert_eq!(answer.refusal, 0, "a read was refused");
         self.stream = answer.stream;
-        sink(&self.frames[..answer.frames * self.stream.channels as usize]);
+        let samples = answer.frames * self.stream.channels as usize;
+        sink(&self.frames[..samples]);
+        samples
     }
 
     // At speed 20 the silence of a flush stalls, unless the stream steps over: its period is the least of the range.
@@ -84,8 +95,10 @@ macro_rules! original_side {
                 self.write_f32(samples);
             }
 
-            fn read(&mut self, most: usize, sink: &mut dyn FnMut(&[f32])) {
-                sink(&self.read_f32(most));
+            fn read(&mut self, most: usize, sink: &mut dyn FnMut(&[f32])) -> usize {
+                let frames = self.read_f32(most);
+                sink(&frames);
+                frames.len()
             }
 
             fn flush(&mut self) {

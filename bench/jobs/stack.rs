@@ -1,7 +1,7 @@
 //! The stack that the calls use: a painted one, looked at afterwards.
 
 use crate::instructions::measured;
-use crate::reels::{pairs, samples_of, Job, Reel, Sound, JOBS, STEPPING};
+use crate::reels::{pairs, samples_of, Job, Reel, Sound, JOBS, OWN_REELS};
 use std::alloc::{alloc, dealloc, Layout};
 use std::ffi::c_void;
 use std::ptr::null_mut;
@@ -23,7 +23,7 @@ type Case = (Job, Reel, Vec<f32>);
 fn cases() -> Vec<Case> {
     let widest = Reel { name: "widest", rate: 500_000, channels: 32, seconds: 0, sound: Sound::Voice(4_000) };
     let reels = pairs().map(|(job, reel)| (job, reel, samples_of(Reel { seconds: 2, ..reel })));
-    let flushes = JOBS.into_iter().chain([STEPPING]).map(|job| (job, widest, Vec::new()));
+    let flushes = JOBS.into_iter().chain(OWN_REELS.map(|(job, _)| job)).map(|job| (job, widest, Vec::new()));
     reels.chain(flushes).collect()
 }
 

@@ -26,6 +26,11 @@ impl Area {
         &self.0[GUARD..self.0.len() - GUARD]
     }
 
+    /// The samples kept, and the free ones behind them that differ from each other.
+    pub fn front(&self, kept: usize) -> &[i16] {
+        &self.samples()[..self.samples().len().min(kept + LEFTOVERS)]
+    }
+
     /// The area's samples, to be lent.
     pub fn lent(&mut self) -> &mut [i16] {
         let end = self.0.len() - GUARD;

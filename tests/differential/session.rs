@@ -237,6 +237,7 @@ impl<'a> Session<'a> {
         let (mut ours, mut theirs) = (wanted.clone(), wanted.clone());
         self.buffers.lent.make_output(&self.kept, output, &mut self.leftovers);
         self.buffers.judged.make_output(&self.kept, output, &mut self.leftovers);
+        let entry = self.buffers.lent.output.front(self.kept.output.len()).to_vec();
         let said = self.judge.read(self.stream, most, &mut theirs[..slice], self.buffers.judged.output.lent());
         let got = self.subject.read(self.stream, most, &mut ours[..slice], self.buffers.lent.output.lent());
         equal("refusal", got.refusal, said.refusal)?;
@@ -248,13 +249,21 @@ impl<'a> Session<'a> {
             wanted[..given.len()].copy_from_slice(&given);
         }
         self.compare_slice(&ours, &wanted)?;
-        self.settle_read(said, got)
+        let answer = self.settle_read(said, got)?;
+        self.compare_behind(&entry)?;
+        Ok(answer)
     }
 
     /// Compares a read's slice, by bits.
     fn compare_slice(&self, ours: &[f32], wanted: &[f32]) -> Result<(), String> {
         let place = ours.iter().zip(wanted).position(|(a, b)| !same_float(*a, *b));
         place.map_or(Ok(()), |at| Err(format!("slice, place {at}: {:?} in place of {:?}", ours[at], wanted[at])))
+    }
+
+    /// Compares the output behind the frames that a read leaves with what stood there: a read removes frames and does nothing else to it.
+    fn compare_behind(&self, entry: &[i16]) -> Result<(), String> {
+        let kept = self.kept.output.len().min(entry.len());
+        equal_samples("output behind the frames left", &self.buffers.lent.output.samples()[kept..entry.len()], &entry[kept..])
     }
 
     /// Compares the stream and the output that a read leaves.

@@ -147,7 +147,8 @@ impl SonicStream {
         self.value.balance
     }
 
-    /// Takes the first waiting frames, at most `max_frames`, and gives their samples.
+    /// Takes the first waiting frames, at most `max_frames`, and gives their samples. The frames that wait on are moved to the front, so a
+    /// read of few frames out of many costs most; one of all moves nothing.
     pub fn read_f32(&mut self, max_frames: usize) -> Vec<f32> {
         let frames = self.available_frames().min(max_frames);
         let mut samples = vec![0.0; frames * self.channels()];

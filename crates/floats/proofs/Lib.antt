@@ -8,6 +8,7 @@ pub mod NarrowFields
 pub mod Ranges
 pub mod Bounds
 pub mod SamplePeriod
+pub mod OneRounding
 pub mod RateBounds
 pub mod CopyingStep
 pub mod CopyCount
@@ -16,6 +17,7 @@ pub mod StepRules
 pub mod FastSpeeds
 pub mod PlayTime
 pub mod FewDigits
+pub mod Between
 pub mod Pace
 pub mod PaceSpeed
 pub mod InsertGrowth
@@ -23,3 +25,4 @@ pub mod PaceSteps
 pub mod Facts
 pub mod Figures
 pub mod CutBits
+pub mod SampleOut

@@ -1,12 +1,12 @@
 -- The sample period of a rate in 1,000..=500,000 is an `f32` above zero, from 2 ^ -19 to 2 ^ -9. Assumes nothing.
 use mathlib.Core.Path.{_≡_, _∙_}
 use mathlib.Core.Bool.{false}
-use Prim.Native.Nat.{ℕ, _*_, _≤_, _<_}
+use Prim.Native.Nat.{ℕ, _*_, _^_, _≤_, _<_}
 use native.Mathlib.Nat.{le-trans, zero-lt-suc, mul-pos}
 use native.Mathlib.Omega.{arith}
 use lib.IntN.{pos, negsuc}
 use lib.Dec.{T, lit≤}
-use lib.Ieee.{Float, fin, binary32, binary64, round, div, le, fits, ofInt}
+use lib.Ieee.{Float, fin, Format, binary32, binary64, prec, round, div, le, fits, ofInt}
 use lib.Ieee.Exact.{HasValue}
 use lib.Ieee.Back.{round-whole}
 use lib.Ieee.Positive.{num, den, den-pos, positive, between, value→cross}
@@ -25,19 +25,19 @@ shortest = fin false 1 (negsuc 18)
 abbrev pub longest : Float
 longest = fin false 1 (negsuc 8)
 
--- the rate as an `f64`, and 1 / R
-rate-value : (R : ℕ) → R ≤ 500000 → HasValue (ofInt binary64 (pos R)) false R 1
+-- the rate in a format that has it exactly, and 1 / R
+rate-value : (f : Format) (R : ℕ) → R ≤ 2 ^ prec f → HasValue (ofInt f (pos R)) false R 1
 unfolding ofInt
-rate-value R h = round-whole binary64 false R (le-trans h (lit≤ tt))
+rate-value f R h = round-whole f false R h
 
-inverse-is : (R : ℕ) → 0 < R → R ≤ 500000 → div binary64 one (ofInt binary64 (pos R)) ≡ round binary64 false 1 R
-inverse-is R P h =
-    let x = ofInt binary64 (pos R) in
-    let v = rate-value R h in
+pub inverse-is : (f : Format) (R : ℕ) → 0 < R → R ≤ 2 ^ prec f → div f one (ofInt f (pos R)) ≡ round f false 1 R
+inverse-is f R P h =
+    let x = ofInt f (pos R) in
+    let v = rate-value f R h in
     let is = value→cross x R 1 v in
     let some : 0 < num x = omega (arith, is, mul-pos P (den-pos x)) in
-    div-is binary64 (nonNeg 1 (pos 0)) (nonNeg-of-value x R 1 v) some
-    ∙ round-same binary64 false (1 * den x) (num x * 1) 1 R (mul-pos some (zero-lt-suc 0)) P (omega (arith, is))
+    div-is f (nonNeg 1 (pos 0)) (nonNeg-of-value x R 1 v) some
+    ∙ round-same f false (1 * den x) (num x * 1) 1 R (mul-pos some (zero-lt-suc 0)) P (omega (arith, is))
 
 pub period-range : (R : ℕ) → 1000 ≤ R → R ≤ 500000
     → T (positive (samplePeriod R)) × T (fits binary32 (samplePeriod R)) × T (le shortest (samplePeriod R)) × T (le (samplePeriod R) longest)
@@ -52,4 +52,4 @@ period-range R h g =
     (round-ge binary32 (num y) (den y) (nonNeg 1 (negsuc 18)) tt (den-pos y) (le→cross (nonNeg 1 (negsuc 18)) p lo)) in
     let high : T (le (narrow y) longest) = rw (narrow-val y false (num y) (den y) (den-pos y) (own-value p))
     (round-le binary32 (num y) (den y) (nonNeg 1 (negsuc 8)) tt (den-pos y) (le→cross p (nonNeg 1 (negsuc 8)) hi)) in
-    rw (inverse-is R P g) (between shortest (narrow y) longest tt tt low high, narrow-fits y, low, high)
+    rw (inverse-is binary64 R P (le-trans g (lit≤ tt))) (between shortest (narrow y) longest tt tt low high, narrow-fits y, low, high)

@@ -69,11 +69,19 @@ pub fn samples_in(source: &[f32], count: Samples, area: &mut [i16], to: Samples)
     }
 }
 
-// The value that a read gives for a stored sample.
+// 2^-15, exactly.
+const RECIPROCAL_OF_32768: f32 = 0.000030517578125;
+
+// The f32 nearest to 1/32767.
+const RECIPROCAL_OF_32767: f32 = 0.000030518509;
+
+// The value that a read gives for a stored sample: sample/32767 is a + a/32767 for a = sample/32768, which is exact.
+// With 1/32767 rounded the sum still rounds to the same f32, and a product takes less time than a division.
 pub fn sample_out(v: i16) -> f32
     ensures { λ r. ⌜ r ≡ sampleOut v ⌝ }
 {
-    v as f32 / 32767.0
+    let a = v as f32 * RECIPROCAL_OF_32768;
+    a + a * RECIPROCAL_OF_32767
 }
 
 // Gives the values of the first `count` samples of the area, at the front of the slice.

@@ -1,5 +1,6 @@
 // The clamp of a setting, and the sample period of a rate.
 ghost use mathlib.Core.Path.{_≡_};
+ghost use Prim.Native.Nat.{_≤_};
 ghost use Rattle.floats.specs.Settings.{clamped, samplePeriod};
 
 // `value` held to low..=high; a NaN to the lower end.
@@ -13,9 +14,10 @@ pub fn clamp(value: f32, low: f32, high: f32) -> f32
     }
 }
 
-// The sample period of a rate, in seconds.
+// The sample period of a rate, in seconds: for these rates the quotient in f32 is the one in f64, rounded to f32.
 pub fn sample_period(rate: u32) -> f32
+    requires { ⌜ (1000 ≤ rate) × (rate ≤ 500000) ⌝ }
     ensures { λ r. ⌜ r ≡ samplePeriod rate ⌝ }
 {
-    crate::casts::f64_to_f32(1.0 / (rate as f64))
+    1.0 / (rate as f32)
 }

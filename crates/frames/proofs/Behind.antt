@@ -1,14 +1,14 @@
--- Copies behind the frames that an area holds, and frames removed from its front. Assumes nothing.
+-- Copies behind the frames that an area holds, and frames of silence. Assumes nothing.
 use mathlib.Core.Path.{_≡_, refl, sym, ap, _∙_, subst}
 use mathlib.Core.List.{List, [], _∷_, _++_}
-use Prim.Native.Nat.{ℕ, zero, suc, _+_, _-_, _*_, _≤_}
+use Prim.Native.Nat.{ℕ, zero, suc, _+_, _*_, _≤_}
 use native.Mathlib.Omega.{arith}
 use native.Mathlib.Nat.{suc-mul, add-mul}
-use lib.ListN.{length, take, drop, length-drop, replicate}
+use lib.ListN.{length, take, drop, replicate}
 use lib.Seq.{paste, length-paste}
 use lib.IntN.{ℤ}
 use Rattle.frames.specs.Framing.{Frame, framesOf, Behind}
-use Rattle.frames.proofs.Framing.{framesOf-cong, framesOf-add, length-framesOf, take-framesOf, drop-framesOf}
+use Rattle.frames.proofs.Framing.{framesOf-cong, framesOf-add, length-framesOf, take-framesOf}
 use Rattle.frames.proofs.Pasted.{paste-front, paste-part}
 
 -- m frames of s behind w frames of d
@@ -45,16 +45,6 @@ behind-front {ch} {w} {m} {d} {x} {fs} b = framesOf-cong ch w x d (b .kept)
 -- fewer frames at the front
 pub front-less : {A : Type 0} (ch n k : ℕ) (a b : List A) → n ≤ k → framesOf ch k a ≡ framesOf ch k b → framesOf ch n a ≡ framesOf ch n b
 front-less ch n k a b h e = sym (take-framesOf ch n k a h) ∙ ap (take n) e ∙ take-framesOf ch n k b h
-
--- the area without its first n frames
-pub removed-frames : (ch n m : ℕ) (d : List ℤ) → n * ch + m * ch ≤ length d
-    → framesOf ch m (paste d 0 (drop (n * ch) d) (m * ch)) ≡ drop n (framesOf ch (n + m) d)
-removed-frames ch n m d h =
-    let k : n + m - n ≡ m = omega arith in
-    let rest : List ℤ = drop (n * ch) d in
-    let front = paste-part d rest 0 (m * ch) (omega arith) (omega (arith, length-drop (n * ch) d)) in
-    framesOf-cong ch m (paste d 0 rest (m * ch)) rest front
-    ∙ ap (λ (i : ℕ). framesOf ch i (drop (n * ch) d)) (sym k) ∙ sym (drop-framesOf ch n (n + m) d (omega arith))
 
 -- frames of silence
 replicate-add : {A : Type 0} (n m : ℕ) (x : A) → (take n (replicate (n + m) x) ≡ replicate n x) × (drop n (replicate (n + m) x) ≡ replicate m x)

@@ -9,7 +9,7 @@ ghost use lib.Ieee.{le};
 ghost use lib.ListN.{length, drop};
 ghost use lib.Seq.{paste};
 ghost use Rattle.floats.specs.Settings.{minVolume, maxVolume};
-ghost use Rattle.floats.specs.Write.{sampleIn};
+ghost use Rattle.floats.specs.Write.{sampleIn, sampleOut};
 ghost use Rattle.averages.specs.Averages.{downSampleInput, Averageable};
 ghost use Rattle.search.specs.Search.{findPitchPeriodInRange, longestPeriod, Searchable};
 ghost use Rattle.sinc.specs.Sinc.{interpolateFrame};
@@ -32,6 +32,15 @@ pub extern "C" fn kernel_samples_in(source: &[f32], area: &mut [i16])
         (length (now (source .entry))) ⌝ }
 {
     floats::samples::samples_in(source, Samples(source.len()), area, Samples(0));
+}
+
+#[no_mangle]
+pub extern "C" fn kernel_samples_out(area: &[i16], slice: &mut [f32])
+    requires { ⌜ length (now area) ≤ length (now slice) ⌝ }
+    ensures { λ _. ⌜ now (slice .exit) ≡ paste (now (slice .entry)) 0 (map sampleOut (now (area .entry)))
+        (length (now (area .entry))) ⌝ }
+{
+    floats::samples::samples_out(area, Samples(area.len()), slice);
 }
 
 #[no_mangle]

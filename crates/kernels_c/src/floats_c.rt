@@ -41,6 +41,7 @@ pub extern "C" fn kernel_clamp(value: f32, low: f32, high: f32) -> f32
 
 #[no_mangle]
 pub extern "C" fn kernel_sample_period(rate: u32) -> f32
+    requires { ⌜ (1000 ≤ rate) × (rate ≤ 500000) ⌝ }
     ensures { λ r. ⌜ r ≡ samplePeriod rate ⌝ }
 {
     floats::settings::sample_period(rate)

@@ -5,6 +5,7 @@ ghost use Prim.Native.Nat.{_+_, _≤_};
 ghost use lib.IntN.{pos};
 ghost use lib.ListN.{length, drop, replicate};
 ghost use lib.Seq.{paste};
+ghost use Rattle.frames.specs.Removal.{FrontRemoved};
 
 #[no_mangle]
 pub extern "C" fn kernel_copy(
@@ -31,7 +32,7 @@ pub extern "C" fn kernel_silence(count: usize, area: &mut [i16], to: usize)
 #[no_mangle]
 pub extern "C" fn kernel_remove_front(area: &mut [i16], count: usize, kept: usize)
     requires { ⌜ count + kept ≤ length (now area) ⌝ }
-    ensures { λ _. ⌜ now (area .exit) ≡ paste (now (area .entry)) 0 (drop count (now (area .entry))) kept ⌝ }
+    ensures { λ _. ⌜ FrontRemoved count kept (now (area .entry)) (now (area .exit)) ⌝ }
 {
     frames::remove_front(area, Samples(count), Samples(kept));
 }

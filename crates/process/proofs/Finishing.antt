@@ -1,6 +1,6 @@
 -- The second half of a call's work, in the words of the contracts. Here:
 --   mapped-behind                 volume
---   StateFinished, moved-as, used-fits, left-fits, commit-passed, commit-done     the commit
+--   StateFinished, removed-as, used-fits, left-fits, commit-passed, commit-done     the commit
 --   commit-ready, finish-done     the finish, which the commit ends
 -- Assumes nothing.
 use mathlib.Core.Path.{_≡_, refl, ap, _∙_, subst}
@@ -14,9 +14,11 @@ use lib.ListN.{length, drop, length-drop, length-map}
 use lib.Seq.{paste}
 use Rattle.frames.specs.Areas.{Areas, areas}
 use Rattle.frames.specs.Framing.{Frame, framesOf, Behind}
+use Rattle.frames.specs.Removal.{FrontRemoved}
 use Rattle.frames.proofs.Framing.{length-framesOf, framesOf-cong, framesOf-map}
 use Rattle.frames.proofs.Pasted.{paste-part}
-use Rattle.frames.proofs.Behind.{behind-paste, removed-frames}
+use Rattle.frames.proofs.Behind.{behind-paste}
+use Rattle.frames.proofs.Removal.{remaining-frames, removed-frames}
 use Rattle.volume.specs.Volume.{scaled}
 use Rattle.rate.specs.declared.Adjusted.{Adjusted}
 use Rattle.rate.specs.Conversion.{Conversion}
@@ -67,17 +69,9 @@ committed x c w b =
       «step_over» = x .«step_over»;
     }
 
--- samples of an area moved to its front: the counts n and m are k and l
-pub moved-as : (area exit : List ℤ) {n m k l : ℕ} → exit ≡ paste area 0 (drop n area) m → n ≡ k → m ≡ l → exit ≡ paste area 0 (drop k area) l
-moved-as area exit e p q = e ∙ (λ i. paste area 0 (drop (p i) area) (q i))
-
--- they are frames
-moved-frames : (ch from left : ℕ) (area : List ℤ) → from * ch + left * ch ≤ length area
-    → framesOf ch left (paste area 0 (drop (from * ch) area) (left * ch)) ≡ framesOf ch left (drop (from * ch) area)
-moved-frames ch from left area h =
-    let rest : List ℤ = drop (from * ch) area in
-    framesOf-cong ch left (paste area 0 rest (left * ch)) rest
-    (paste-part area rest 0 (left * ch) (omega arith) (omega (arith, length-drop (from * ch) area)))
+-- the counts n and m of samples removed and kept are k and l
+pub removed-as : {area exit : List ℤ} {n m k l : ℕ} → FrontRemoved n m area exit → n ≡ k → m ≡ l → FrontRemoved k l area exit
+removed-as {area} {exit} r p q = rw (← p, ← q) r
 
 module _ {s : SonicStream} {d : Filled} {a : Areas} where
   pub used-fits : FinishReady s d a → d .used .0 * s .channels + d .stream .held .0 * s .channels ≤ length (a .input)
@@ -86,15 +80,12 @@ module _ {s : SonicStream} {d : Filled} {a : Areas} where
       omega (arith, add-mul (d .used .0) (d .stream .held .0) (s .channels), ap (λ (n : ℕ). n * s .channels) e, r .held-fits)
 
   -- the input without the frames used
-  rest-moved : FinishReady s d a
-      → framesOf (s .channels) (s .held .0 - d .used .0)
-      (paste (a .input) 0 (drop (d .used .0 * s .channels) (a .input)) (d .stream .held .0 * s .channels))
-      ≡ drop (d .used .0) (framesOf (s .channels) (s .held .0) (a .input))
-  rest-moved r =
+  rest-removed : {exit : List ℤ} → FinishReady s d a
+      → FrontRemoved (d .used .0 * s .channels) (d .stream .held .0 * s .channels) (a .input) exit
+      → framesOf (s .channels) (s .held .0 - d .used .0) exit ≡ drop (d .used .0) (framesOf (s .channels) (s .held .0) (a .input))
+  rest-removed r moved =
       let e : d .used .0 + d .stream .held .0 ≡ s .held .0 = omega (arith, r .held, r .used) in
-      rw (← r .held)
-      (removed-frames (s .channels) (d .used .0) (d .stream .held .0) (a .input) (used-fits r)
-      ∙ ap (λ (n : ℕ). drop (d .used .0) (framesOf (s .channels) n (a .input))) e)
+      rw (← r .held) (removed-frames (s .channels) (d .used .0) (d .stream .held .0) moved ∙ ap (λ (n : ℕ). drop (d .used .0) (framesOf (s .channels) n (a .input))) e)
 
   module _ {c : Adjusted} (r : CommitReady s d c a) where
     pub left-fits : c .from .0 * s .channels + c .left .0 * s .channels ≤ length (a .stage)
@@ -111,8 +102,8 @@ module _ {s : SonicStream} {d : Filled} {a : Areas} where
 
     -- the areas go from a to b
     pub commit-done : (b : Areas) (t : Balance) → (past (totals d) ≡ false) × (totals d ≡ t)
-        → b .input ≡ paste (a .input) 0 (drop (d .used .0 * s .channels) (a .input)) (d .stream .held .0 * s .channels)
-        → b .stage ≡ paste (a .stage) 0 (drop (c .from .0 * s .channels) (a .stage)) (c .left .0 * s .channels)
+        → FrontRemoved (d .used .0 * s .channels) (d .stream .held .0 * s .channels) (a .input) (b .input)
+        → FrontRemoved (c .from .0 * s .channels) (c .left .0 * s .channels) (a .stage) (b .stage)
         → Behind (s .channels) (s .waiting .0) (c .made .0) (a .output) (b .output)
         (map (map (scaled (s .volume))) (newFrames (s .channels) (s .waiting .0) (c .made .0) (a .output)))
         → FinishedBy s d (adjustedAs s c a) a b (Work.Done (d .told) (committed (d .stream) c (s .waiting .0 + c .made .0) t))
@@ -121,8 +112,8 @@ module _ {s : SonicStream} {d : Filled} {a : Areas} where
           told = refl;
           within = within .0;
           stream = rw (← within .1) done-is;
-          rest = rw input (rest-moved (r .finish));
-          tail = rw length-framesOf (rw stage (moved-frames (s .channels) (c .from .0) (c .left .0) (a .stage) left-fits));
+          rest = rest-removed (r .finish) input;
+          tail = rw length-framesOf (remaining-frames (s .channels) (c .from .0) (c .left .0) stage);
           behind = rw length-framesOf behind;
         }
 

@@ -15,9 +15,10 @@ use lib.Ieee.{Float}
 use lib.ListN.{length, take, drop, length-map}
 use lib.Seq.{paste, drop-paste}
 use Rattle.frames.specs.Framing.{framesOf}
+use Rattle.frames.specs.Removal.{FrontRemoved}
 use Rattle.frames.proofs.Framing.{framesOf-cong, framesOf-map, take-framesOf}
 use Rattle.frames.proofs.Pasted.{paste-part}
-use Rattle.frames.proofs.Behind.{removed-frames}
+use Rattle.frames.proofs.Removal.{removed-frames}
 use Rattle.frames.proofs.Room.{samples-le}
 use Rattle.floats.specs.Write.{sampleOut}
 use Rattle.stream.specs.declared.SonicStream.{SonicStream}
@@ -78,25 +79,24 @@ module _ {s : SonicStream} {n : ℕ} {slice : List Float} {output : List ℤ} (g
       (drop-paste slice 0 (map sampleOut output) (n * s .channels) (omega arith) given-fits)
 
   -- the frames left
-  left-frames : framesOf (s .channels) (s .waiting .0 - n) (paste output 0 (drop (n * s .channels) output) ((s .waiting .0 - n) * s .channels))
-      ≡ drop n (framesOf (s .channels) (s .waiting .0) output)
-  left-frames =
+  left-frames : {area : List ℤ} → FrontRemoved (n * s .channels) ((s .waiting .0 - n) * s .channels) output area
+      → framesOf (s .channels) (s .waiting .0 - n) area ≡ drop n (framesOf (s .channels) (s .waiting .0) output)
+  left-frames moved =
       let few = g .few in
       let whole : n + (s .waiting .0 - n) ≡ s .waiting .0 = omega arith in
-      removed-frames (s .channels) n (s .waiting .0 - n) output (omega (arith, parts, g .waits))
-      ∙ ap (λ (k : ℕ). drop n (framesOf (s .channels) k output)) whole
+      removed-frames (s .channels) n (s .waiting .0 - n) moved ∙ ap (λ (k : ℕ). drop n (framesOf (s .channels) k output)) whole
 
 -- ---- contracts
 
 -- accepted: t is the stream with n frames fewer
 pub given-ensures : (s t : SonicStream) (most n : ℕ) (slice exit : List Float) (output area : List ℤ) → inOrder s ≡ true → outputBad s output ≡ false
     → n ≡ readCount s most slice → t ≡ streamOf (unlent s) (s .waiting .0 - n) → exit ≡ paste slice 0 (map sampleOut output) (n * s .channels)
-    → area ≡ paste output 0 (drop (n * s .channels) output) ((s .waiting .0 - n) * s .channels)
+    → FrontRemoved (n * s .channels) ((s .waiting .0 - n) * s .channels) output area
     → ReadEnsures (s .channels) (readCall s most slice output) (Gave.Done (record { 0 = n }) t) slice exit area
 unfolding readCall readRefusal streamOf
-given-ensures s t most n slice exit output area o b e is slice-is area-is =
+given-ensures s t most n slice exit output area o b e is slice-is moved =
     let g = givable s most n slice output o b e in
-    rw (o, b, ← e, is, slice-is, area-is) (record { answer = refl; given = given-frames g; rest = given-rest g; output = left-frames g })
+    rw (o, b, ← e, is, slice-is) (record { answer = refl; given = given-frames g; rest = given-rest g; output = left-frames g moved })
 
 -- refused: nothing is given, nothing changes
 pub stream-refused : (s : SonicStream) (most : ℕ) (slice : List Float) (output : List ℤ) → inOrder s ≡ false

@@ -1,29 +1,17 @@
 -- The rule of S: each entry is between −6175 and 32767, and S reads alike from both ends. One test is computed over the whole table; `rule-at`
 -- gives what it says of an entry. Assumes nothing.
-use mathlib.Core.Path.{_≡_, refl, ap}
-use mathlib.Core.Bool.{Bool, false, _&&_}
+use mathlib.Core.Path.{_≡_, refl}
+use mathlib.Core.Bool.{Bool, _&&_}
 use Prim.Native.Nat.{ℕ, _-_, _≤_, _<_}
 use native.Mathlib.Omega.{arith}
-use lib.Dec.{T, eqb, leb→le, eqb→eq}
+use lib.Dec.{T, leb→le}
 use lib.IntN.{ℤ, pos, negsuc, natAbs}
 use lib.ListN.{length, getD}
 use lib.Signed.{leZ, _≤ℤ_, leZ-yes}
 use mir.Facts.{and-yes}
+use Rattle.laws.proofs.Equal.{equal, equal-is}
 use Rattle.laws.proofs.Tables.{every-at}
 use Rattle.sinc.specs.SincTable.{sincTable, sincTableSize}
-
-equal : ℤ → ℤ → Bool
-equal (pos a) (pos b) = eqb a b
-equal (negsuc a) (negsuc b) = eqb a b
-equal (pos a) (negsuc b) = false
-equal (negsuc a) (pos b) = false
-
-equal-is : (a b : ℤ) → T (equal a b) → a ≡ b
-unfolding equal
-equal-is (pos a) (pos b) t = ap pos (eqb→eq a b t)
-equal-is (negsuc a) (negsuc b) t = ap negsuc (eqb→eq a b t)
-equal-is (pos a) (negsuc b) t = absurd t
-equal-is (negsuc a) (pos b) t = absurd t
 
 -- the rule of the entry z at k
 ruled : ℕ → ℤ → Bool

@@ -3,6 +3,8 @@
 use mathlib.Core.Path.{_≡_, refl, sym, subst, _∙_}
 use mathlib.Core.Bool.{Bool, true, false, not, _&&_, _||_, true≢false, false≢true}
 use Prim.Native.Nat.{ℕ, _+_, _-_, _*_, _/_, _≤_, _<_}
+use native.Mathlib.Nat.{div-eq-of-lt}
+use native.Mathlib.Omega.{arith}
 use borrow.Author.Tests.{leb-true, leb-false, lt-ltb, le-ltb}
 use lib.Dec.{T, leb, ltb, eqb}
 use lib.Ieee.{le}
@@ -53,7 +55,19 @@ volume-high s p e = sym (volume-left s p ∙ rw e)
 pub volume-low : (s : SonicStream) → Passed s → le minVolume (s .volume) ≡ false → le minVolume (s .volume) ≡ settingsInOrder s
 volume-low s p e = sym (volume-left s p ∙ rw e)
 
--- ---- positions, for the rates r as the code found them
+-- ---- positions
+
+-- p = 0
+none-due : (new old : ℕ) → 1 ≤ old → ceilDiv (0 * new) old ≡ 0
+unfolding ceilDiv
+none-due new old h = div-eq-of-lt (omega arith)
+
+pub position-start : (rates : Rates) (s : SonicStream) → 1 ≤ rates .old → s .«old_rate_position» ≡ 0
+    → eqb (s .«new_rate_position») 0 ≡ positionsInOrder rates s
+unfolding positionsInOrder
+position-start rates s h z = rw (z, lt-ltb 0 (rates .old) h, none-due (rates .new) (rates .old) h)
+
+-- for the rates r as the code found them
 
 pub position-over : (rates : Rates) (s : SonicStream) (r : Rates) → r ≡ rates → r .old ≤ s .«old_rate_position» → false ≡ positionsInOrder rates s
 unfolding positionsInOrder

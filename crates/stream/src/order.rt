@@ -1,6 +1,7 @@
 // Refusal 3: whether a stream value is in order. Play time, time error and counts are free.
 use crate::SonicStream;
 ghost use mathlib.Core.Path.{_≡_};
+ghost use mathlib.Core.Bool.{true};
 ghost use Rattle.period.specs.Rates.{InLimits};
 ghost use Rattle.rate.specs.Halving.{ratesOf};
 ghost use Rattle.stream.specs.Refusals.{limitsInOrder, settingsInOrder, prevInOrder, positionsInOrder};
@@ -55,15 +56,18 @@ fn prev_in_order(stream: SonicStream) -> bool
     stream.prev_min_diff <= SonicStream::MAX_MIN_DIFF
 }
 
-// Whether p is below O and n the least whole number with n·O at least p·N.
+// Whether p is below O and n the least whole number with n·O at least p·N: for p = 0, whether n is 0.
 fn positions_in_order(stream: SonicStream) -> bool
-    requires { ⌜ InLimits (stream .rate) (stream .channels) ⌝ }
+    requires { ⌜ InLimits (stream .rate) (stream .channels) × (settingsInOrder stream ≡ true) ⌝ }
     ensures { λ r. ⌜ r ≡ positionsInOrder (ratesOf (stream .rate) (stream .pitch)) stream ⌝ }
 {
+    let position = stream.old_rate_position;
+    if position == 0 {
+        return stream.new_rate_position == 0;
+    }
     let rates = rate::rates_of(stream.rate, stream.pitch);
     let new = rates.new;
     let old = rates.old;
-    let position = stream.old_rate_position;
     if position >= old {
         return false;
     }

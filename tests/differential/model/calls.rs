@@ -73,7 +73,7 @@ impl Subject for Model {
         let (rules, channels) = (self.rules.flush, stream.channels as usize);
         let frames = rules.frames_read(stream.waiting, most, slice.len() / channels);
         rules.give(&output[..frames * channels], slice);
-        output.copy_within(frames * channels..stream.waiting * channels, 0);
+        rules.remove_front(output, frames * channels, (stream.waiting - frames) * channels);
         Gave { refusal: 0, frames, stream: rules.stream_read(stream, frames) }
     }
 

@@ -29,6 +29,12 @@ pub trait Flush {
         }
     }
 
+    /// Removes samples from the front of an area: those that remain stand at the front in their order, and every place behind them is as it
+    /// stood.
+    fn remove_front(&self, area: &mut [i16], count: usize, kept: usize) {
+        area.copy_within(count..count + kept, 0);
+    }
+
     /// The stream after a read of so many frames.
     fn stream_read(&self, stream: Stream, frames: usize) -> Stream {
         Stream { waiting: stream.waiting - frames, ..stream }

@@ -12,7 +12,7 @@ use Rattle.stream.specs.Balance.{past}
 use Rattle.stream.proofs.Booking.{past-of, within-of}
 use Rattle.fill.proofs.Filling.{ready-limits}
 use Rattle.process.specs.Finishing.{totals}
-use Rattle.process.proofs.Finishing.{moved-as, used-fits, left-fits, commit-passed, commit-done}
+use Rattle.process.proofs.Finishing.{removed-as, used-fits, left-fits, commit-passed, commit-done}
 use Rattle.process.proofs.finish.commit.Statement.{statement}
 use Rattle.process.proofs.finish.commit.Tie as tie
 
@@ -95,8 +95,8 @@ returns-2 c =
     let input : List ℤ = rest .remove-front .last .0 in
     let stage : List ℤ = staged .remove-front2 .last .0 in
     commit-done (s .pre) (areas input stage (scaled .scale-made .last .1 .1 .0) []) _ (within (scaling scaled))
-    (moved-as (s .args .input .now) input (rest .remove-front .ensures) (used .before .samples .ensures) (used .samples2 .ensures))
-    (moved-as (s .args .stage .now) stage (staged .remove-front2 .ensures) (left .before .samples3 .ensures) (left .samples4 .ensures))
+    (removed-as (rest .remove-front .ensures) (used .before .samples .ensures) (used .samples2 .ensures))
+    (removed-as (staged .remove-front2 .ensures) (left .before .samples3 .ensures) (left .samples4 .ensures))
     (scaled .scale-made .ensures)
 
 -- ---- closed by search

@@ -1,4 +1,4 @@
--- `stream::SonicStream::ordered` meets its contract: places, the tests passed there, the answers, what is closed by search. Assumes nothing.
+-- `stream::SonicStream::ordered` meets its contract: places, tests passed, what the calls ask, answers, what is closed by search. Assumes nothing.
 use borrow.Author.Needs.{needs}
 use mathlib.Core.Path.{_≡_, sym, _∙_}
 use mathlib.Core.Bool.{true}
@@ -39,6 +39,16 @@ settings c = let test = c .before .settings-in-order in sym (test .ensures) ∙ 
 prev : (c : tie.Else4) → prevInOrder (stream (limits-at (period-at (settings-at c)))) ≡ true
 prev c = let test = c .before .prev-in-order in sym (test .ensures) ∙ not-false (test .result) (c .if4 .left)
 
+-- ---- what the functions called ask
+
+sample-period-requires : tie.Need-sample-period-requires
+sample-period-requires c κs = let l = limits-range (stream c) (limits c) in (l .rate-low, l .rate-high)
+
+positions-in-order-requires : tie.Need-positions-in-order-requires
+positions-in-order-requires c κs =
+    let l = limits-at (period-at (settings-at c)) in
+    (limits-range (stream l) (limits l), settings (settings-at c))
+
 -- ---- the answers
 
 returns : tie.Need-returns
@@ -68,11 +78,6 @@ returns-4 c =
     let p = period-at s in
     simp (limits (limits-at p), period p, settings s, sym (test .ensures) ∙ not-true (test .result) (c .if4 .taken))
 
-positions-in-order-requires : tie.Need-positions-in-order-requires
-positions-in-order-requires c κs =
-    let l = limits-at (period-at (settings-at c)) in
-    limits-range (stream l) (limits l)
-
 returns-5 : tie.Need-returns-5
 unfolding orderOf inOrder
 returns-5 c =
@@ -94,9 +99,6 @@ returns-6 c =
 
 limits-in-order-requires : tie.Need-limits-in-order-requires
 limits-in-order-requires c κs = search needs
-
-sample-period-requires : tie.Need-sample-period-requires
-sample-period-requires c κs = search needs
 
 settings-in-order-requires : tie.Need-settings-in-order-requires
 settings-in-order-requires c κs = search needs
