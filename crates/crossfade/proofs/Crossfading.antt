@@ -46,7 +46,7 @@ front-is x a t =
     let e : a + (t * 1 + 0) ≡ a + t = omega arith in
     getD-drop (t * 1) (drop a x) 0 (pos 0) ∙ getD-drop a x (t * 1 + 0) (pos 0) ∙ ap (λ (n : ℕ). getD x n (pos 0)) e
 
--- ---- what stands at the places `down` and `up` of the input x, written at the place `to` of the stage
+-- ---- what stands at the places `down` and `up` of the input x, written at the place `to` of the area
 
 -- a value that the code has as the sample of step t: from the two samples at the places `down` and `up`, read back from their bits
 pub record Faded (x : List ℤ) (down up k t : ℕ) (v : ℤ) : Type 0 where
@@ -55,22 +55,22 @@ pub record Faded (x : List ℤ) (down up k t : ℕ) (v : ℤ) : Type 0 where
   pub sample : SFits w16 v
   pub value : v ≡ crossfadeSample (i16 (getD x down (pos 0))) (i16 (getD x up (pos 0))) k t
 
-module _ (x stage : List ℤ) (down up to k : ℕ) where
-  -- one sample more behind the samples s, as both loops write it into the stage as it stands; s' is s with it
+module _ (x area : List ℤ) (down up to k : ℕ) where
+  -- one sample more behind the samples s, as both loops write it into the area as it stands; s' is s with it
   sample-on : (s s' : List ℤ) (t i : ℕ) {v : ℤ} {now : List ℤ} → length s ≡ i
-      → s' ≡ s ++ (crossfadeSample (getD x (down + i) (pos 0)) (getD x (up + i) (pos 0)) k t ∷ []) → to + i < length stage
-      → Faded x (down + i) (up + i) k t v → now ≡ paste stage to s i → set now (to + i) (i16 v) ≡ paste stage to s' (i + 1)
+      → s' ≡ s ++ (crossfadeSample (getD x (down + i) (pos 0)) (getD x (up + i) (pos 0)) k t ∷ []) → to + i < length area
+      → Faded x (down + i) (up + i) k t v → now ≡ paste area to s i → set now (to + i) (i16 v) ≡ paste area to s' (i + 1)
   sample-on s s' t i {v} {now} n e h f same =
       let is : i16 v ≡ crossfadeSample (getD x (down + i) (pos 0)) (getD x (up + i) (pos 0)) k t =
       toZ-ofZ (f .sample) ∙ f .value ∙ (λ j. crossfadeSample (toZ-ofZ (f .down-sample) j) (toZ-ofZ (f .up-sample) j) k t) in
       (λ j. set (same j) (to + i) (is j))
-      ∙ paste-snoc stage s to i (crossfadeSample (getD x (down + i) (pos 0)) (getD x (up + i) (pos 0)) k t) n h
-      ∙ (λ j. paste stage to (sym e j) (sym (add-one i) j))
+      ∙ paste-snoc area s to i (crossfadeSample (getD x (down + i) (pos 0)) (getD x (up + i) (pos 0)) k t) n h
+      ∙ (λ j. paste area to (sym e j) (sym (add-one i) j))
 
   -- one sample more of frame t
-  pub frame-on : (t i : ℕ) {v : ℤ} {now : List ℤ} → to + i < length stage → Faded x (down + i) (up + i) k t v
-      → now ≡ paste stage to (crossfadeFrame k t (drop down x) (drop up x) i) i
-      → set now (to + i) (i16 v) ≡ paste stage to (crossfadeFrame k t (drop down x) (drop up x) (i + 1)) (i + 1)
+  pub frame-on : (t i : ℕ) {v : ℤ} {now : List ℤ} → to + i < length area → Faded x (down + i) (up + i) k t v
+      → now ≡ paste area to (crossfadeFrame k t (drop down x) (drop up x) i) i
+      → set now (to + i) (i16 v) ≡ paste area to (crossfadeFrame k t (drop down x) (drop up x) (i + 1)) (i + 1)
   unfolding crossfadeFrame
   frame-on t i h f same =
       let l : List ℤ = crossfadeFrame k t (drop down x) (drop up x) i in
@@ -81,9 +81,9 @@ module _ (x stage : List ℤ) (down up to k : ℕ) where
       sample-on l (crossfadeFrame k t (drop down x) (drop up x) (i + 1)) t i (crossfadeFrame-length k t (drop down x) (drop up x) i) next h f same
 
   -- one sample more of one channel
-  pub mono-on : (i : ℕ) {v : ℤ} {now : List ℤ} → to + i < length stage → Faded x (down + i) (up + i) k i v
-      → now ≡ paste stage to (crossfadeTo k 1 (drop down x) (drop up x) i) i
-      → set now (to + i) (i16 v) ≡ paste stage to (crossfadeTo k 1 (drop down x) (drop up x) (i + 1)) (i + 1)
+  pub mono-on : (i : ℕ) {v : ℤ} {now : List ℤ} → to + i < length area → Faded x (down + i) (up + i) k i v
+      → now ≡ paste area to (crossfadeTo k 1 (drop down x) (drop up x) i) i
+      → set now (to + i) (i16 v) ≡ paste area to (crossfadeTo k 1 (drop down x) (drop up x) (i + 1)) (i + 1)
   unfolding crossfadeTo crossfadeFrame
   mono-on i h f same =
       let l : List ℤ = crossfadeTo k 1 (drop down x) (drop up x) i in
@@ -95,10 +95,10 @@ module _ (x stage : List ℤ) (down up to k : ℕ) where
       sample-on l (crossfadeTo k 1 (drop down x) (drop up x) (i + 1)) i i (crossfadeTo-length k 1 (drop down x) (drop up x) i ∙ one) next h f same
 
   -- frame t behind the samples before it
-  pub crossfade-on : (channels t past : ℕ) {now now' : List ℤ} → past ≡ t * channels → to + past + channels ≤ length stage
-      → now ≡ paste stage to (crossfadeTo k channels (drop down x) (drop up x) t) past
+  pub crossfade-on : (channels t past : ℕ) {now now' : List ℤ} → past ≡ t * channels → to + past + channels ≤ length area
+      → now ≡ paste area to (crossfadeTo k channels (drop down x) (drop up x) t) past
       → now' ≡ paste now (to + past) (crossfadeFrame k t (drop (down + past) x) (drop (up + past) x) channels) channels
-      → now' ≡ paste stage to (crossfadeTo k channels (drop down x) (drop up x) (t + 1)) (past + channels)
+      → now' ≡ paste area to (crossfadeTo k channels (drop down x) (drop up x) (t + 1)) (past + channels)
   unfolding crossfadeTo
   crossfade-on channels t past e h same wrote =
       let l : List ℤ = crossfadeTo k channels (drop down x) (drop up x) t in
@@ -109,43 +109,43 @@ module _ (x stage : List ℤ) (down up to k : ℕ) where
       (λ j. crossfadeFrame k t (drop (down + e j) x) (drop (up + e j) x) channels)
       ∙ sym (λ j. crossfadeFrame k t (drop-drop (t * channels) down x j) (drop-drop (t * channels) up x j) channels) in
       wrote ∙ ap (λ (z : List ℤ). paste z (to + past) f channels) same
-      ∙ paste-append stage l f to past channels n m h ∙ ap (λ (z : List ℤ). paste stage to (l ++ z) (past + channels)) next
-      ∙ ap (λ (i : ℕ). paste stage to (crossfadeTo k channels (drop down x) (drop up x) i) (past + channels)) (sym (add-one t))
+      ∙ paste-append area l f to past channels n m h ∙ ap (λ (z : List ℤ). paste area to (l ++ z) (past + channels)) next
+      ∙ ap (λ (i : ℕ). paste area to (crossfadeTo k channels (drop down x) (drop up x) i) (past + channels)) (sym (add-one t))
 
   -- all of them
   pub crossfade-all : (channels : ℕ) {t past : ℕ} {now : List ℤ} → past ≡ t * channels → t ≡ k
-      → now ≡ paste stage to (crossfadeTo k channels (drop down x) (drop up x) t) past
-      → now ≡ paste stage to (overlapAdd k channels (drop down x) (drop up x)) (k * channels)
+      → now ≡ paste area to (crossfadeTo k channels (drop down x) (drop up x) t) past
+      → now ≡ paste area to (overlapAdd k channels (drop down x) (drop up x)) (k * channels)
   unfolding overlapAdd
   crossfade-all channels e all same =
       let past-is = e ∙ ap (λ (n : ℕ). n * channels) all in
-      same ∙ (λ j. paste stage to (crossfadeTo k channels (drop down x) (drop up x) (all j)) (past-is j))
+      same ∙ (λ j. paste area to (crossfadeTo k channels (drop down x) (drop up x) (all j)) (past-is j))
 
 -- the n samples of one channel are its k frames
-pub one-channel : (stage down up : List ℤ) (to : ℕ) {n k channels : ℕ} {exit : List ℤ} → n ≡ k → channels ≡ 1
-    → exit ≡ paste stage to (overlapAdd n 1 down up) n → exit ≡ paste stage to (overlapAdd k channels down up) (k * channels)
-one-channel stage down up to {n} {k} {channels} e one h =
+pub one-channel : (area down up : List ℤ) (to : ℕ) {n k channels : ℕ} {exit : List ℤ} → n ≡ k → channels ≡ 1
+    → exit ≡ paste area to (overlapAdd n 1 down up) n → exit ≡ paste area to (overlapAdd k channels down up) (k * channels)
+one-channel area down up to {n} {k} {channels} e one h =
     let all : n ≡ k * channels = e ∙ sym (ap (λ (m : ℕ). k * m) one ∙ mul-one k) in
-    h ∙ (λ j. paste stage to (overlapAdd (e j) (sym one j) down up) (all j))
+    h ∙ (λ j. paste area to (overlapAdd (e j) (sym one j) down up) (all j))
 
--- ---- the frames of a step at frame `at` of the input x, written at the place `to` of the stage; `here` and `there` are the samples of the
+-- ---- the frames of a step at frame `at` of the input x, written at the place `to` of the area; `here` and `there` are the samples of the
 -- frames `at` and `at + period`, `past` those of the period
 
-module _ (x stage : List ℤ) (channels at period k to : ℕ) {here there : ℕ} (h : here ≡ at * channels) (t : there ≡ (at + period) * channels) where
-  pub skip-on : {exit : List ℤ} → exit ≡ paste stage to (overlapAdd k channels (drop here x) (drop there x)) (k * channels)
-      → exit ≡ paste stage to (skipPitchPeriod channels x at period k) (k * channels)
+module _ (x area : List ℤ) (channels at period k to : ℕ) {here there : ℕ} (h : here ≡ at * channels) (t : there ≡ (at + period) * channels) where
+  pub skip-on : {exit : List ℤ} → exit ≡ paste area to (overlapAdd k channels (drop here x) (drop there x)) (k * channels)
+      → exit ≡ paste area to (skipPitchPeriod channels x at period k) (k * channels)
   unfolding skipPitchPeriod
-  skip-on e = e ∙ (λ j. paste stage to (overlapAdd k channels (drop (h j) x) (drop (t j) x)) (k * channels))
+  skip-on e = e ∙ (λ j. paste area to (overlapAdd k channels (drop (h j) x) (drop (t j) x)) (k * channels))
 
-  -- the crossfade of an insert stays within the input and the stage
-  pub insert-within : {past : ℕ} → (at + (period + k)) * channels ≤ length x → to + (period + k) * channels ≤ length stage → past ≡ period * channels
-      → (there + k * channels ≤ length x) × (here + k * channels ≤ length x) × (to + past + k * channels ≤ length stage)
+  -- the crossfade of an insert stays within the input and the area
+  pub insert-within : {past : ℕ} → (at + (period + k)) * channels ≤ length x → to + (period + k) * channels ≤ length area → past ≡ period * channels
+      → (there + k * channels ≤ length x) × (here + k * channels ≤ length x) × (to + past + k * channels ≤ length area)
   insert-within within room p = (omega arith, omega arith, omega arith)
 
-  pub insert-on : {past : ℕ} {copied exit : List ℤ} → (at + (period + k)) * channels ≤ length x → to + (period + k) * channels ≤ length stage
-      → past ≡ period * channels → copied ≡ paste stage to (copyUnmodifiedSamples channels x at period) (period * channels)
+  pub insert-on : {past : ℕ} {copied exit : List ℤ} → (at + (period + k)) * channels ≤ length x → to + (period + k) * channels ≤ length area
+      → past ≡ period * channels → copied ≡ paste area to (copyUnmodifiedSamples channels x at period) (period * channels)
       → exit ≡ paste copied (to + past) (overlapAdd k channels (drop there x) (drop here x)) (k * channels)
-      → exit ≡ paste stage to (insertPitchPeriod channels x at period k) ((period + k) * channels)
+      → exit ≡ paste area to (insertPitchPeriod channels x at period k) ((period + k) * channels)
   unfolding insertPitchPeriod
   insert-on {past} within room p c e =
       let down : List ℤ = drop ((at + period) * channels) x in
@@ -156,5 +156,5 @@ module _ (x stage : List ℤ) (channels at period k to : ℕ) {here there : ℕ}
       let n = copyUnmodifiedSamples-length channels x at period (omega arith) in
       let m = overlapAdd-length k channels down up in
       e ∙ (λ j. paste (c j) (to + p j) (overlapAdd k channels (drop (t j) x) (drop (h j) x)) (k * channels))
-      ∙ paste-append stage front fade to (period * channels) (k * channels) n m (omega arith)
-      ∙ ap (paste stage to (front ++ fade)) count
+      ∙ paste-append area front fade to (period * channels) (k * channels) n m (omega arith)
+      ∙ ap (paste area to (front ++ fade)) count

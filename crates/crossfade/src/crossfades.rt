@@ -56,7 +56,7 @@ fn crossfade_sample(down: i16, up: i16, k: usize, t: usize, reciprocal: u64) -> 
 }
 
 // Writes the frame at step t of a crossfade of k steps, which stands at the places `down` and `up` of the input, at the
-// place `to` of the stage.
+// place `to` of the area.
 fn crossfade_frame(
     k: usize,
     t: usize,
@@ -65,13 +65,13 @@ fn crossfade_frame(
     input: &[i16],
     down: Samples,
     up: Samples,
-    stage: &mut [i16],
+    area: &mut [i16],
     to: Samples,
 )
     requires { ⌜ (t < k) × (k ≤ longestPeriod) × (reciprocal ≡ reciprocalOf k) ⌝ }
     requires { ⌜ (down .0 + channels ≤ length (now input)) × (up .0 + channels ≤ length (now input))
-        × (to .0 + channels ≤ length (now stage)) ⌝ }
-    ensures { λ _. ⌜ now (stage .exit) ≡ paste (now (stage .entry)) (to .0)
+        × (to .0 + channels ≤ length (now area)) ⌝ }
+    ensures { λ _. ⌜ now (area .exit) ≡ paste (now (area .entry)) (to .0)
         (crossfadeFrame k t (drop (down .0) (now (input .entry))) (drop (up .0) (now (input .entry))) channels)
         channels ⌝ }
 {
@@ -83,7 +83,7 @@ fn crossfade_frame(
         let a = input[from + i];
         let b = input[into + i];
         let sample = crossfade_sample(a, b, k, t, reciprocal);
-        stage[at + i] = sample;
+        area[at + i] = sample;
         i += 1;
     }
 }
@@ -96,13 +96,13 @@ fn crossfade_frames(
     input: &[i16],
     down: Samples,
     up: Samples,
-    stage: &mut [i16],
+    area: &mut [i16],
     to: Samples,
 )
     requires { ⌜ (k .0 ≤ longestPeriod) × (reciprocal ≡ reciprocalOf (k .0)) ⌝ }
     requires { ⌜ (down .0 + k .0 * channels ≤ length (now input)) × (up .0 + k .0 * channels ≤ length (now input))
-        × (to .0 + k .0 * channels ≤ length (now stage)) ⌝ }
-    ensures { λ _. ⌜ now (stage .exit) ≡ paste (now (stage .entry)) (to .0)
+        × (to .0 + k .0 * channels ≤ length (now area)) ⌝ }
+    ensures { λ _. ⌜ now (area .exit) ≡ paste (now (area .entry)) (to .0)
         (overlapAdd (k .0) channels (drop (down .0) (now (input .entry))) (drop (up .0) (now (input .entry))))
         (k .0 * channels) ⌝ }
 {
@@ -121,7 +121,7 @@ fn crossfade_frames(
             input,
             Samples(from + past),
             Samples(into + past),
-            stage,
+            area,
             Samples(at + past),
         );
         past += channels;
@@ -136,13 +136,13 @@ fn crossfade_mono(
     input: &[i16],
     down: Samples,
     up: Samples,
-    stage: &mut [i16],
+    area: &mut [i16],
     to: Samples,
 )
     requires { ⌜ (count .0 ≤ longestPeriod) × (reciprocal ≡ reciprocalOf (count .0)) ⌝ }
     requires { ⌜ (down .0 + count .0 ≤ length (now input)) × (up .0 + count .0 ≤ length (now input))
-        × (to .0 + count .0 ≤ length (now stage)) ⌝ }
-    ensures { λ _. ⌜ now (stage .exit) ≡ paste (now (stage .entry)) (to .0)
+        × (to .0 + count .0 ≤ length (now area)) ⌝ }
+    ensures { λ _. ⌜ now (area .exit) ≡ paste (now (area .entry)) (to .0)
         (overlapAdd (count .0) 1 (drop (down .0) (now (input .entry))) (drop (up .0) (now (input .entry))))
         (count .0) ⌝ }
 {
@@ -155,33 +155,33 @@ fn crossfade_mono(
         let a = input[from + i];
         let b = input[into + i];
         let sample = crossfade_sample(a, b, n, i, reciprocal);
-        stage[at + i] = sample;
+        area[at + i] = sample;
         i += 1;
     }
 }
 
 // A crossfade of k frames from the place `down` of the input into the place `up`, written at the place `to` of the
-// stage.
+// area.
 pub fn overlap_add(
     k: Frames,
     channels: usize,
     input: &[i16],
     down: Samples,
     up: Samples,
-    stage: &mut [i16],
+    area: &mut [i16],
     to: Samples,
 )
     requires { ⌜ k .0 ≤ longestPeriod ⌝ }
     requires { ⌜ (down .0 + k .0 * channels ≤ length (now input)) × (up .0 + k .0 * channels ≤ length (now input))
-        × (to .0 + k .0 * channels ≤ length (now stage)) ⌝ }
-    ensures { λ _. ⌜ now (stage .exit) ≡ paste (now (stage .entry)) (to .0)
+        × (to .0 + k .0 * channels ≤ length (now area)) ⌝ }
+    ensures { λ _. ⌜ now (area .exit) ≡ paste (now (area .entry)) (to .0)
         (overlapAdd (k .0) channels (drop (down .0) (now (input .entry))) (drop (up .0) (now (input .entry))))
         (k .0 * channels) ⌝ }
 {
     let reciprocal = reciprocal_of(k.0);
     if channels == 1 {
-        crossfade_mono(k.samples(1), reciprocal, input, down, up, stage, to);
+        crossfade_mono(k.samples(1), reciprocal, input, down, up, area, to);
     } else {
-        crossfade_frames(k, reciprocal, channels, input, down, up, stage, to);
+        crossfade_frames(k, reciprocal, channels, input, down, up, area, to);
     }
 }

@@ -1,12 +1,12 @@
--- What the functions of `fill` require and ensure of a stream s, its input, and its stage, which goes from `entry` to
--- `exit`. Definitions only. Assumes nothing.
+-- What the functions of `fill` require and ensure of a stream s, its input, and the area that they fill behind its first
+-- `kept` frames; it goes from `entry` to `exit`. Definitions only. Assumes nothing.
 use mathlib.Core.Path.{_≡_}
 use mathlib.Core.Bool.{cond}
 use mathlib.Core.List.{List}
-use Prim.Native.Nat.{ℕ, _-_, _*_, _^_, _≤_}
+use Prim.Native.Nat.{ℕ, _-_, _*_, _^_, _≤_, _<_}
 use lib.IntN.{ℤ}
 use lib.Ieee.{Float}
-use lib.ListN.{length, drop}
+use lib.ListN.{length, take, drop}
 use Rattle.frames.specs.Framing.{framesOf, Behind, NoRoom}
 use Rattle.floats.specs.Settings.{samplePeriod}
 use Rattle.floats.specs.Write.{localSpeed}
@@ -29,16 +29,16 @@ speedOf s = localSpeed (s .held .0) (samplePeriod (s .rate)) (s .«input_play_ti
 
 -- ---- required
 
--- input and tail lie in their areas
-pub record AreasFit (s : SonicStream) (input stage : List ℤ) : Type 0 where
+-- the frames held lie in the input, and the frames kept in the area
+pub record AreasFit (s : SonicStream) (kept : ℕ) (input area : List ℤ) : Type 0 where
   pub held : s .held .0 * s .channels ≤ length input
-  pub tail : s .tail .0 * s .channels ≤ length stage
+  pub kept-fit : kept * s .channels ≤ length area
   pub input-short : length input ≤ 2 ^ 24
-  pub stage-short : length stage ≤ 2 ^ 24
+  pub area-short : length area ≤ 2 ^ 24
 
 -- and the scratch is long enough for a search
-pub record FillReady (s : SonicStream) (input stage scratch : List ℤ) : Type 0 where
-  pub fit : AreasFit s input stage
+pub record FillReady (s : SonicStream) (kept : ℕ) (input area scratch : List ℤ) : Type 0 where
+  pub fit : AreasFit s kept input area
   pub scratch-fits : maxRequired (s .rate) ≤ length scratch
 
 -- ---- ensured
@@ -67,20 +67,27 @@ nothingFilled s outcome =
       told = record { outcome = outcome; passed = 0 };
     })
 
--- the stage was filled as t says
-pub record FilledAs (s : SonicStream) (t : Taken) (input entry exit : List ℤ) (d : Filled) : Type 0 where
+-- the area was filled as t says, with at most `most` frames
+pub record FilledAs (s : SonicStream) (kept most : ℕ) (t : Taken) (input entry exit : List ℤ) (d : Filled)
+    : Type 0 where
   pub told : d .told ≡ t .told
   pub balance : d .balance ≡ counted (t .steps)
-  pub behind : Behind (s .channels) (s .tail .0) (d .frames .0) entry exit (t .frames)
+  pub behind : Behind (s .channels) kept (d .frames .0) entry exit (t .frames)
+  pub within : length (t .frames) ≤ most
   pub used : d .used .0 ≤ s .held .0
   pub rest : drop (d .used .0) (framesOf (s .channels) (s .held .0) input) ≡ t .state .input
   pub stream : d .stream ≡ streamOf (t .state) (s .waiting .0)
   pub prev-in : PrevInOrder (s .rate) (t .state .prev)
 
--- or the frames do not fit it
-abbrev pub FilledBy : SonicStream → Taken → List ℤ → List ℤ → List ℤ → Fill → Type 0
-FilledBy s t input entry exit Fill.Full = NoRoom (s .channels) (s .tail .0) entry exit (t .frames)
-FilledBy s t input entry exit (Fill.Done d) = FilledAs s t input entry exit d
+-- or there are more, or the frames do not fit
+abbrev pub FilledBy : SonicStream → ℕ → ℕ → Taken → List ℤ → List ℤ → List ℤ → Fill → Type 0
+FilledBy s kept most t input entry exit Fill.TooMany =
+    (take (kept * s .channels) exit ≡ take (kept * s .channels) entry) × (most < length (t .frames))
+FilledBy s kept most t input entry exit Fill.Full =
+    NoRoom (s .channels) kept entry exit (t .frames) × (length (t .frames) ≤ most)
+FilledBy s kept most t input entry exit (Fill.Done d) = FilledAs s kept most t input entry exit d
 
-abbrev pub FillEnsures : SonicStream → List ℤ → List ℤ → List ℤ → Fill → Type 0
-FillEnsures s input entry exit r = FilledBy s (taken (stateOf s input entry)) input entry exit r
+-- whatever the tail is, which lies in the stage
+abbrev pub FillEnsures : SonicStream → ℕ → ℕ → List ℤ → List ℤ → List ℤ → Fill → Type 0
+FillEnsures s kept most input entry exit r =
+    (stage : List ℤ) → FilledBy s kept most (taken (stateOf s input stage)) input entry exit r

@@ -1,6 +1,8 @@
-// The first half of a call's work: copied or stretched frames, into the stage behind the tail. The input stays.
+// The first half of a call's work: copied or stretched frames, into an area behind the frames that it keeps: the stage
+// with its tail, or the output with the frames waiting. The input stays.
 use frames::Frames;
 use frames::Samples;
+use frames::fewest;
 use period::PeriodRecord;
 use stream::Balance;
 use stream::SonicStream;
@@ -34,7 +36,7 @@ pub struct Told {
     pub passed: usize,
 }
 
-// New frames in the stage, frames of the input to be removed, what the call adds to the totals, the stream without
+// New frames in the area, frames of the input to be removed, what the call adds to the totals, the stream without
 // these frames and with the totals before, and what is told.
 pub struct Filled {
     pub frames: Frames,
@@ -44,8 +46,9 @@ pub struct Filled {
     pub told: Told,
 }
 
-// Full: the frames do not fit the stage.
+// TooMany: there are more frames than there may be. Full: they do not fit the area.
 pub enum Fill {
+    TooMany,
     Full,
     Done(Filled),
 }
@@ -125,17 +128,20 @@ fn stretch_input(
     stream: SonicStream,
     speed: f32,
     input: &[i16],
-    stage: &mut [i16],
+    area: &mut [i16],
+    kept: Frames,
+    most: Frames,
     scratch: &mut [i16],
 ) -> Fill
-    requires { ⌜ StreamReady stream × FillReady stream (now input) (now stage) (now scratch) ⌝ }
+    requires { ⌜ StreamReady stream × FillReady stream (kept .0) (now input) (now area) (now scratch)
+        × (most .0 ≤ 2 ^ 24) ⌝ }
     requires { ⌜ (maxRequired (stream .rate) ≤ stream .held .0) × (speed ≡ speedOf stream)
         × (speedChanges speed ≡ true) ⌝ }
-    ensures { λ r. ⌜ FillEnsures stream (now (input .entry)) (now (stage .entry)) (now (stage .exit)) r ⌝ }
+    ensures { λ r. ⌜ FillEnsures stream (kept .0) (most .0) (now (input .entry)) (now (area .entry)) (now (area .exit))
+        r ⌝ }
 {
     let channels = stream.channels as usize;
     let held = stream.held;
-    let tail = stream.tail;
     let call = StretchCall {
         channels,
         rate: stream.rate as usize,
@@ -150,40 +156,56 @@ fn stretch_input(
         min_diff: stream.prev_min_diff,
     };
     let count = held.samples(channels).0;
-    let room = Samples(stage.len()).frames(channels).0 - tail.0;
+    let free = Samples(area.len()).frames(channels).0 - kept.0;
+    let room = fewest(Frames(free), most);
     match stretch::change_speed(
         &input[0..count],
         call,
         stream.time_error,
         prev,
-        stage,
-        tail.samples(channels),
-        Frames(room),
+        area,
+        kept.samples(channels),
+        room,
+        most,
         scratch,
     ) {
-        Stretched::Full => Fill::Full,
-        Stretched::Made(made) => Fill::Done(stepped(stream, made)),
+        Stretched::TooMany => Fill::TooMany,
+        Stretched::Made(made) => {
+            if free < made.made.0 {
+                return Fill::Full;
+            }
+            Fill::Done(stepped(stream, made))
+        }
     }
 }
 
 // All frames of the input.
-fn copy_input(stream: SonicStream, input: &[i16], stage: &mut [i16]) -> Fill
-    requires { ⌜ StreamReady stream × AreasFit stream (now input) (now stage) ⌝ }
+fn copy_input(
+    stream: SonicStream,
+    input: &[i16],
+    area: &mut [i16],
+    kept: Frames,
+    most: Frames,
+) -> Fill
+    requires { ⌜ StreamReady stream × AreasFit stream (kept .0) (now input) (now area) ⌝ }
     requires { ⌜ (1 ≤ stream .held .0) × (speedChanges (speedOf stream) ≡ false) ⌝ }
-    ensures { λ r. ⌜ FillEnsures stream (now (input .entry)) (now (stage .entry)) (now (stage .exit)) r ⌝ }
+    ensures { λ r. ⌜ FillEnsures stream (kept .0) (most .0) (now (input .entry)) (now (area .entry)) (now (area .exit))
+        r ⌝ }
 {
     let channels = stream.channels as usize;
     let held = stream.held;
-    let tail = stream.tail;
-    if Samples(stage.len()).frames(channels).0 - tail.0 < held.0 {
+    if most.0 < held.0 {
+        return Fill::TooMany;
+    }
+    if Samples(area.len()).frames(channels).0 - kept.0 < held.0 {
         return Fill::Full;
     }
     frames::copy(
         input,
         Samples(0),
         held.samples(channels),
-        stage,
-        tail.samples(channels),
+        area,
+        kept.samples(channels),
     );
     Fill::Done(Filled {
         frames: held,
@@ -210,15 +232,19 @@ fn nothing(stream: SonicStream, outcome: Outcome) -> Fill
     })
 }
 
-// The frames of a call, before rate and volume.
-pub fn fill_stage(
+// The frames of a call, before rate and volume: `most` of them at the most, behind the first `kept` frames of the area.
+pub fn fill_area(
     stream: SonicStream,
     input: &[i16],
-    stage: &mut [i16],
+    area: &mut [i16],
+    kept: Frames,
+    most: Frames,
     scratch: &mut [i16],
 ) -> Fill
-    requires { ⌜ StreamReady stream × FillReady stream (now input) (now stage) (now scratch) ⌝ }
-    ensures { λ r. ⌜ FillEnsures stream (now (input .entry)) (now (stage .entry)) (now (stage .exit)) r ⌝ }
+    requires { ⌜ StreamReady stream × FillReady stream (kept .0) (now input) (now area) (now scratch)
+        × (most .0 ≤ 2 ^ 24) ⌝ }
+    ensures { λ r. ⌜ FillEnsures stream (kept .0) (most .0) (now (input .entry)) (now (area .entry)) (now (area .exit))
+        r ⌝ }
 {
     let held = stream.held;
     let n = stream.held.0;
@@ -230,7 +256,7 @@ pub fn fill_stage(
         if n < period::max_required(stream.rate as usize).0 {
             return nothing(stream, Outcome::Waiting);
         }
-        return stretch_input(stream, speed, input, stage, scratch);
+        return stretch_input(stream, speed, input, area, kept, most, scratch);
     }
-    copy_input(stream, input, stage)
+    copy_input(stream, input, area, kept, most)
 }

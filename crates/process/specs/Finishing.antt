@@ -1,12 +1,14 @@
--- What the functions of `finish` require and ensure. s is the stream at the call's start, d what filled the stage;
--- the areas go from a to b. Definitions only. Assumes nothing.
+-- What the functions of `finish` require and ensure. s is the stream at the call's start, d what filled the stage or the
+-- output; the areas go from a to b. Definitions only. Assumes nothing.
 use mathlib.Core.Path.{_≡_}
 use mathlib.Core.Bool.{true, false}
 use mathlib.Core.List.{map}
 use Prim.Native.Nat.{ℕ, _+_, _-_, _*_, _^_, _≤_}
+use lib.Ieee.{eq}
 use lib.ListN.{length, take, drop}
 use Rattle.frames.specs.Areas.{Areas}
 use Rattle.frames.specs.Framing.{framesOf, Behind, NoRoom}
+use Rattle.floats.specs.Numbers.{one}
 use Rattle.floats.specs.Settings.{samplePeriod}
 use Rattle.volume.specs.Volume.{scaled}
 use Rattle.rate.specs.declared.Adjusted.{Adjusted}
@@ -24,23 +26,28 @@ use Rattle.fill.specs.declared.Filled.{Filled}
 
 -- ---- required
 
--- the stage was filled: its frames behind the tail, and the stream without the frames used
-pub record FinishReady (s : SonicStream) (d : Filled) (a : Areas) : Type 0 where
+-- the frames of the call are made, and d has the stream without the frames used
+pub record UsedReady (s : SonicStream) (d : Filled) (a : Areas) : Type 0 where
   pub ready : StreamReady s
   pub held : d .stream .held .0 ≡ s .held .0 - d .used .0
   pub period-is : d .stream .«sample_period» ≡ samplePeriod (d .stream .rate)
   pub used : d .used .0 ≤ s .held .0
   pub held-fits : s .held .0 * s .channels ≤ length (a .input)
-  pub staged-fits : (s .tail .0 + d .frames .0) * s .channels ≤ length (a .stage)
-  pub waiting-fits : s .waiting .0 * s .channels ≤ length (a .output)
   pub input-short : length (a .input) ≤ 2 ^ 24
   pub stage-short : length (a .stage) ≤ 2 ^ 24
   pub output-short : length (a .output) ≤ 2 ^ 24
 
--- and the conversion c is done
+-- they stand in the stage behind the tail, at another pitch than 1.0
+pub record FinishReady (s : SonicStream) (d : Filled) (a : Areas) : Type 0 where
+  pub used : UsedReady s d a
+  pub other : eq (s .pitch) one ≡ false
+  pub staged-fits : (s .tail .0 + d .frames .0) * s .channels ≤ length (a .stage)
+  pub waiting-fits : s .waiting .0 * s .channels ≤ length (a .output)
+
+-- the conversion c is done: what it left of the tail lies in the stage, what it made in the output
 pub record CommitReady (s : SonicStream) (d : Filled) (c : Adjusted) (a : Areas) : Type 0 where
-  pub finish : FinishReady s d a
-  pub within : c .from .0 + c .left .0 ≤ s .tail .0 + d .frames .0
+  pub used : UsedReady s d a
+  pub within : (c .from .0 + c .left .0) * s .channels ≤ length (a .stage)
   pub fits : (s .waiting .0 + c .made .0) * s .channels ≤ length (a .output)
 
 -- ---- ensured

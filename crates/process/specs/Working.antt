@@ -11,6 +11,7 @@ use Rattle.stream.specs.declared.SonicStream.{SonicStream}
 use Rattle.stream.specs.Balance.{past}
 use Rattle.stream.specs.Stream.{stateOf, streamOf}
 use Rattle.stream.specs.Order.{StreamReady}
+use Rattle.stream.specs.Refusals.{stageNeeded}
 use Rattle.fill.specs.declared.Told.{Told}
 use Rattle.process.specs.declared.Work.{Work}
 use Rattle.process.specs.Process.{Made, process}
@@ -20,7 +21,7 @@ use Rattle.fill.specs.Filling.{FillReady}
 
 -- what the stream holds lies in its areas
 pub record AreasReady (s : SonicStream) (a : Areas) : Type 0 where
-  pub fill : FillReady s (a .input) (a .stage) (a .scratch)
+  pub fill : FillReady s (s .tail .0) (a .input) (a .stage) (a .scratch)
   pub waiting : s .waiting .0 * s .channels ≤ length (a .output)
   pub output-short : length (a .output) ≤ 2 ^ 24
 
@@ -37,7 +38,7 @@ pub record WorkedAs (s : SonicStream) (m : Made) (a b : Areas) (o : Told) (t : S
   pub told : o ≡ m .told
   pub stream : t ≡ streamOf (m .state) (s .waiting .0 + length (m .frames))
   pub ready : StreamReady t
-  pub stage-fits : (s .tail .0 + m .staged) * s .channels ≤ length (a .stage)
+  pub stage-fits : stageNeeded s (m .staged) * s .channels ≤ length (a .stage)
   pub output-fits : (s .waiting .0 + length (m .frames)) * s .channels ≤ length (a .output)
   pub totals-fit : past (m .state .balance) ≡ false
   pub held : framesOf (s .channels) (length (m .state .input)) (b .input) ≡ m .state .input
@@ -47,12 +48,12 @@ pub record WorkedAs (s : SonicStream) (m : Made) (a b : Areas) (o : Told) (t : S
 
 -- or without room: in the stage first, then in the output, then in a total
 abbrev pub WorkedBy : SonicStream → Made → Areas → Areas → Work → Type 0
-WorkedBy s m a b Work.StageFull = Unchanged s a b × (length (a .stage) < (s .tail .0 + m .staged) * s .channels)
+WorkedBy s m a b Work.StageFull = Unchanged s a b × (length (a .stage) < stageNeeded s (m .staged) * s .channels)
 WorkedBy s m a b Work.OutputFull =
-    Unchanged s a b × ((s .tail .0 + m .staged) * s .channels ≤ length (a .stage))
+    Unchanged s a b × (stageNeeded s (m .staged) * s .channels ≤ length (a .stage))
     × (length (a .output) < (s .waiting .0 + length (m .frames)) * s .channels)
 WorkedBy s m a b Work.TotalFull =
-    Unchanged s a b × ((s .tail .0 + m .staged) * s .channels ≤ length (a .stage))
+    Unchanged s a b × (stageNeeded s (m .staged) * s .channels ≤ length (a .stage))
     × ((s .waiting .0 + length (m .frames)) * s .channels ≤ length (a .output)) × (past (m .state .balance) ≡ true)
 WorkedBy s m a b (Work.Done o t) = WorkedAs s m a b o t
 

@@ -36,8 +36,9 @@ fn scale_made(stream: SonicStream, made: Frames, output: &mut [i16])
     );
 }
 
-// The conversion is done. Unless a total passes 64 bits: volume, and what was used leaves input and tail.
-fn commit(
+// The conversion is done, or at pitch 1.0 none was due. Unless a total passes 64 bits: volume, and what was used leaves
+// input and tail.
+pub(crate) fn commit(
     stream: SonicStream,
     filled: Filled,
     adjusted: Adjusted,
@@ -75,7 +76,7 @@ fn commit(
     Work::Done(told, after)
 }
 
-// The new frames of the stage at the pitch and the volume, into the output behind the frames waiting.
+// The new frames of the stage at a pitch other than 1.0 and at the volume, into the output behind the frames waiting.
 pub(crate) fn finish(
     stream: SonicStream,
     filled: Filled,

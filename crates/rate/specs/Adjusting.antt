@@ -1,10 +1,12 @@
 -- What the functions require and ensure of their areas: ch channels, w frames waiting in the output. Definitions only.
 use mathlib.Core.Path.{_≡_}
+use mathlib.Core.Bool.{false}
 use mathlib.Core.List.{List}
 use Prim.Native.Nat.{ℕ, _+_, _*_, _^_, _≤_}
 use lib.IntN.{ℤ}
-use lib.Ieee.{Float}
+use lib.Ieee.{Float, eq}
 use lib.ListN.{length, drop}
+use Rattle.floats.specs.Numbers.{one}
 use Rattle.frames.specs.Framing.{Frame, framesOf, Behind, NoRoom}
 use Rattle.rate.specs.declared.Rates.{Rates}
 use Rattle.rate.specs.declared.Position.{Position}
@@ -28,11 +30,12 @@ pub record Placed (r : Rates) (s : Position) : Type 0 where
   pub old-most : r .old ≤ maxHalvedRate
   pub order : PositionInOrder r s
 
--- a call of `adjust_rate`: an f32 holds the rate exactly, the positions are in order, and `new` frames stand behind the
--- tail
+-- a call of `adjust_rate`: an f32 holds the rate exactly, the pitch is another than 1.0, the positions are in order, and
+-- `new` frames stand behind the tail
 pub record AdjustReady (ch rate : ℕ) (pitch : Float) (at : Position) (tail new w : ℕ) (stage output : List ℤ)
     : Type 0 where
   pub exact : rate ≤ 2 ^ 24
+  pub other : eq pitch one ≡ false
   pub order : PositionInOrder (ratesOf rate pitch) at
   pub lent : AreasHold ch (tail + new) w stage output
 
@@ -55,12 +58,7 @@ AdjustedBy ch w staged c stage entry exit (Adjustment.Done a) = AdjustedAs ch w 
 abbrev pub newFrames : ℕ → ℕ → ℕ → List ℤ → List Frame
 newFrames ch tail new stage = framesOf ch new (drop (tail * ch) stage)
 
--- what each function ensures: the frames went straight out, the tail was scanned, or one of the two by the pitch
-abbrev pub StraightOutEnsures : ℕ → ℕ → ℕ → ℕ → Position → List ℤ → List ℤ → List ℤ → Adjustment → Type 0
-StraightOutEnsures ch tail new w at stage entry exit a =
-    AdjustedBy ch w (tail + new) (record { made = newFrames ch tail new stage; rest = framesOf ch tail stage; at = at })
-    stage entry exit a
-
+-- what each function ensures: the tail was scanned, or, if there are no new frames, nothing was done
 abbrev pub ScanEnsures : ℕ → Rates → ℕ → ℕ → Position → List ℤ → List ℤ → List ℤ → Adjustment → Type 0
 ScanEnsures ch r tail w at stage entry exit a =
     AdjustedBy ch w tail (convert r at (framesOf ch tail stage)) stage entry exit a

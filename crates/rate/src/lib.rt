@@ -2,11 +2,10 @@
 mod scan;
 
 use frames::Frames;
-use frames::Samples;
 ghost use mathlib.Core.Path.{_≡_};
-ghost use Prim.Native.Nat.{_+_, _^_, _≤_, _<_};
+ghost use Prim.Native.Nat.{_^_, _≤_};
 ghost use Rattle.rate.specs.Halving.{ratesOf};
-ghost use Rattle.rate.specs.Adjusting.{AreasHold, AdjustReady, StraightOutEnsures, AdjustEnsures};
+ghost use Rattle.rate.specs.Adjusting.{AdjustReady, AdjustEnsures};
 
 // The most that either of the two rates may be.
 const MAX_HALVED_RATE: usize = 16384;
@@ -51,41 +50,8 @@ pub fn rates_of(rate: u32, pitch: f32) -> Rates
     Rates { new, old }
 }
 
-// At pitch 1.0 the new frames of the stage go straight out, and the tail stays.
-fn straight_out(
-    stage: &[i16],
-    tail: Frames,
-    new: Frames,
-    channels: usize,
-    at: Position,
-    output: &mut [i16],
-    waiting: Frames,
-) -> Adjustment
-    requires { ⌜ AreasHold channels (tail .0 + new .0) (waiting .0) (now stage) (now output) ⌝ }
-    ensures { λ r. ⌜ StraightOutEnsures channels (tail .0) (new .0) (waiting .0) at (now (stage .entry))
-        (now (output .entry)) (now (output .exit)) r ⌝ }
-{
-    let n = new.0;
-    let w = waiting.0;
-    if Samples(output.len()).frames(channels).0 - w < n {
-        return Adjustment::Full;
-    }
-    frames::copy(
-        stage,
-        tail.samples(channels),
-        new.samples(channels),
-        output,
-        waiting.samples(channels),
-    );
-    Adjustment::Done(Adjusted {
-        made: new,
-        from: Frames(0),
-        left: tail,
-        at,
-    })
-}
-
-// The new frames of the stage, which stand behind its tail, at the pitch: behind the frames waiting in the output.
+// The new frames of the stage, which stand behind its tail, at another pitch than 1.0: behind the frames waiting in the
+// output.
 pub fn adjust_rate(
     stage: &[i16],
     tail: Frames,
@@ -101,9 +67,6 @@ pub fn adjust_rate(
     ensures { λ r. ⌜ AdjustEnsures channels rate pitch at (tail .0) (new .0) (waiting .0) (now (stage .entry))
         (now (output .entry)) (now (output .exit)) r ⌝ }
 {
-    if pitch == 1.0 {
-        return straight_out(stage, tail, new, channels, at, output, waiting);
-    }
     let t = tail.0;
     let n = new.0;
     if n == 0 {

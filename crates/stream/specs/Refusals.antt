@@ -8,6 +8,7 @@ use lib.IntN.{ℤ}
 use lib.Ieee.{Float, le, eq}
 use lib.ListN.{length}
 use Rattle.frames.specs.Areas.{Areas}
+use Rattle.floats.specs.Numbers.{one}
 use Rattle.floats.specs.Settings.{samplePeriod, minSpeed, maxSpeed, minPitch, maxPitch, minVolume, maxVolume}
 use Rattle.period.specs.Rates.{minPeriod, maxPeriod, maxRequired}
 use Rattle.search.specs.Search.{widestGap}
@@ -128,6 +129,11 @@ areasBad s a = sizesBad s a || partsBad s a
 unfoldable pub outputBad : SonicStream → List ℤ → Bool
 outputBad s output = tooLong output || tooShort (s .channels) (s .waiting .0) output
 
+-- the frames that 6 counts, of a call that copies or stretches so many: these and the tail, which they join; at pitch
+-- 1.0, where they go straight out, these alone (C-12)
+unfoldable pub stageNeeded : SonicStream → ℕ → ℕ
+stageNeeded s staged = cond (eq (s .pitch) one) staged (s .tail .0 + staged)
+
 -- the number of a write or a flush that adds, stages and makes so many frames, and would carry the totals to these;
 -- 0: accepted
 unfoldable pub refusal : SonicStream → Areas → ℕ → ℕ → ℕ → Balance → ℕ
@@ -135,7 +141,7 @@ refusal s a added staged made balance =
     cond (not (inOrder s)) badStream
     (cond (areasBad s a) badAreas
     (cond (tooShort (s .channels) (s .held .0 + added) (a .input)) inputFull
-    (cond (tooShort (s .channels) (s .tail .0 + staged) (a .stage)) stageFull
+    (cond (tooShort (s .channels) (stageNeeded s staged) (a .stage)) stageFull
     (cond (tooShort (s .channels) (s .waiting .0 + made) (a .output)) outputFull
     (cond (past balance) totalFull accepted)))))
 

@@ -16,25 +16,25 @@ use Rattle.stretch.specs.declared.StretchCall.{StretchCall}
 use Rattle.stretch.specs.declared.Place.{Place}
 use Rattle.stretch.specs.declared.Step.{Step}
 use Rattle.stretch.specs.declared.Turn.the-variants.{NoRoom, Went}
-use Rattle.stretch.specs.Steps.{nextStep, framesOut, periodsPassed, stalls, samplesOut, prevAfter, placeAfter, after, turnFor, stageFor, StretchReady, Sound}
+use Rattle.stretch.specs.Steps.{nextStep, framesOut, periodsPassed, stalls, samplesOut, prevAfter, placeAfter, after, turnFor, areaFor, StretchReady, Sound}
 use Rattle.stretch.specs.Tally.{tally}
 use Rattle.stretch.specs.Speed.{steps, framesMade, samplesOf, lastPlace, stalled}
 use Rattle.frames.proofs.Pasted.{paste-append}
 use Rattle.stretch.proofs.Soundness.{nextStep-sound, passed-le, samplesOut-length, sound-in}
 use Rattle.stretch.proofs.Progress.{next, further, steps-on, steps-end}
-use Rattle.stretch.proofs.Turning.{Gone, gone, no-room, stage-written, stage-left}
+use Rattle.stretch.proofs.Turning.{Gone, gone, no-room, area-written, area-left}
 
--- what a call is lent: the frames held, and room for `room` frames at the place `to` of the stage
-pub record StretchLent (u : StretchCall) (x stage : List ℤ) (to room : ℕ) : Type 0 where
+-- what a call is lent: the frames held, and room for `room` frames at the place `to` of the area
+pub record StretchLent (u : StretchCall) (x area : List ℤ) (to room : ℕ) : Type 0 where
   pub ready : StretchReady u
   pub whole : u .held .0 * u .channels ≤ length x
-  pub area : to + room * u .channels ≤ length stage
+  pub lent-area : to + room * u .channels ≤ length area
 
--- `made` frames of the call that began at h₀ stand at the place `to` of the stage; h is the place that it has come to
-pub record Going (u : StretchCall) (x : List ℤ) (h₀ : Place) (stage₀ stage : List ℤ) (to room : ℕ) (h : Place) (made passed : ℕ) : Type 0 where
+-- `made` frames of the call that began at h₀ stand at the place `to` of the area; h is the place that it has come to
+pub record Going (u : StretchCall) (x : List ℤ) (h₀ : Place) (area₀ area : List ℤ) (to room : ℕ) (h : Place) (made passed : ℕ) : Type 0 where
   pub front : List ℤ
   pub front-length : length front ≡ made * u .channels
-  pub stage-is : stage ≡ paste stage₀ to front (made * u .channels)
+  pub area-is : area ≡ paste area₀ to front (made * u .channels)
   pub samples : samplesOf (u .channels) x (h₀ .position .0) (steps u x h₀) ≡ front ++ samplesOf (u .channels) x (h .position .0) (steps u x h)
   pub frames : framesMade (steps u x h₀) ≡ made + framesMade (steps u x h)
   pub periods : tally (steps u x h₀) .passed ≡ passed + tally (steps u x h) .passed
@@ -45,24 +45,24 @@ pub record Going (u : StretchCall) (x : List ℤ) (h₀ : Place) (stage₀ stage
   pub in-order : PrevInOrder (u .rate) (h .prev)
   pub within : h .position .0 ≤ u .held .0
 
--- the call has ended at h: all its frames are made and stand in the stage
-pub record Ended (u : StretchCall) (x : List ℤ) (h₀ : Place) (stage₀ stage : List ℤ) (to room : ℕ) (h : Place) (made passed : ℕ) (t : Bool) : Type 0 where
+-- the call has ended at h: all its frames are made and stand in the area
+pub record Ended (u : StretchCall) (x : List ℤ) (h₀ : Place) (area₀ area : List ℤ) (to room : ℕ) (h : Place) (made passed : ℕ) (t : Bool) : Type 0 where
   pub frames : framesMade (steps u x h₀) ≡ made
   pub periods : tally (steps u x h₀) .passed ≡ passed
-  pub samples : stage ≡ paste stage₀ to (samplesOf (u .channels) x (h₀ .position .0) (steps u x h₀)) (made * u .channels)
+  pub samples : area ≡ paste area₀ to (samplesOf (u .channels) x (h₀ .position .0) (steps u x h₀)) (made * u .channels)
   pub place : lastPlace u x h₀ (steps u x h₀) ≡ h
   pub stall : stalled (steps u x h₀) ≡ t
   pub fits : made ≤ room
   pub in-order : PrevInOrder (u .rate) (h .prev)
-  pub kept : take to stage ≡ take to stage₀
+  pub kept : take to area ≡ take to area₀
 
-pub going-start : (u : StretchCall) (x : List ℤ) (h : Place) (stage : List ℤ) (to room : ℕ) → PrevInOrder (u .rate) (h .prev) → h .position .0 ≤ u .held .0
-    → Going u x h stage stage to room h 0 0
-going-start u x h stage to room o w =
+pub going-start : (u : StretchCall) (x : List ℤ) (h : Place) (area : List ℤ) (to room : ℕ) → PrevInOrder (u .rate) (h .prev) → h .position .0 ≤ u .held .0
+    → Going u x h area area to room h 0 0
+going-start u x h area to room o w =
     record {
       front = [];
       front-length = sym (zero-mul (u .channels));
-      stage-is = paste-zero stage to [] ∙ ap (paste stage to []) (sym (zero-mul (u .channels)));
+      area-is = paste-zero area to [] ∙ ap (paste area to []) (sym (zero-mul (u .channels)));
       samples = refl;
       frames = sym (zero-add (framesMade (steps u x h)));
       periods = sym (zero-add (tally (steps u x h) .passed));
@@ -74,8 +74,8 @@ going-start u x h stage to room o w =
       within = w;
     }
 
-module _ {u : StretchCall} {x : List ℤ} {h₀ : Place} {stage₀ stage : List ℤ} {to room : ℕ} {h : Place} {made passed : ℕ}
-    (l : StretchLent u x stage₀ to room) (g : Going u x h₀ stage₀ stage to room h made passed) where
+module _ {u : StretchCall} {x : List ℤ} {h₀ : Place} {area₀ area : List ℤ} {to room : ℕ} {h : Place} {made passed : ℕ}
+    (l : StretchLent u x area₀ to room) (g : Going u x h₀ area₀ area to room h made passed) where
   -- what is made lies within the room, and what is left of it behind that
   pub going-room : made * u .channels + (room - made) * u .channels ≡ room * u .channels
   going-room =
@@ -84,11 +84,11 @@ module _ {u : StretchCall} {x : List ℤ} {h₀ : Place} {stage₀ stage : List 
       sym (add-mul made (room - made) (u .channels)) ∙ ap (λ (n : ℕ). n * u .channels) e
 
   -- what lies before the place `to` is as it was
-  going-kept : take to stage ≡ take to stage₀
-  going-kept = ap (take to) (g .stage-is) ∙ paste-front stage₀ (g .front) to (made * u .channels) (omega (arith, l .area))
+  going-kept : take to area ≡ take to area₀
+  going-kept = ap (take to) (g .area-is) ∙ paste-front area₀ (g .front) to (made * u .channels) (omega (arith, l .lent-area))
 
   -- no step is due
-  pub going-end : u .held .0 < h .position .0 + maxRequired (u .rate) → Ended u x h₀ stage₀ stage to room h made passed false
+  pub going-end : u .held .0 < h .position .0 + maxRequired (u .rate) → Ended u x h₀ area₀ area to room h made passed false
   unfolding samplesOf tally lastPlace stalled
   going-end d =
       let e = steps-end u x h d in
@@ -96,7 +96,7 @@ module _ {u : StretchCall} {x : List ℤ} {h₀ : Place} {stage₀ stage : List 
       record {
         frames = g .frames ∙ ap (λ (ss : List Step). made + framesMade ss) e ∙ add-zero made;
         periods = g .periods ∙ ap (λ (ss : List Step). passed + tally ss .passed) e ∙ add-zero passed;
-        samples = g .stage-is ∙ ap (λ (s : List ℤ). paste stage₀ to s (made * u .channels)) (sym all);
+        samples = g .area-is ∙ ap (λ (s : List ℤ). paste area₀ to s (made * u .channels)) (sym all);
         place = g .place ∙ ap (lastPlace u x h) e;
         stall = g .stall ∙ ap stalled e;
         fits = g .fits;
@@ -112,11 +112,11 @@ module _ {u : StretchCall} {x : List ℤ} {h₀ : Place} {stage₀ stage : List 
     on e = steps-on x (l .ready) h (g .in-order .period-in) d ∙ ap (λ (t : Bool). nextStep u x h ∷ cond t [] (steps u x (next u x h))) e
 
     -- there is no room for the step that is due: nothing is written
-    pub going-full-kept : {stage' : List ℤ} → turnFor u x h (room - made) (nextStep u x h) ≡ NoRoom
-        → stage' ≡ stageFor u x h (room - made) stage (to + made * u .channels) (nextStep u x h) → take to stage' ≡ take to stage₀
+    pub going-full-kept : {area' : List ℤ} → turnFor u x h (room - made) (nextStep u x h) ≡ NoRoom
+        → area' ≡ areaFor u x h (room - made) area (to + made * u .channels) (nextStep u x h) → take to area' ≡ take to area₀
     going-full-kept e wrote =
         let over = no-room u x h (room - made) (nextStep u x h) e in
-        ap (take to) (wrote ∙ stage-left u x h (room - made) (nextStep u x h) stage (to + made * u .channels) over) ∙ going-kept
+        ap (take to) (wrote ∙ area-left u x h (room - made) (nextStep u x h) area (to + made * u .channels) over) ∙ going-kept
 
     pub going-full : turnFor u x h (room - made) (nextStep u x h) ≡ NoRoom → room < framesMade (steps u x h₀)
     unfolding tally
@@ -126,8 +126,8 @@ module _ {u : StretchCall} {x : List ℤ} {h₀ : Place} {stage₀ stage : List 
         omega (arith, g .frames)
 
     -- the step that is due is taken
-    module _ {stage' : List ℤ} {p : Place} {n : Frames} {m : ℕ} {t : Bool} (w : turnFor u x h (room - made) (nextStep u x h) ≡ Went p n m t)
-        (wrote : stage' ≡ stageFor u x h (room - made) stage (to + made * u .channels) (nextStep u x h))
+    module _ {area' : List ℤ} {p : Place} {n : Frames} {m : ℕ} {t : Bool} (w : turnFor u x h (room - made) (nextStep u x h) ≡ Went p n m t)
+        (wrote : area' ≡ areaFor u x h (room - made) area (to + made * u .channels) (nextStep u x h))
         (o : PrevInOrder (u .rate) (prevAfter u x h (nextStep u x h))) where
       abbrev more : List ℤ
       more = samplesOut (u .channels) x (h .position .0) (nextStep u x h)
@@ -144,17 +144,17 @@ module _ {u : StretchCall} {x : List ℤ} {h₀ : Place} {stage₀ stage : List 
       more-length : length more ≡ framesOut (nextStep u x h) * u .channels
       more-length = samplesOut-length (nextStep u x h) (u .channels) x sound (l .whole)
 
-      stage-on : stage' ≡ paste stage₀ to (g .front ++ more) ((made + framesOut (nextStep u x h)) * u .channels)
-      stage-on =
+      area-on : area' ≡ paste area₀ to (g .front ++ more) ((made + framesOut (nextStep u x h)) * u .channels)
+      area-on =
           let room-for : (made + framesOut (nextStep u x h)) * u .channels ≤ room * u .channels = mul-le-mul-right (u .channels) few in
-          wrote ∙ stage-written u x h (room - made) (nextStep u x h) stage (to + made * u .channels) (went .fits)
-          ∙ ap (λ (s : List ℤ). paste s (to + made * u .channels) more (framesOut (nextStep u x h) * u .channels)) (g .stage-is)
-          ∙ paste-append stage₀ (g .front) more to (made * u .channels) (framesOut (nextStep u x h) * u .channels) (g .front-length) more-length
-          (omega (arith, l .area, count))
-          ∙ ap (paste stage₀ to (g .front ++ more)) count
+          wrote ∙ area-written u x h (room - made) (nextStep u x h) area (to + made * u .channels) (went .fits)
+          ∙ ap (λ (s : List ℤ). paste s (to + made * u .channels) more (framesOut (nextStep u x h) * u .channels)) (g .area-is)
+          ∙ paste-append area₀ (g .front) more to (made * u .channels) (framesOut (nextStep u x h) * u .channels) (g .front-length) more-length
+          (omega (arith, l .lent-area, count))
+          ∙ ap (paste area₀ to (g .front ++ more)) count
 
       -- the call goes on, or has ended, at the place after it
-      going-next : stalls (nextStep u x h) ≡ false → Going u x h₀ stage₀ stage' to room (next u x h) (made + framesOut (nextStep u x h))
+      going-next : stalls (nextStep u x h) ≡ false → Going u x h₀ area₀ area' to room (next u x h) (made + framesOut (nextStep u x h))
           (passed + periodsPassed (nextStep u x h))
       unfolding samplesOf tally lastPlace stalled after placeAfter
       going-next f =
@@ -162,7 +162,7 @@ module _ {u : StretchCall} {x : List ℤ} {h₀ : Place} {stage₀ stage : List 
           record {
             front = g .front ++ more;
             front-length = length-append (g .front) more ∙ (λ i. g .front-length i + more-length i) ∙ count;
-            stage-is = stage-on;
+            area-is = area-on;
             samples = g .samples ∙ ap (λ (ss : List Step). g .front ++ samplesOf (u .channels) x (h .position .0) ss) e
                 ∙ sym (append-assoc (g .front) more (samplesOf (u .channels) x (next u x h .position .0) (steps u x (next u x h))));
             frames = omega (arith, g .frames, ap framesMade e);
@@ -175,7 +175,7 @@ module _ {u : StretchCall} {x : List ℤ} {h₀ : Place} {stage₀ stage : List 
             within = sound-in sound;
           }
 
-      ended-next : stalls (nextStep u x h) ≡ true → Ended u x h₀ stage₀ stage' to room (next u x h) (made + framesOut (nextStep u x h))
+      ended-next : stalls (nextStep u x h) ≡ true → Ended u x h₀ area₀ area' to room (next u x h) (made + framesOut (nextStep u x h))
           (passed + periodsPassed (nextStep u x h)) true
       unfolding samplesOf tally lastPlace stalled after placeAfter
       ended-next f =
@@ -184,14 +184,14 @@ module _ {u : StretchCall} {x : List ℤ} {h₀ : Place} {stage₀ stage : List 
           ∙ ap (λ (s : List ℤ). g .front ++ s) (append-nil more) in
           record {
             frames = omega (arith, g .frames, ap framesMade e);
-            samples = stage-on ∙ ap (λ (s : List ℤ). paste stage₀ to s ((made + framesOut (nextStep u x h)) * u .channels)) (sym all);
+            samples = area-on ∙ ap (λ (s : List ℤ). paste area₀ to s ((made + framesOut (nextStep u x h)) * u .channels)) (sym all);
             periods = omega (arith, g .periods, ap (λ (ss : List Step). tally ss .passed) e);
             place = g .place ∙ ap (lastPlace u x h) e;
             stall = g .stall ∙ ap stalled e ∙ ap (λ (b : Bool). b || false) f;
             fits = few;
             in-order = o;
-            kept = ap (take to) stage-on
-                ∙ paste-front stage₀ (g .front ++ more) to ((made + framesOut (nextStep u x h)) * u .channels) (omega (arith, l .area));
+            kept = ap (take to) area-on
+                ∙ paste-front area₀ (g .front ++ more) to ((made + framesOut (nextStep u x h)) * u .channels) (omega (arith, l .lent-area));
           }
 
       -- in the words of the turn
@@ -202,12 +202,12 @@ module _ {u : StretchCall} {x : List ℤ} {h₀ : Place} {stage₀ stage : List 
           (subst (λ (k : ℕ). P (next u x h) (made + k) (passed + m)) (sym (went .frames))
           (subst (λ (k : ℕ). P (next u x h) (made + framesOut (nextStep u x h)) (passed + k)) (sym (went .passed)) v))
 
-      pub going-on : t ≡ false → Going u x h₀ stage₀ stage' to room p (made + n .0) (passed + m)
-      going-on e = as-told (Going u x h₀ stage₀ stage' to room) (going-next (sym (went .stall) ∙ e))
+      pub going-on : t ≡ false → Going u x h₀ area₀ area' to room p (made + n .0) (passed + m)
+      going-on e = as-told (Going u x h₀ area₀ area' to room) (going-next (sym (went .stall) ∙ e))
 
-      pub going-stall : t ≡ true → Ended u x h₀ stage₀ stage' to room p (made + n .0) (passed + m) true
+      pub going-stall : t ≡ true → Ended u x h₀ area₀ area' to room p (made + n .0) (passed + m) true
       going-stall e =
-          as-told (λ q j k. Ended u x h₀ stage₀ stage' to room q j k true) (ended-next (sym (went .stall) ∙ e))
+          as-told (λ q j k. Ended u x h₀ area₀ area' to room q j k true) (ended-next (sym (went .stall) ∙ e))
 
       -- its frames fit, and it uses one at least
       pub going-fits : made + n .0 ≤ room

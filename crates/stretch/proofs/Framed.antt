@@ -1,4 +1,4 @@
--- The stage after a call, as frames: those made stand behind the first w frames, or there was no room for them. Assumes nothing.
+-- The area after a call, as frames: those made stand behind the first w frames, or there was no room for them. Assumes nothing.
 use mathlib.Core.Path.{sym, subst}
 use mathlib.Core.List.{List}
 use Prim.Native.Nat.{ℕ, _+_, _-_, _*_, _/_, _≤_, _<_}
@@ -16,21 +16,21 @@ use Rattle.stretch.specs.Steps.{StretchReady}
 use Rattle.stretch.specs.Speed.{steps, framesMade, samplesOf, stretchedFrames, Staged}
 use Rattle.stretch.proofs.Claims.{samplesOf-length}
 
-module _ {u : StretchCall} {x : List ℤ} {h : Place} {room w : ℕ} {stage stage' : List ℤ} (g : Staged u x h room stage stage' (w * u .channels)) where
-  pub staged-behind : StretchReady u → PeriodIn (u .rate) (h .prev) → u .held .0 * u .channels ≤ length x → framesMade (steps u x h) ≤ room
-      → (w + framesMade (steps u x h)) * u .channels ≤ length stage → Behind (u .channels) w (framesMade (steps u x h)) stage stage' (stretchedFrames u x h)
-  staged-behind r o whole fits area =
+module _ {u : StretchCall} {x : List ℤ} {h : Place} {room w : ℕ} {area area' : List ℤ} (g : Staged u x h room area area' (w * u .channels)) where
+  pub aread-behind : StretchReady u → PeriodIn (u .rate) (h .prev) → u .held .0 * u .channels ≤ length x → framesMade (steps u x h) ≤ room
+      → (w + framesMade (steps u x h)) * u .channels ≤ length area → Behind (u .channels) w (framesMade (steps u x h)) area area' (stretchedFrames u x h)
+  aread-behind r o whole fits within =
       let samples = samplesOf (u .channels) x (h .position .0) (steps u x h) in
       let n = framesMade (steps u x h) in
       let enough : n * u .channels ≤ length samples = le-of-eq (sym (samplesOf-length x h r o whole)) in
-      let written = behind-paste (u .channels) w n stage samples area enough in
-      subst (λ (l : List ℤ). Behind (u .channels) w n stage l (stretchedFrames u x h)) (sym (g .written fits)) written
+      let written = behind-paste (u .channels) w n area samples within enough in
+      subst (λ (l : List ℤ). Behind (u .channels) w n area l (stretchedFrames u x h)) (sym (g .written fits)) written
 
-  pub staged-full : StretchReady u → length stage / u .channels - w < framesMade (steps u x h) → NoRoom (u .channels) w stage stage' (stretchedFrames u x h)
-  staged-full r over =
+  pub aread-full : StretchReady u → length area / u .channels - w < framesMade (steps u x h) → NoRoom (u .channels) w area area' (stretchedFrames u x h)
+  aread-full r over =
       let n = length-framesOf (u .channels) (framesMade (steps u x h)) (samplesOf (u .channels) x (h .position .0) (steps u x h)) in
       record {
         kept = g .kept;
-        over = subst (λ (k : ℕ). length stage < (w + k) * u .channels) (sym n)
-            (room-over (u .channels) w (framesMade (steps u x h)) (length stage) (r .opened .channels-low) over);
+        over = subst (λ (k : ℕ). length area < (w + k) * u .channels) (sym n)
+            (room-over (u .channels) w (framesMade (steps u x h)) (length area) (r .opened .channels-low) over);
       }

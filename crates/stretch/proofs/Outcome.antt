@@ -16,8 +16,8 @@ use Rattle.stretch.specs.declared.Stretched.the-variants.{Made, Full}
 use Rattle.stretch.specs.Speed.{steps, framesMade, samplesOf, answer, answerFor, changeSpeed, Staged}
 use Rattle.stretch.proofs.Between.{Ended}
 
-module _ {u : StretchCall} {x : List ℤ} {h₀ : Place} {stage₀ stage : List ℤ} {to room : ℕ} {h : Place} {made passed : ℕ} {t : Bool}
-    (e : Ended u x h₀ stage₀ stage to room h made passed t) where
+module _ {u : StretchCall} {x : List ℤ} {h₀ : Place} {area₀ area : List ℤ} {to room : ℕ} {h : Place} {made passed : ℕ} {t : Bool}
+    (e : Ended u x h₀ area₀ area to room h made passed t) where
   pub ended-made : Made (answer made (cond t 0 (h .position .0)) passed h t) ≡ changeSpeed u x h₀ room
   unfolding changeSpeed answerFor
   ended-made =
@@ -25,12 +25,12 @@ module _ {u : StretchCall} {x : List ℤ} {h₀ : Place} {stage₀ stage : List 
       sym (rw (le-ltb room (framesMade (steps u x h₀)) fits)
       (λ i. Made (answer (e .frames i) (cond (e .stall i) 0 (e .place i .position .0)) (e .periods i) (e .place i) (e .stall i))))
 
-  pub ended-staged : Staged u x h₀ room stage₀ stage to
-  ended-staged =
+  pub ended-aread : Staged u x h₀ room area₀ area to
+  ended-aread =
       let samples = samplesOf (u .channels) x (h₀ .position .0) (steps u x h₀) in
       record {
         kept = e .kept;
-        written = λ _. e .samples ∙ ap (λ (n : ℕ). paste stage₀ to samples (n * u .channels)) (sym (e .frames));
+        written = λ _. e .samples ∙ ap (λ (n : ℕ). paste area₀ to samples (n * u .channels)) (sym (e .frames));
         in-order = λ _. subst (λ (p : Place). PrevInOrder (u .rate) (p .prev)) (sym (e .place)) (e .in-order);
       }
 
@@ -39,5 +39,5 @@ module _ (u : StretchCall) (x : List ℤ) (h₀ : Place) (room : ℕ) (over : ro
   unfolding changeSpeed
   full-made = sym (rw (lt-ltb room (framesMade (steps u x h₀)) over))
 
-  pub full-staged : {stage₀ stage : List ℤ} {to : ℕ} → take to stage ≡ take to stage₀ → Staged u x h₀ room stage₀ stage to
-  full-staged k = record { kept = k; written = λ f. absurd (not-le-of-lt over f); in-order = λ f. absurd (not-le-of-lt over f) }
+  pub full-aread : {area₀ area : List ℤ} {to : ℕ} → take to area ≡ take to area₀ → Staged u x h₀ room area₀ area to
+  full-aread k = record { kept = k; written = λ f. absurd (not-le-of-lt over f); in-order = λ f. absurd (not-le-of-lt over f) }

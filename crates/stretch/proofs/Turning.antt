@@ -14,7 +14,7 @@ use Rattle.stretch.specs.declared.Place.{Place}
 use Rattle.stretch.specs.declared.Step.{Step}
 use Rattle.stretch.specs.declared.Turn.{Turn}
 use Rattle.stretch.specs.declared.Turn.the-variants.{NoRoom, Went}
-use Rattle.stretch.specs.Steps.{framesOut, periodsPassed, stalls, samplesOut, after, turnFor, stageFor}
+use Rattle.stretch.specs.Steps.{framesOut, periodsPassed, stalls, samplesOut, after, turnFor, areaFor}
 
 zero-one : _≡_ {A = ℕ} 0 1 → ⊥
 zero-one z = omega arith
@@ -49,11 +49,11 @@ module _ (u : StretchCall) (x : List ℤ) (h : Place) (room : ℕ) (s : Step) wh
   unfolding turnFor
   gone {p} {n} {m} {t} e = gone-cases (ltb room (framesOut s)) p n m t refl e
 
-  pub stage-written : (stage : List ℤ) (to : ℕ) → framesOut s ≤ room
-      → stageFor u x h room stage to s ≡ paste stage to (samplesOut (u .channels) x (h .position .0) s) (framesOut s * u .channels)
-  unfolding stageFor
-  stage-written stage to k = rw (le-ltb room (framesOut s) k)
+  pub area-written : (area : List ℤ) (to : ℕ) → framesOut s ≤ room
+      → areaFor u x h room area to s ≡ paste area to (samplesOut (u .channels) x (h .position .0) s) (framesOut s * u .channels)
+  unfolding areaFor
+  area-written area to k = rw (le-ltb room (framesOut s) k)
 
-  pub stage-left : (stage : List ℤ) (to : ℕ) → room < framesOut s → stageFor u x h room stage to s ≡ stage
-  unfolding stageFor
-  stage-left stage to k = rw (lt-ltb room (framesOut s) k)
+  pub area-left : (area : List ℤ) (to : ℕ) → room < framesOut s → areaFor u x h room area to s ≡ area
+  unfolding areaFor
+  area-left area to k = rw (lt-ltb room (framesOut s) k)

@@ -18,7 +18,7 @@ use Rattle.stretch.specs.declared.Place.{Place}
 use Rattle.stretch.specs.declared.Step.{Step}
 use Rattle.stretch.specs.declared.Stretch.{Stretch}
 use Rattle.stretch.specs.declared.Stretched.{Stretched}
-use Rattle.stretch.specs.declared.Stretched.the-variants.{Made, Full}
+use Rattle.stretch.specs.declared.Stretched.the-variants.{Made, TooMany}
 use Rattle.stretch.specs.Steps.{nextStep, framesUsed, stalls, samplesOut, after}
 use Rattle.stretch.specs.Tally.{tally}
 
@@ -76,20 +76,20 @@ answerFor u x h ss =
     answer (framesMade ss) (cond (stalled ss) 0 (lastPlace u x h ss .position .0)) (tally ss .passed)
     (lastPlace u x h ss) (stalled ss)
 
--- `change_speed` with room for `room` frames
+-- `change_speed`, when at most `most` frames may be made
 unfoldable pub changeSpeed : StretchCall → List ℤ → Place → ℕ → Stretched
-changeSpeed u x h room = cond (ltb room (framesMade (steps u x h))) Full (Made (answerFor u x h (steps u x h)))
+changeSpeed u x h most = cond (ltb most (framesMade (steps u x h))) TooMany (Made (answerFor u x h (steps u x h)))
 
 -- the frames that a call makes
 abbrev pub stretchedFrames : StretchCall → List ℤ → Place → List Frame
 stretchedFrames u x h =
     framesOf (u .channels) (framesMade (steps u x h)) (samplesOf (u .channels) x (h .position .0) (steps u x h))
 
--- the stage after it: what lies before the place `to` stays; if the frames fit, they stand there, and the period record
--- is in order
-pub record Staged (u : StretchCall) (x : List ℤ) (h : Place) (room : ℕ) (stage stage' : List ℤ) (to : ℕ) : Type 0 where
-  pub kept : take to stage' ≡ take to stage
+-- the area after it: what lies before the place `to` stays; if there is room for the frames among `room` frames, they
+-- stand there, and the period record is in order
+pub record AreaAfter (u : StretchCall) (x : List ℤ) (h : Place) (room : ℕ) (area area' : List ℤ) (to : ℕ) : Type 0 where
+  pub kept : take to area' ≡ take to area
   pub written : framesMade (steps u x h) ≤ room
-      → stage' ≡ paste stage to (samplesOf (u .channels) x (h .position .0) (steps u x h))
+      → area' ≡ paste area to (samplesOf (u .channels) x (h .position .0) (steps u x h))
       (framesMade (steps u x h) * u .channels)
   pub in-order : framesMade (steps u x h) ≤ room → PrevInOrder (u .rate) (lastPlace u x h (steps u x h) .prev)

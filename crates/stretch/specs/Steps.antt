@@ -23,7 +23,7 @@ use Rattle.stretch.specs.declared.Place.{Place}
 use Rattle.stretch.specs.declared.Step.{Step}
 use Rattle.stretch.specs.declared.Step.the-variants.{Copied, Skipped, Inserted, Passed}
 use Rattle.stretch.specs.declared.Turn.{Turn}
-use Rattle.stretch.specs.declared.Turn.the-variants.{NoRoom, Went}
+use Rattle.stretch.specs.declared.Turn.the-variants.{TooMany, Went}
 use Rattle.crossfade.specs.Crossfade.{copyUnmodifiedSamples, skipPitchPeriod, insertPitchPeriod}
 
 -- the search at a place
@@ -124,19 +124,20 @@ placeAfter u h s found =
 unfoldable pub after : StretchCall → List ℤ → Place → Step → Place
 after u x h s = placeAfter u h s (prevAfter u x h s)
 
--- ---- one turn, with room for `room` frames
+-- ---- one turn
 
--- whether there is room for the step; the place after it, its frames, the periods passed over, and whether it stalls
+-- whether the step gives more than `most` frames; the place after it, its frames, the periods passed over, and whether
+-- it stalls
 unfoldable pub turnFor : StretchCall → List ℤ → Place → ℕ → Step → Turn
-turnFor u x h room s =
-    cond (ltb room (framesOut s)) NoRoom
+turnFor u x h most s =
+    cond (ltb most (framesOut s)) TooMany
     (Went (after u x h s) (record { 0 = framesOut s }) (periodsPassed s) (stalls s))
 
--- the stage after it: the step's frames at the place `to`
-unfoldable pub stageFor : StretchCall → List ℤ → Place → ℕ → List ℤ → ℕ → Step → List ℤ
-stageFor u x h room stage to s =
-    cond (ltb room (framesOut s)) stage
-    (paste stage to (samplesOut (u .channels) x (h .position .0) s) (framesOut s * u .channels))
+-- the area after it: the step's frames at the place `to`, if it has room for them among `room` frames
+unfoldable pub areaFor : StretchCall → List ℤ → Place → ℕ → List ℤ → ℕ → Step → List ℤ
+areaFor u x h room area to s =
+    cond (ltb room (framesOut s)) area
+    (paste area to (samplesOut (u .channels) x (h .position .0) s) (framesOut s * u .channels))
 
 -- ---- what calls and steps are handed
 

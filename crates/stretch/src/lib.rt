@@ -42,10 +42,10 @@ pub struct NextStep {
     pub prev: PeriodRecord,
 }
 
-// One turn of a call: no room for the step's frames; or the place after it, its frames, the periods that it passes
-// over, and whether it stalls.
+// One turn of a call: the step gives more frames than the call may make; or the place after it, its frames, the periods
+// that it passes over, and whether it stalls.
 pub enum Turn {
-    NoRoom,
+    TooMany,
     Went(Place, Frames, usize, bool),
 }
 
@@ -60,8 +60,8 @@ pub struct Stretch {
     pub stalled: bool,
 }
 
-// The same, or that the frames made do not fit.
+// The same, or that more frames come out than the call may make.
 pub enum Stretched {
     Made(Stretch),
-    Full,
+    TooMany,
 }

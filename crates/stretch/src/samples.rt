@@ -1,4 +1,4 @@
-// What a step writes into the stage.
+// What a step writes into an area.
 use crate::Step;
 use crossfade::copy_unmodified_samples;
 use crossfade::insert_pitch_period;
@@ -6,37 +6,63 @@ use crossfade::skip_pitch_period;
 use frames::Frames;
 use frames::Samples;
 ghost use mathlib.Core.Path.{_≡_};
+ghost use mathlib.Core.Bool.{cond};
 ghost use Prim.Native.Nat.{_+_, _*_, _≤_};
+ghost use lib.Dec.{ltb};
 ghost use lib.ListN.{length};
 ghost use lib.Seq.{paste};
 ghost use Rattle.search.specs.Search.{longestPeriod};
 ghost use Rattle.stretch.specs.Steps.{framesOut, framesRead, crossfaded, samplesOut};
 
-// Writes the frames that a step at the position makes at the place `to` of the stage.
-pub(crate) fn write_step(
+// Writes the frames that a step at the position makes at the place `to` of the area.
+fn write_step(
     step: Step,
     input: &[i16],
     channels: usize,
     position: Frames,
-    stage: &mut [i16],
+    area: &mut [i16],
     to: Samples,
 )
     requires { ⌜ (1 ≤ channels) × (crossfaded step ≤ longestPeriod)
         × ((position .0 + framesRead step) * channels ≤ length (now input))
-        × (to .0 + framesOut step * channels ≤ length (now stage)) ⌝ }
-    ensures { λ _. ⌜ now (stage .exit) ≡ paste (now (stage .entry)) (to .0)
+        × (to .0 + framesOut step * channels ≤ length (now area)) ⌝ }
+    ensures { λ _. ⌜ now (area .exit) ≡ paste (now (area .entry)) (to .0)
         (samplesOut channels (now (input .entry)) (position .0) step) (framesOut step * channels) ⌝ }
 {
     match step {
         Step::Copied(n) => {
-            copy_unmodified_samples(input, channels, position, n, stage, to);
+            copy_unmodified_samples(input, channels, position, n, area, to);
         }
         Step::Skipped(period, k) => {
-            skip_pitch_period(input, channels, position, period, k, stage, to);
+            skip_pitch_period(input, channels, position, period, k, area, to);
         }
         Step::Inserted(period, k) => {
-            insert_pitch_period(input, channels, position, period, k, stage, to);
+            insert_pitch_period(input, channels, position, period, k, area, to);
         }
         Step::Passed(_) => {}
     }
+}
+
+// The same, if there is room for its n frames among `room` frames; else nothing is written.
+pub(crate) fn write_fitting(
+    step: Step,
+    n: Frames,
+    input: &[i16],
+    channels: usize,
+    position: Frames,
+    area: &mut [i16],
+    to: Samples,
+    room: Frames,
+)
+    requires { ⌜ (n .0 ≡ framesOut step) × (1 ≤ channels) × (crossfaded step ≤ longestPeriod)
+        × ((position .0 + framesRead step) * channels ≤ length (now input))
+        × (to .0 + room .0 * channels ≤ length (now area)) ⌝ }
+    ensures { λ _. ⌜ now (area .exit) ≡ cond (ltb (room .0) (framesOut step)) (now (area .entry))
+        (paste (now (area .entry)) (to .0) (samplesOut channels (now (input .entry)) (position .0) step)
+        (framesOut step * channels)) ⌝ }
+{
+    if room.0 < n.0 {
+        return;
+    }
+    write_step(step, input, channels, position, area, to);
 }

@@ -15,7 +15,7 @@ ghost use Rattle.period.specs.Rates.{InLimits, maxRequired};
 ghost use Rattle.period.specs.Pitch.{findPitchPeriod, InRange, PrevInOrder};
 ghost use Rattle.stretch.specs.Steps.{skipStep, periodStep, nextStep, framesOut, framesUsed, framesRead};
 ghost use Rattle.stretch.specs.Steps.{periodsPassed, stalls, errorAfter};
-ghost use Rattle.stretch.specs.Steps.{prevAfter, placeAfter, turnFor, stageFor, StretchReady, Sound};
+ghost use Rattle.stretch.specs.Steps.{prevAfter, placeAfter, turnFor, areaFor, StretchReady, Sound};
 
 // The period that a step at the place `from` of the input uses, in frames, and the period record after the search.
 fn search_at(
@@ -181,15 +181,16 @@ fn place_after(call: StretchCall, place: Place, step: Step, prev: PeriodRecord) 
     }
 }
 
-// One turn: the step that is due, its frames written at the place `to` of the stage if there is room for them among
-// `room` frames.
+// One turn: the step that is due, if it gives `most` frames at the most. Its frames are written at the place `to` of the
+// area if there is room for them among `room` frames, and only counted else.
 pub(crate) fn take_step(
     input: &[i16],
     call: StretchCall,
     place: Place,
-    stage: &mut [i16],
+    area: &mut [i16],
     to: Samples,
     room: Frames,
+    most: Frames,
     scratch: &mut [i16],
 ) -> Turn
     requires { ⌜ StretchReady call ⌝ }
@@ -197,9 +198,9 @@ pub(crate) fn take_step(
     requires { ⌜ (place .position .0 + maxRequired (call .rate) ≤ call .held .0)
         × (call .held .0 * call .channels ≤ length (now input))
         × (maxRequired (call .rate) ≤ length (now scratch))
-        × (to .0 + room .0 * call .channels ≤ length (now stage)) ⌝ }
-    ensures { λ r. ⌜ (r ≡ turnFor call (now (input .entry)) place (room .0) (nextStep call (now (input .entry)) place))
-        × (now (stage .exit) ≡ stageFor call (now (input .entry)) place (room .0) (now (stage .entry)) (to .0)
+        × (to .0 + room .0 * call .channels ≤ length (now area)) × (room .0 ≤ most .0) ⌝ }
+    ensures { λ r. ⌜ (r ≡ turnFor call (now (input .entry)) place (most .0) (nextStep call (now (input .entry)) place))
+        × (now (area .exit) ≡ areaFor call (now (input .entry)) place (room .0) (now (area .entry)) (to .0)
         (nextStep call (now (input .entry)) place))
         × PrevInOrder (call .rate) (prevAfter call (now (input .entry)) place
         (nextStep call (now (input .entry)) place)) ⌝ }
@@ -208,10 +209,19 @@ pub(crate) fn take_step(
     let step = due.step;
     let prev = due.prev;
     let n = frames_out(step);
-    if room.0 < n.0 {
-        return Turn::NoRoom;
+    if most.0 < n.0 {
+        return Turn::TooMany;
     }
-    crate::samples::write_step(step, input, call.channels, place.position, stage, to);
+    crate::samples::write_fitting(
+        step,
+        n,
+        input,
+        call.channels,
+        place.position,
+        area,
+        to,
+        room,
+    );
     let next = place_after(call, place, step, prev);
     Turn::Went(next, n, periods_passed(step), stalls(step))
 }

@@ -1,4 +1,4 @@
--- `crossfade::crossfades::crossfade_frame` meets its contract. The loop's invariant: the samples passed stand in the stage. Assumes nothing.
+-- `crossfade::crossfades::crossfade_frame` meets its contract. The loop's invariant: the samples passed stand in the area. Assumes nothing.
 use borrow.Author.Needs.{needs}
 use mathlib.Core.Path.{_≡_, refl}
 use mathlib.Core.List.{[]}
@@ -14,11 +14,11 @@ use Rattle.crossfade.proofs.crossfades.crossfade_frame.Tie as tie
 -- ---- invariant
 
 abbrev Inv-loop : tie.InvT-loop
-Inv-loop k t reciprocal channels input stage₀ from into at i₀ stage i =
-    (i ≤ channels) × (stage ≡ paste stage₀ at (crossfadeFrame k t (drop from input) (drop into input) i) i) × (length stage ≡ length stage₀)
+Inv-loop k t reciprocal channels input area₀ from into at i₀ area i =
+    (i ≤ channels) × (area ≡ paste area₀ at (crossfadeFrame k t (drop from input) (drop into input) i) i) × (length area ≡ length area₀)
 
 abbrev μ-loop : tie.MeasureT-loop
-μ-loop k t reciprocal channels input stage₀ from into at i₀ stage i = channels - i
+μ-loop k t reciprocal channels input area₀ from into at i₀ area i = channels - i
 
 -- ---- places
 
@@ -39,21 +39,21 @@ module _ (c : tie.After-crossfade-sample Inv-loop μ-loop) where
     value = c .crossfade-sample .ensures;
   }
 
-  inside : start .args .to .0 + turn .loop .i < length (start .args .stage .now)
+  inside : start .args .to .0 + turn .loop .i < length (start .args .area .now)
   inside = omega arith
 
 -- ---- needs
 
 loop-holds : tie.Need-loop-holds Inv-loop μ-loop
 unfolding crossfadeFrame
-loop-holds c = (omega arith, paste-zero (c .args .stage .now) (c .args .to .0) [], refl)
+loop-holds c = (omega arith, paste-zero (c .args .area .now) (c .args .to .0) [], refl)
 
 loop-again : tie.Need-loop-again Inv-loop μ-loop
 loop-again c =
     let a = start c .args in
     let l = turn c .loop in (
       omega arith,
-      frame-on (a .input .now) (a .stage .now) (a .down .0) (a .up .0) (a .to .0) (a .k) (a .t) (l .i) (inside c) (faded c) (l .inv .1),
+      frame-on (a .input .now) (a .area .now) (a .down .0) (a .up .0) (a .to .0) (a .k) (a .t) (l .i) (inside c) (faded c) (l .inv .1),
       simp length-set (l .inv .2),
     )
 

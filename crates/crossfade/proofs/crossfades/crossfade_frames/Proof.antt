@@ -1,4 +1,4 @@
--- `crossfade::crossfades::crossfade_frames` meets its contract. The loop's invariant: the frames passed stand in the stage. Assumes nothing.
+-- `crossfade::crossfades::crossfade_frames` meets its contract. The loop's invariant: the frames passed stand in the area. Assumes nothing.
 use borrow.Author.Needs.{needs}
 use mathlib.Core.Path.{_≡_, refl, sym}
 use mathlib.Core.List.{[]}
@@ -15,12 +15,12 @@ use Rattle.crossfade.proofs.crossfades.crossfade_frames.Tie as tie
 -- ---- invariant
 
 abbrev Inv-loop : tie.InvT-loop
-Inv-loop reciprocal channels input stage₀ n from into at past₀ t₀ stage past t =
-    (t ≤ n) × (past ≡ t * channels) × (stage ≡ paste stage₀ at (crossfadeTo n channels (drop from input) (drop into input) t) past)
-    × (length stage ≡ length stage₀)
+Inv-loop reciprocal channels input area₀ n from into at past₀ t₀ area past t =
+    (t ≤ n) × (past ≡ t * channels) × (area ≡ paste area₀ at (crossfadeTo n channels (drop from input) (drop into input) t) past)
+    × (length area ≡ length area₀)
 
 abbrev μ-loop : tie.MeasureT-loop
-μ-loop reciprocal channels input stage₀ n from into at past₀ t₀ stage past t = n - t
+μ-loop reciprocal channels input area₀ n from into at past₀ t₀ area past t = n - t
 
 -- ---- places
 
@@ -39,14 +39,14 @@ module _ (c : tie.In-loop Inv-loop μ-loop) where
       omega (arith, turn .loop .inv .1)
 
 -- a frame is written
-abbrev wrote-at : tie.After-stage Inv-loop μ-loop → tie.In-loop Inv-loop μ-loop
+abbrev wrote-at : tie.After-area Inv-loop μ-loop → tie.In-loop Inv-loop μ-loop
 wrote-at c = c .before .before .before
 
 -- ---- needs
 
 loop-holds : tie.Need-loop-holds Inv-loop μ-loop
 unfolding crossfadeTo
-loop-holds c = (omega arith, sym (zero-mul (c .args .channels)), paste-zero (c .args .stage .now) (c .args .to .0) [], refl)
+loop-holds c = (omega arith, sym (zero-mul (c .args .channels)), paste-zero (c .args .area .now) (c .args .to .0) [], refl)
 
 add-t17 : tie.Need-add-t17 Inv-loop μ-loop
 add-t17 c = record { fits = omega (arith, room c) }
@@ -72,7 +72,7 @@ loop-again c =
     let l = turn d .loop in
     let a = start d .args in
     let r = room d in
-    let on = crossfade-on (a .input .now) (a .stage .now) (a .down .0) (a .up .0) (a .to .0) (a .k .0) (a .channels) (l .t) (l .past) (l .inv .1) (omega arith)
+    let on = crossfade-on (a .input .now) (a .area .now) (a .down .0) (a .up .0) (a .to .0) (a .k .0) (a .channels) (l .t) (l .past) (l .inv .1) (omega arith)
     (l .inv .2) (c .before .crossfade-frame .ensures) in
     (omega arith, omega (arith, l .inv .1), on, search needs)
 
@@ -80,7 +80,7 @@ returns : tie.Need-returns Inv-loop μ-loop
 returns c =
     let l = c .before .loop in
     let a = c .before .before .args in
-    crossfade-all (a .input .now) (a .stage .now) (a .down .0) (a .up .0) (a .to .0) (a .k .0) (a .channels) (l .inv .1) (omega arith) (l .inv .2)
+    crossfade-all (a .input .now) (a .area .now) (a .down .0) (a .up .0) (a .to .0) (a .k .0) (a .channels) (l .inv .1) (omega arith) (l .inv .2)
 
 -- ---- what search closes
 

@@ -1,4 +1,4 @@
--- `crossfade::crossfades::crossfade_mono` meets its contract. The loop's invariant: the samples passed stand in the stage. Assumes nothing.
+-- `crossfade::crossfades::crossfade_mono` meets its contract. The loop's invariant: the samples passed stand in the area. Assumes nothing.
 use borrow.Author.Needs.{needs}
 use mathlib.Core.Path.{_≡_, refl, _∙_}
 use mathlib.Core.List.{[]}
@@ -14,11 +14,11 @@ use Rattle.crossfade.proofs.crossfades.crossfade_mono.Tie as tie
 -- ---- invariant
 
 abbrev Inv-loop : tie.InvT-loop
-Inv-loop reciprocal input stage₀ n from into at i₀ stage i =
-    (i ≤ n) × (stage ≡ paste stage₀ at (crossfadeTo n 1 (drop from input) (drop into input) i) i) × (length stage ≡ length stage₀)
+Inv-loop reciprocal input area₀ n from into at i₀ area i =
+    (i ≤ n) × (area ≡ paste area₀ at (crossfadeTo n 1 (drop from input) (drop into input) i) i) × (length area ≡ length area₀)
 
 abbrev μ-loop : tie.MeasureT-loop
-μ-loop reciprocal input stage₀ n from into at i₀ stage i = n - i
+μ-loop reciprocal input area₀ n from into at i₀ area i = n - i
 
 -- ---- places
 
@@ -39,21 +39,21 @@ module _ (c : tie.After-crossfade-sample Inv-loop μ-loop) where
     value = c .crossfade-sample .ensures;
   }
 
-  inside : start .args .to .0 + turn .loop .i < length (start .args .stage .now)
+  inside : start .args .to .0 + turn .loop .i < length (start .args .area .now)
   inside = omega arith
 
 -- ---- needs
 
 loop-holds : tie.Need-loop-holds Inv-loop μ-loop
 unfolding crossfadeTo
-loop-holds c = (omega arith, paste-zero (c .args .stage .now) (c .args .to .0) [], refl)
+loop-holds c = (omega arith, paste-zero (c .args .area .now) (c .args .to .0) [], refl)
 
 loop-again : tie.Need-loop-again Inv-loop μ-loop
 loop-again c =
     let a = start c .args in
     let l = turn c .loop in (
       omega arith,
-      mono-on (a .input .now) (a .stage .now) (a .down .0) (a .up .0) (a .to .0) (a .count .0) (l .i) (inside c) (faded c) (l .inv .1),
+      mono-on (a .input .now) (a .area .now) (a .down .0) (a .up .0) (a .to .0) (a .count .0) (l .i) (inside c) (faded c) (l .inv .1),
       simp length-set (l .inv .2),
     )
 
@@ -64,7 +64,7 @@ returns c =
     let a = c .before .before .args in
     let e : l .i ≡ a .count .0 = omega arith in
     let x = a .input .now in
-    l .inv .1 ∙ (λ j. paste (a .stage .now) (a .to .0) (crossfadeTo (a .count .0) 1 (drop (a .down .0) x) (drop (a .up .0) x) (e j)) (e j))
+    l .inv .1 ∙ (λ j. paste (a .area .now) (a .to .0) (crossfadeTo (a .count .0) 1 (drop (a .down .0) x) (drop (a .up .0) x) (e j)) (e j))
 
 -- ---- what search closes
 

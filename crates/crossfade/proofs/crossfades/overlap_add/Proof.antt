@@ -41,7 +41,7 @@ returns c =
     let d = c .before .before .before in
     let a = start d .args in
     let x = a .input .now in
-    one-channel (a .stage .now) (drop (a .down .0) x) (drop (a .up .0) x) (a .to .0) (counted d) (d .before .if1 .taken) (c .before .crossfade-mono .ensures)
+    one-channel (a .area .now) (drop (a .down .0) x) (drop (a .up .0) x) (a .to .0) (counted d) (d .before .if1 .taken) (c .before .crossfade-mono .ensures)
 
 -- ---- what search closes
 

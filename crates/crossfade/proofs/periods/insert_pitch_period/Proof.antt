@@ -30,7 +30,7 @@ overlap-add-requires c κs =
     let d = c .before .before .before in
     let a = start d .args in
     let p = start d .pre in
-    let w = insert-within (a .input .now) (a .stage .now) (a .channels) (a .position .0) (a .period .0) (a .k .0) (a .to .0)
+    let w = insert-within (a .input .now) (a .area .now) (a .channels) (a .position .0) (a .period .0) (a .k .0) (a .to .0)
     (d .before .before .samples .ensures) (d .before .samples2 .ensures) (p .2) (p .3) (d .samples3 .ensures) in
     (p .1, (w .0, w .1, le-trans (w .2) (le-of-eq (sym (copied d .copy-unmodified-samples .kept .1 .1 .1 .1 .0)))))
 
@@ -39,7 +39,7 @@ returns c =
     let d = c .before .before .before .before .before in
     let a = start d .args in
     let p = start d .pre in
-    insert-on (a .input .now) (a .stage .now) (a .channels) (a .position .0) (a .period .0) (a .k .0) (a .to .0) (d .before .before .samples .ensures)
+    insert-on (a .input .now) (a .area .now) (a .channels) (a .position .0) (a .period .0) (a .k .0) (a .to .0) (d .before .before .samples .ensures)
     (d .before .samples2 .ensures) (p .2) (p .3) (d .samples3 .ensures) (copied d .copy-unmodified-samples .ensures) (c .before .overlap-add .ensures)
 
 -- ---- what search closes

@@ -28,7 +28,7 @@ returns : tie.Need-returns
 returns c =
     let there = c .before .before .before in
     let a = there .before .before .before .before .args in
-    skip-on (a .input .now) (a .stage .now) (a .channels) (a .position .0) (a .period .0) (a .k .0) (a .to .0) (there .before .samples .ensures)
+    skip-on (a .input .now) (a .area .now) (a .channels) (a .position .0) (a .period .0) (a .k .0) (a .to .0) (there .before .samples .ensures)
     (there .samples2 .ensures) (c .before .overlap-add .ensures)
 
 pub skip-pitch-period-spec : {M : Type 1} → statement M

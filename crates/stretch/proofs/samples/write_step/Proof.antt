@@ -17,7 +17,7 @@ abbrev Asked : tie.Start → Step → Type 0
 Asked c s =
     let a = c .args in
     (1 ≤ a .channels) × (crossfaded s ≤ longestPeriod) × ((a .position .0 + framesRead s) * a .channels ≤ length (a .input .now))
-    × (a .to .0 + framesOut s * a .channels ≤ length (a .stage .now))
+    × (a .to .0 + framesOut s * a .channels ≤ length (a .area .now))
 
 asked : (c : tie.Start) {s : Step} → c .args .step ≡ s → Asked c s
 asked c e = subst (Asked c) e (c .pre)
@@ -68,7 +68,7 @@ returns-4 : tie.Need-returns-4
 unfolding samplesOut
 returns-4 c =
     let a = c .before .before .args in
-    rw (c .enum-told .given .1) (paste-zero (a .stage .now) (a .to .0) [] ∙ ap (paste (a .stage .now) (a .to .0) []) (sym (zero-mul (a .channels))))
+    rw (c .enum-told .given .1) (paste-zero (a .area .now) (a .to .0) [] ∙ ap (paste (a .area .now) (a .to .0) []) (sym (zero-mul (a .channels))))
 
 pub write-step-spec : {M : Type 1} → statement M
 write-step-spec =

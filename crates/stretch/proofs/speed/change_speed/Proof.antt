@@ -12,29 +12,29 @@ use Rattle.period.specs.Rates.{maxRequired}
 use Rattle.stretch.specs.declared.Stretched.the-variants.{Made}
 use Rattle.stretch.specs.declared.Turn.{Turn}
 use Rattle.stretch.specs.declared.Turn.the-variants.{NoRoom, Went}
-use Rattle.stretch.specs.Steps.{nextStep, turnFor, stageFor}
+use Rattle.stretch.specs.Steps.{nextStep, turnFor, areaFor}
 use Rattle.stretch.specs.Speed.{begun}
 use Rattle.stretch.proofs.Progress.{required-some}
 use Rattle.stretch.proofs.Between.{StretchLent, Going, going-start, going-room, going-end, going-full, going-full-kept}
 use Rattle.stretch.proofs.Between.{going-on, going-stall, going-fits, going-periods, going-further}
-use Rattle.stretch.proofs.Outcome.{ended-made, ended-staged, full-made, full-staged}
+use Rattle.stretch.proofs.Outcome.{ended-made, ended-aread, full-made, full-aread}
 use Rattle.stretch.proofs.speed.change_speed.Statement.{statement}
 use Rattle.stretch.proofs.speed.change_speed.Tie as tie
 
 -- ---- the invariant
 
 abbrev Inv-loop : tie.InvT-loop
-Inv-loop input call time-error stage₀ scratch₀ required held all first place₀ made₀ passed₀ stage scratch place made passed =
-    Going call input place₀ stage₀ stage first all place made passed × (length stage ≡ length stage₀) × (length scratch ≡ length scratch₀)
+Inv-loop input call time-error area₀ scratch₀ required held all first place₀ made₀ passed₀ area scratch place made passed =
+    Going call input place₀ area₀ area first all place made passed × (length area ≡ length area₀) × (length scratch ≡ length scratch₀)
 
 abbrev μ-loop : tie.MeasureT-loop
-μ-loop input call time-error stage₀ scratch₀ required held all first place₀ made₀ passed₀ stage scratch place made passed = held - place .position .0
+μ-loop input call time-error area₀ scratch₀ required held all first place₀ made₀ passed₀ area scratch place made passed = held - place .position .0
 
 -- ---- places, and what is known there
 
 -- what the call is lent
-lent : (c : tie.Start Inv-loop μ-loop) → StretchLent (c .args .call) (c .args .input .now) (c .args .stage .now) (c .args .to .0) (c .args .room .0)
-lent c = record { ready = c .pre .0; whole = c .pre .1 .1 .0; area = c .pre .1 .1 .2 }
+lent : (c : tie.Start Inv-loop μ-loop) → StretchLent (c .args .call) (c .args .input .now) (c .args .area .now) (c .args .to .0) (c .args .room .0)
+lent c = record { ready = c .pre .0; whole = c .pre .1 .1 .0; lent-area = c .pre .1 .1 .2 }
 
 abbrev entry : tie.At-loop Inv-loop μ-loop → tie.Start Inv-loop μ-loop
 entry c = c .before .before
@@ -52,7 +52,7 @@ module _ (c : tie.Then1 Inv-loop μ-loop) where
   room = going-room (lent start) (here .loop .inv .0)
 
   at-fits : start .args .to .0 + here .loop .made * start .args .call .channels < 2 ^ 64
-  at-fits = omega (arith, room, lent start .area)
+  at-fits = omega (arith, room, lent start .lent-area)
 
   due : here .loop .place .position .0 + maxRequired (start .args .call .rate) ≤ start .args .call .held .0
   due = omega (arith, c .if1 .taken, here .before .max-required .ensures)
@@ -76,15 +76,15 @@ module _ (c : tie.After-take-step Inv-loop μ-loop) where
   gave : (r : Turn) → c .take-step .result ≡ r → turn-due ≡ r
   gave r e = sym (c .take-step .ensures .0) ∙ e
 
-  abbrev stageAt : ℕ → List ℤ
-  stageAt to =
+  abbrev areaAt : ℕ → List ℤ
+  areaAt to =
       let a = start begun-at .args in
       let l = here begun-at .loop in
       let x = a .input .now in
-      stageFor (a .call) x (l .place) (a .room .0 - l .made) (l .stage) to (nextStep (a .call) x (l .place))
+      areaFor (a .call) x (l .place) (a .room .0 - l .made) (l .area) to (nextStep (a .call) x (l .place))
 
-  wrote : c .take-step .last .1 .1 .1 .0 ≡ stageAt (start begun-at .args .to .0 + here begun-at .loop .made * start begun-at .args .call .channels)
-  wrote = c .take-step .ensures .1 ∙ ap (λ (n : ℕ). stageAt (start begun-at .args .to .0 + n)) (counted (c .before) .samples .ensures)
+  wrote : c .take-step .last .1 .1 .1 .0 ≡ areaAt (start begun-at .args .to .0 + here begun-at .loop .made * start begun-at .args .call .channels)
+  wrote = c .take-step .ensures .1 ∙ ap (λ (n : ℕ). areaAt (start begun-at .args .to .0 + n)) (counted (c .before) .samples .ensures)
 
 -- a turn that went on
 module _ (c : tie.After-turn Inv-loop μ-loop) where
@@ -115,7 +115,7 @@ loop-holds : tie.Need-loop-holds Inv-loop μ-loop
 loop-holds c =
     let a = c .before .args in
     let begin = begun (a .time-error) (a .prev) in
-    (going-start (a .call) (a .input .now) begin (a .stage .now) (a .to .0) (a .room .0) (c .before .pre .1 .0) (omega arith), refl, refl)
+    (going-start (a .call) (a .input .now) begin (a .area .now) (a .to .0) (a .room .0) (c .before .pre .1 .0) (omega arith), refl, refl)
 
 add-if1 : tie.Need-add-if1 Inv-loop μ-loop
 add-if1 c =
@@ -138,9 +138,9 @@ take-step-requires c κs =
     let t = s .before in
     let p = start t .pre in
     let inv = here t .loop .inv in
-    let area = lent (start t) .area in
+    let lent-area = lent (start t) .lent-area in
     let scratch : maxRequired (start t .args .call .rate) ≤ length (here t .loop .scratch) = omega (arith, inv .2, p .1 .1 .1) in
-    (p .0, (inv .0 .in-order, (due t, p .1 .1 .0, scratch, omega (arith, room t, area, inv .1, s .samples .ensures))))
+    (p .0, (inv .0 .in-order, (due t, p .1 .1 .0, scratch, omega (arith, room t, lent-area, inv .1, s .samples .ensures))))
 
 returns : tie.Need-returns Inv-loop μ-loop
 returns c =
@@ -153,7 +153,7 @@ returns c =
     let none = gave k NoRoom (c .enum-told .given .1) in
     let over = going-full (lent (start t)) (l .inv .0) (due t) none in
     let kept = going-full-kept (lent (start t)) (l .inv .0) (due t) none (wrote k) in
-    (full-made (a .call) x begin (a .room .0) over, full-staged (a .call) x begin (a .room .0) over kept)
+    (full-made (a .call) x begin (a .room .0) over, full-aread (a .call) x begin (a .room .0) over kept)
 
 add-made : tie.Need-add-made Inv-loop μ-loop
 add-made c =
@@ -161,7 +161,7 @@ add-made c =
     let b = start (from v) in
     let fits = going-fits (lent b) (here (from v) .loop .inv .0) (due (from v)) (went v) (wrote (turned v)) (turned v .take-step .ensures .2) in
     let few = count-le (b .args .call .channels) (b .args .room .0) (b .pre .0 .opened .channels-low) in
-    record { fits = omega (arith, fits, few, lent b .area) }
+    record { fits = omega (arith, fits, few, lent b .lent-area) }
 
 add-passed : tie.Need-add-passed Inv-loop μ-loop
 add-passed c =
@@ -182,7 +182,7 @@ returns-2 c =
     let t = from v in
     let order = turned v .take-step .ensures .2 in
     let e = going-stall (lent (start t)) (here t .loop .inv .0) (due t) (went v) (wrote (turned v)) order (c .before .if2 .taken) in
-    (ap Made (c .answer .ensures) ∙ ended-made e, ended-staged e)
+    (ap Made (c .answer .ensures) ∙ ended-made e, ended-aread e)
 
 loop-less : tie.Need-loop-less Inv-loop μ-loop
 loop-less c =
@@ -203,7 +203,7 @@ returns-3 : tie.Need-returns-3 Inv-loop μ-loop
 returns-3 c =
     let l = ended (c .before) in
     let e = going-end (lent (entry l)) (l .loop .inv .0) (omega (arith, c .before .if1 .left, l .before .max-required .ensures)) in
-    (ap Made (c .answer2 .ensures) ∙ ended-made e, ended-staged e)
+    (ap Made (c .answer2 .ensures) ∙ ended-made e, ended-aread e)
 
 -- ---- what search closes
 

@@ -8,7 +8,7 @@ use borrow.Author.Tests.{lt-ltb, le-ltb}
 use Rattle.period.specs.Pitch.{PrevInOrder}
 use Rattle.stretch.specs.declared.Step.{Step}
 use Rattle.stretch.specs.declared.Turn.the-variants.{Went}
-use Rattle.stretch.specs.Steps.{nextStep, framesOut, periodsPassed, stalls, prevAfter, placeAfter, after, turnFor, stageFor, Sound}
+use Rattle.stretch.specs.Steps.{nextStep, framesOut, periodsPassed, stalls, prevAfter, placeAfter, after, turnFor, areaFor, Sound}
 use Rattle.stretch.proofs.Soundness.{nextStep-sound, framesOut-le}
 use Rattle.stretch.proofs.steps.take_step.Statement.{statement}
 use Rattle.stretch.proofs.steps.take_step.Tie as tie
@@ -50,7 +50,7 @@ abbrev counted : tie.After-struct-known2 → tie.After-frames-out
 counted c = c .before .before
 
 -- they fit, and are written
-abbrev fitting : tie.After-stage → tie.Else1
+abbrev fitting : tie.After-area → tie.Else1
 fitting c = c .before .before .before
 
 -- ---- needs
@@ -61,7 +61,7 @@ frames-out-requires c κs =
     omega (arith, sound n .within, framesOut-le (n .next-step .result .step), start n .pre .0 .few)
 
 returns : tie.Need-returns
-unfolding turnFor stageFor
+unfolding turnFor areaFor
 returns c =
     let f = counted (c .before) in
     let n = stepped f in
@@ -86,7 +86,7 @@ place-after-requires c κs =
     (sound n, start n .pre .0 .few)
 
 returns-2 : tie.Need-returns-2
-unfolding turnFor stageFor
+unfolding turnFor areaFor
 returns-2 c =
     let w = c .before .before .before in
     let f = counted (fitting w .before) in
