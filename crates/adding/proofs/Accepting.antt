@@ -3,16 +3,19 @@
 --   total-alone       by 3 to 7 not met, the number is 0 or 12
 -- Assumes nothing.
 use mathlib.Core.Path.{_≡_, refl}
-use mathlib.Core.Bool.{Bool, true, false}
+use mathlib.Core.Bool.{Bool, true, false, cond}
 use mathlib.Core.Logic.{_⊎_, inl, inr}
 use Prim.Native.Nat.{ℕ, _+_, _*_, _≤_}
+use native.Mathlib.Nat.{mul-le-mul-right, le-trans}
 use native.Mathlib.Omega.{arith}
 use borrow.Author.Tests.{le-ltb}
+use lib.Ieee.{eq}
 use lib.ListN.{length}
 use Rattle.frames.specs.Areas.{Areas}
+use Rattle.floats.specs.Numbers.{one}
 use Rattle.stream.specs.declared.SonicStream.{SonicStream}
 use Rattle.stream.specs.Balance.{past}
-use Rattle.stream.specs.Refusals.{accepted, totalFull, maxArea, sizesBad, partsBad, areasBad}
+use Rattle.stream.specs.Refusals.{accepted, totalFull, maxArea, sizesBad, partsBad, areasBad, stageNeeded}
 use Rattle.stream.proofs.AreaTests.{AreasGood}
 use Rattle.period.specs.Rates.{maxRequired}
 use Rattle.process.specs.Process.{Made}
@@ -34,10 +37,20 @@ areas-bad-of s a g =
       le-ltb (length (a .output)) (s .waiting .0 * s .channels) (g .waiting),
     )
 
+-- 6 is not met where the tail and the frames fit the stage, at any pitch
+needed-fits : (s : SonicStream) (staged : ℕ) (a : Areas) → (s .tail .0 + staged) * s .channels ≤ length (a .stage)
+    → stageNeeded s staged * s .channels ≤ length (a .stage)
+unfolding stageNeeded
+needed-fits s staged a h = go (eq (s .pitch) one)
+  where
+    go : (b : Bool) → cond b staged (s .tail .0 + staged) * s .channels ≤ length (a .stage)
+    go true = le-trans (mul-le-mul-right (s .channels) (omega arith)) h
+    go false = h
+
 pub total-alone : (s : SonicStream) (a : Areas) (n : ℕ) (m : Made) → Accepted s a n → (s .tail .0 + m .staged) * s .channels ≤ length (a .stage)
     → (s .waiting .0 + length (m .frames)) * s .channels ≤ length (a .output) → (refusalOf s a n m ≡ accepted) ⊎ (refusalOf s a n m ≡ totalFull)
 total-alone s a n m p stage output = go (past (m .state .balance)) refl
   where
     go : (b : Bool) → past (m .state .balance) ≡ b → (refusalOf s a n m ≡ accepted) ⊎ (refusalOf s a n m ≡ totalFull)
-    go true e = inr (total-met s a n _ _ _ p stage output e)
-    go false e = inl (none-met s a n _ _ _ p stage output e)
+    go true e = inr (total-met s a n _ _ _ p (needed-fits s (m .staged) a stage) output e)
+    go false e = inl (none-met s a n _ _ _ p (needed-fits s (m .staged) a stage) output e)

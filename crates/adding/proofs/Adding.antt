@@ -31,7 +31,7 @@ use Rattle.adding.specs.declared.Wrote.{Wrote}
 use Rattle.adding.specs.Calls.{CallResult, callBy, refusalOf}
 use Rattle.adding.specs.Adding.{Accepted, AddEnsures}
 use Rattle.adding.proofs.Answers.{stage-met, output-met, total-met, none-met, CallAnswered, call-refused}
-use Rattle.adding.proofs.Joining.{held-joined, tail-joined}
+use Rattle.adding.proofs.Joining.{held-joined, tail-joined, needed-joined}
 
 -- the answer, where `after` says what is handed back of the stream after the work
 abbrev pub answerBy : SonicStream → (SonicStream → SonicStream) → Work → Wrote
@@ -76,15 +76,15 @@ module _ (s : SonicStream) (a b : Areas) (n : ℕ) (p : Accepted s a n) (input :
         → CallAnswered (s .channels) (callBy (refusalOf s a n (workOf s a fs)) s a c) (answerBy s after r) b
     unfolding stateOf streamOf joined
     by-work Work.StageFull w =
-        call-refused s a b c (stage-met s a n _ _ _ p (rw (tail-joined s n) at (w .1))) (held-same (w .0)) (tail-same (w .0)) (w .0 .waiting)
+        call-refused s a b c (stage-met s a n _ _ _ p (rw (needed-joined s n) at (w .1))) (held-same (w .0)) (tail-same (w .0)) (w .0 .waiting)
     by-work Work.OutputFull w =
-        let staged = rw (tail-joined s n) at (w .1) in
+        let staged = rw (needed-joined s n) at (w .1) in
         call-refused s a b c (output-met s a n _ _ _ p staged (w .2)) (held-same (w .0)) (tail-same (w .0)) (w .0 .waiting)
     by-work Work.TotalFull w =
-        let staged = rw (tail-joined s n) at (w .1) in
+        let staged = rw (needed-joined s n) at (w .1) in
         call-refused s a b c (total-met s a n _ _ _ p staged (w .2) (w .3)) (held-same (w .0)) (tail-same (w .0)) (w .0 .waiting)
     by-work (Work.Done o t) w =
-        rw (none-met s a n _ _ _ p (rw (tail-joined s n) at (w .stage-fits)) (w .output-fits) (w .totals-fit)) (done o t w)
+        rw (none-met s a n _ _ _ p (rw (needed-joined s n) at (w .stage-fits)) (w .output-fits) (w .totals-fit)) (done o t w)
 
     pub added-answered : (r : Work) → AddEnsures s n begun b r
         → CallAnswered (s .channels) (callBy (refusalOf s a n (workOf s a fs)) s a c) (answerBy s after r) b

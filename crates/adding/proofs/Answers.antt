@@ -16,7 +16,7 @@ use Rattle.stream.specs.declared.balance.Balance.{Balance}
 use Rattle.stream.specs.Balance.{past}
 use Rattle.stream.specs.State.{State}
 use Rattle.stream.specs.Stream.{streamOf}
-use Rattle.stream.specs.Refusals.{accepted, badStream, badAreas, inputFull, stageFull, outputFull, totalFull, inOrder, areasBad, tooShort, refusal}
+use Rattle.stream.specs.Refusals.{accepted, badStream, badAreas, inputFull, stageFull, outputFull, totalFull, inOrder, areasBad, tooShort, stageNeeded, refusal}
 use Rattle.fill.specs.declared.Told.{Told}
 use Rattle.process.specs.Process.{Made}
 use Rattle.adding.specs.declared.Wrote.{Wrote}
@@ -40,11 +40,11 @@ module _ (s : SonicStream) (a : Areas) (added staged made : ℕ) (totals : Balan
     input-met f g = rw (o, f, g)
 
   module _ (p : Accepted s a added) where
-    pub stage-met : length (a .stage) < (s .tail .0 + staged) * s .channels → refusal s a added staged made totals ≡ stageFull
+    pub stage-met : length (a .stage) < stageNeeded s staged * s .channels → refusal s a added staged made totals ≡ stageFull
     unfolding refusal
     stage-met h = rw (p .in-order, p .areas-good, le-ltb (length (a .input)) _ (p .fits), lt-ltb (length (a .stage)) _ h)
 
-    module _ (h : (s .tail .0 + staged) * s .channels ≤ length (a .stage)) where
+    module _ (h : stageNeeded s staged * s .channels ≤ length (a .stage)) where
       pub output-met : length (a .output) < (s .waiting .0 + made) * s .channels → refusal s a added staged made totals ≡ outputFull
       unfolding refusal
       output-met k =

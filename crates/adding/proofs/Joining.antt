@@ -92,7 +92,7 @@ module _ {s : SonicStream} {a : Areas} {n : ℕ} (p : Accepted s a n) where
       let tail : joinedStream n s .tail .0 * s .channels ≤ length (a .stage) = rw (tail-joined s n) (good .tail) in
       record {
         fill = record {
-          fit = record { held = held; tail = tail; input-short = good .input-short; stage-short = good .stage-short };
+          fit = record { held = held; kept-fit = tail; input-short = good .input-short; area-short = good .stage-short };
           scratch-fits = good .scratch-fits;
         };
         waiting = good .waiting;

@@ -13,7 +13,7 @@ use Rattle.frames.proofs.Framing.{length-framesOf}
 use Rattle.frames.proofs.Room.{count-le}
 use Rattle.stream.specs.declared.SonicStream.{SonicStream}
 use Rattle.stream.specs.Balance.{past}
-use Rattle.stream.specs.Refusals.{accepted, badStream, badAreas, inputFull, stageFull, outputFull, totalFull, inOrder, tooShort, areasBad, refusal}
+use Rattle.stream.specs.Refusals.{accepted, badStream, badAreas, inputFull, stageFull, outputFull, totalFull, inOrder, tooShort, areasBad, stageNeeded, refusal}
 use Rattle.stream.specs.Stream.{stateOf}
 use Rattle.stream.proofs.InOrder.{limits-of, ready-of}
 use Rattle.stream.proofs.AreaTests.{areas-of}
@@ -29,7 +29,7 @@ pub record Room (s : SonicStream) (a : Areas) (added : ℕ) (m : Made) : Type 0 
   pub held-fits : s .held .0 * s .channels ≤ length (a .input)
   pub tail-fits : s .tail .0 * s .channels ≤ length (a .stage)
   pub waiting-fits : s .waiting .0 * s .channels ≤ length (a .output)
-  pub stage : (s .tail .0 + m .staged) * s .channels ≤ length (a .stage)
+  pub stage : stageNeeded s (m .staged) * s .channels ≤ length (a .stage)
   pub output : (s .waiting .0 + length (m .frames)) * s .channels ≤ length (a .output)
   pub totals : past (m .state .balance) ≡ false
 
@@ -40,7 +40,7 @@ room-of s a added m e =
     let in-order = passed (not (inOrder s)) badStream _ (omega arith) e in
     let areas = passed (areasBad s a) badAreas _ (omega arith) (in-order .1) in
     let input = passed (tooShort ch (s .held .0 + added) (a .input)) inputFull _ (omega arith) (areas .1) in
-    let stage = passed (tooShort ch (s .tail .0 + m .staged) (a .stage)) stageFull _ (omega arith) (input .1) in
+    let stage = passed (tooShort ch (stageNeeded s (m .staged)) (a .stage)) stageFull _ (omega arith) (input .1) in
     let output = passed (tooShort ch (s .waiting .0 + length (m .frames)) (a .output)) outputFull _ (omega arith) (stage .1) in
     let totals = passed (past (m .state .balance)) totalFull accepted (omega arith) (output .1) in
     let good = areas-of s a (areas .0) in
@@ -53,7 +53,7 @@ room-of s a added m e =
       held-fits = good .held;
       tail-fits = good .tail;
       waiting-fits = good .waiting;
-      stage = ltb-false (length (a .stage)) ((s .tail .0 + m .staged) * ch) (stage .0);
+      stage = ltb-false (length (a .stage)) (stageNeeded s (m .staged) * ch) (stage .0);
       output = ltb-false (length (a .output)) ((s .waiting .0 + length (m .frames)) * ch) (output .0);
       totals = totals .0;
     }

@@ -1,8 +1,8 @@
--- No frames and copied frames, in the words of the contracts: how they fill the stage. Here:
---   ready-limits, held-few, tail-le     counts of a stream in order, whose input and tail lie in their areas
+-- No frames and copied frames, in the words of the contracts: how they fill the area. Here:
+--   ready-limits, held-few, kept-le     counts of a stream in order, where frames held and frames kept lie in their areas
 --   speed-same                          the local speed of a stream and of its state
 --   empty-filled, waiting-filled        no frames
---   allFilled, copied-full, copied-filled     all frames
+--   allFilled, copied-over, copied-full, copied-filled     all frames
 -- Assumes nothing.
 use mathlib.Core.Path.{_≡_, refl, sym, ap, _∙_, subst}
 use mathlib.Core.Bool.{true, false}
@@ -31,7 +31,7 @@ use Rattle.stream.proofs.Streams.{held-is, own}
 use Rattle.fill.specs.declared.Outcome.{Outcome}
 use Rattle.fill.specs.declared.Outcome.the-variants.{Empty, Copied, Waiting}
 use Rattle.fill.specs.declared.Fill.{Fill}
-use Rattle.fill.specs.Taking.{Taken, nothing, removed, copied, speedAt, counted}
+use Rattle.fill.specs.Taking.{Taken, nothing, removed, copied, speedAt, taken, counted}
 use Rattle.fill.specs.Filling.{speedOf}
 use Rattle.fill.specs.Filling.{AreasFit, nothingFilled, FilledBy, FillEnsures}
 use Rattle.fill.proofs.Branches.{taken-empty, taken-waiting, taken-copied}
@@ -42,12 +42,12 @@ pub ready-limits : {s : SonicStream} → StreamReady s → InLimits (s .rate) (s
 unfolding stateOf
 ready-limits r = r .state .limits
 
-module _ {s : SonicStream} {input stage : List ℤ} (r : StreamReady s) (fit : AreasFit s input stage) where
+module _ {s : SonicStream} {kept : ℕ} {input area : List ℤ} (r : StreamReady s) (fit : AreasFit s kept input area) where
   pub held-few : s .held .0 ≤ 2 ^ 24
   held-few = omega (arith, count-le (s .channels) (s .held .0) (ready-limits r .channels-low), fit .held, fit .input-short)
 
-  pub tail-le : s .tail .0 ≤ length stage / s .channels
-  tail-le = frames-le (s .channels) (s .tail .0) (length stage) (ready-limits r .channels-low) (fit .tail)
+  pub kept-le : kept ≤ length area / s .channels
+  kept-le = frames-le (s .channels) kept (length area) (ready-limits r .channels-low) (fit .kept-fit)
 
 -- ---- the local speed
 
@@ -60,67 +60,79 @@ speed-same s input stage =
 abbrev pub allFilled : SonicStream → SonicStream → Fill
 allFilled s t = Fill.Done (record { frames = s .held; used = s .held; balance = none; stream = t; told = record { outcome = Copied; passed = 0 } })
 
-module _ (s : SonicStream) (r : StreamReady s) (input stage : List ℤ) (fit : AreasFit s input stage) where
-  abbrev state : State
-  state = stateOf s input stage
+module _ (s : SonicStream) (kept most : ℕ) (r : StreamReady s) (input area : List ℤ) (fit : AreasFit s kept input area) where
+  abbrev state : List ℤ → State
+  state stage = stateOf s input stage
 
-  held : length (state .input) ≡ s .held .0
-  held = held-is s input stage
+  held : (stage : List ℤ) → length (state stage .input) ≡ s .held .0
+  held stage = held-is s input stage
 
   -- ---- no frames
 
-  nothing-filled : (o : Outcome) → FilledBy s (nothing o state) input stage stage (nothingFilled s o)
+  nothing-filled : (stage : List ℤ) (o : Outcome) → FilledBy s kept most (nothing o (state stage)) input area area (nothingFilled s o)
   unfolding nothing stateOf counted stalled tally
-  nothing-filled o =
+  nothing-filled stage o =
       record {
         told = refl;
         balance = refl;
-        behind = behind-none (s .channels) (s .tail .0) stage (fit .tail);
+        behind = behind-none (s .channels) kept area (fit .kept-fit);
+        within = zero-le;
         used = zero-le;
         rest = refl;
         stream = sym (own s input stage (r .period-is));
         prev-in = r .state .prev;
       }
 
-  pub empty-filled : s .held .0 ≡ 0 → FillEnsures s input stage stage (nothingFilled s Empty)
-  empty-filled e = rw (taken-empty state (held ∙ e)) (nothing-filled Empty)
+  pub empty-filled : s .held .0 ≡ 0 → FillEnsures s kept most input area area (nothingFilled s Empty)
+  empty-filled e stage = rw (taken-empty (state stage) (held stage ∙ e)) (nothing-filled stage Empty)
 
   pub waiting-filled : 1 ≤ s .held .0 → speedChanges (speedOf s) ≡ true → s .held .0 < maxRequired (s .rate)
-      → FillEnsures s input stage stage (nothingFilled s Waiting)
+      → FillEnsures s kept most input area area (nothingFilled s Waiting)
   unfolding stateOf
-  waiting-filled some e few =
-      let t = taken-waiting state (omega (arith, held)) (ap speedChanges (speed-same s input stage) ∙ e) (omega (arith, held)) in
-      rw t (nothing-filled Waiting)
+  waiting-filled some e few stage =
+      let n = held stage in
+      let t = taken-waiting (state stage) (omega (arith, n)) (ap speedChanges (speed-same s input stage) ∙ e) (omega (arith, n)) in
+      rw t (nothing-filled stage Waiting)
 
   -- ---- all frames
 
   module _ (some : 1 ≤ s .held .0) (same : speedChanges (speedOf s) ≡ false) where
-    copies : (exit : List ℤ) (f : Fill) → FilledBy s (copied state) input stage exit f → FillEnsures s input stage exit f
-    copies exit f =
-        let t = taken-copied state (omega (arith, held)) (ap speedChanges (speed-same s input stage) ∙ same) in
-        subst (λ (x : Taken). FilledBy s x input stage exit f) (sym t)
+    copies : (stage exit : List ℤ) (f : Fill) → FilledBy s kept most (copied (state stage)) input area exit f
+        → FilledBy s kept most (taken (state stage)) input area exit f
+    copies stage exit f =
+        let t = taken-copied (state stage) (omega (arith, held stage)) (ap speedChanges (speed-same s input stage) ∙ same) in
+        subst (λ (x : Taken). FilledBy s kept most x input area exit f) (sym t)
 
-    pub copied-full : length stage < (s .tail .0 + s .held .0) * s .channels → FillEnsures s input stage stage Fill.Full
+    pub copied-over : most < s .held .0 → FillEnsures s kept most input area area Fill.TooMany
     unfolding copied
-    copied-full over =
-        copies stage Fill.Full
-        (record { kept = refl; over = subst (λ (n : ℕ). length stage < (s .tail .0 + n) * s .channels) (sym held) over })
+    copied-over over stage = copies stage area Fill.TooMany (refl, subst (λ (n : ℕ). most < n) (sym (held stage)) over)
 
-    pub copied-filled : (exit : List ℤ) (t : SonicStream) → (s .tail .0 + s .held .0) * s .channels ≤ length stage
-        → exit ≡ paste stage (s .tail .0 * s .channels) (drop 0 input) (s .held .0 * s .channels)
-        → ChangedBy (removed (s .held .0)) s (s .waiting .0) t
-        → FillEnsures s input stage exit (allFilled s t)
-    unfolding copied removed stateOf counted stalled tally
-    copied-filled exit t fits e changed =
-        let ch = s .channels in
-        let b = behind-paste ch (s .tail .0) (s .held .0) stage input fits (fit .held) in
-        copies exit (allFilled s t)
-        (record {
-          told = refl;
-          balance = refl;
-          behind = subst (λ (x : List ℤ). Behind ch (s .tail .0) (s .held .0) stage x (framesOf ch (s .held .0) input)) (sym e) b;
-          used = le-of-eq refl;
-          rest = ap (λ (n : ℕ). drop n (framesOf ch (s .held .0) input)) (sym held);
-          stream = changed input stage ∙ ap (λ (n : ℕ). streamOf (removed n state) (s .waiting .0)) (sym held);
-          prev-in = r .state .prev;
-        })
+    module _ (few : s .held .0 ≤ most) where
+      few-are : (stage : List ℤ) → length (state stage .input) ≤ most
+      few-are stage = subst (λ (n : ℕ). n ≤ most) (sym (held stage)) few
+
+      pub copied-full : length area < (kept + s .held .0) * s .channels → FillEnsures s kept most input area area Fill.Full
+      unfolding copied
+      copied-full over stage =
+          let no-room = subst (λ (n : ℕ). length area < (kept + n) * s .channels) (sym (held stage)) over in
+          copies stage area Fill.Full (record { kept = refl; over = no-room }, few-are stage)
+
+      pub copied-filled : (exit : List ℤ) (t : SonicStream) → (kept + s .held .0) * s .channels ≤ length area
+          → exit ≡ paste area (kept * s .channels) (drop 0 input) (s .held .0 * s .channels)
+          → ChangedBy (removed (s .held .0)) s (s .waiting .0) t
+          → FillEnsures s kept most input area exit (allFilled s t)
+      unfolding copied removed stateOf counted stalled tally
+      copied-filled exit t fits e changed stage =
+          let ch = s .channels in
+          let b = behind-paste ch kept (s .held .0) area input fits (fit .held) in
+          copies stage exit (allFilled s t)
+          (record {
+            told = refl;
+            balance = refl;
+            behind = subst (λ (x : List ℤ). Behind ch kept (s .held .0) area x (framesOf ch (s .held .0) input)) (sym e) b;
+            within = few-are stage;
+            used = le-of-eq refl;
+            rest = ap (λ (n : ℕ). drop n (framesOf ch (s .held .0) input)) (sym (held stage));
+            stream = changed input stage ∙ ap (λ (n : ℕ). streamOf (removed n (state stage)) (s .waiting .0)) (sym (held stage));
+            prev-in = r .state .prev;
+          })

@@ -1,13 +1,13 @@
--- Stretched frames, in the words of the contracts: how they fill the stage. Here:
+-- Stretched frames, in the words of the contracts: how they fill the area. Here:
 --   StretchDue                                  what a stretch of the frames held asks for
 --   call-ready, lent-long                the call that the code makes, and the samples that it lends
 --   StretchAnswered                             what `change_speed` answers
---   stretched-full, stretched-used, stretched-filled     by the answer
+--   stretched-over, stretched-used, stretched-full, stretched-filled     by the answer
 -- Assumes nothing.
 use mathlib.Core.Path.{_≡_, refl, sym, ap, _∙_, subst}
 use mathlib.Core.Bool.{Bool, true, false, cond}
-use mathlib.Core.List.{List}
-use Prim.Native.Nat.{ℕ, _-_, _*_, _/_, _≤_, zero-le}
+use mathlib.Core.List.{List, []}
+use Prim.Native.Nat.{ℕ, _-_, _*_, _/_, _≤_, _<_, zero-le}
 use native.Mathlib.Omega.{arith}
 use borrow.Author.Tests.{ltb-true, ltb-false}
 use lib.Dec.{T, ltb}
@@ -27,10 +27,10 @@ use Rattle.stretch.specs.declared.Stretch.{Stretch}
 use Rattle.stretch.specs.declared.Stretched as S
 use Rattle.stretch.specs.Steps.{StretchReady}
 use Rattle.stretch.specs.Tally.{Tally, tally}
-use Rattle.stretch.specs.Speed.{steps, framesMade, lastPlace, stalled, begun, answerFor, changeSpeed, Staged}
+use Rattle.stretch.specs.Speed.{steps, framesMade, samplesOf, lastPlace, stalled, begun, answerFor, changeSpeed, stretchedFrames, AreaAfter}
 use Rattle.stretch.proofs.Balance.{position-used, steps-surplus}
 use Rattle.stretch.proofs.Claims.{used-held}
-use Rattle.stretch.proofs.Framed.{staged-behind, staged-full}
+use Rattle.stretch.proofs.Framed.{area-behind, area-full}
 use Rattle.stream.specs.declared.SonicStream.{SonicStream}
 use Rattle.stream.specs.Balance.{none}
 use Rattle.stream.specs.State.{State, stepsOver}
@@ -67,26 +67,26 @@ abbrev pub placeFor : SonicStream → Place
 placeFor s = begun (s .«time_error») (record { period = s .«prev_period»; «min_diff» = s .«prev_min_diff» })
 
 -- a stretch of the frames held is due, at speed x
-pub record StretchDue (s : SonicStream) (x : Float) (input stage : List ℤ) : Type 0 where
+pub record StretchDue (s : SonicStream) (x : Float) (kept : ℕ) (input area : List ℤ) : Type 0 where
   pub ready : StreamReady s
-  pub fit : AreasFit s input stage
+  pub fit : AreasFit s kept input area
   pub enough : maxRequired (s .rate) ≤ s .held .0
   pub speed-is : x ≡ speedOf s
   pub changes : speedChanges x ≡ true
 
--- `change_speed`, handed such a call, the samples l and the place h, answered r and left the stage as `exit`
-abbrev AnsweredTo : StretchCall → List ℤ → Place → SonicStream → List ℤ → List ℤ → S.Stretched → Type 0
-AnsweredTo c l h s stage exit r =
-    let room : ℕ = length stage / s .channels - s .tail .0 in
-    (r ≡ changeSpeed c l h room) × Staged c l h room stage exit (s .tail .0 * s .channels)
+-- the room behind the frames kept
+abbrev pub roomIn : SonicStream → ℕ → List ℤ → ℕ
+roomIn s kept area = length area / s .channels - kept
 
-abbrev pub StretchAnswered : SonicStream → Float → List ℤ → List ℤ → List ℤ → S.Stretched → Type 0
-StretchAnswered s x input stage exit r = AnsweredTo (callOf s x) (lentOf s input) (placeFor s) s stage exit r
+-- `change_speed`, handed such a call, the samples l and the place h, answered r and left the area as `exit`
+abbrev AnsweredTo : StretchCall → List ℤ → Place → SonicStream → ℕ → ℕ → List ℤ → List ℤ → S.Stretched → Type 0
+AnsweredTo c l h s kept most area exit r =
+    (r ≡ changeSpeed c l h most) × AreaAfter c l h (roomIn s kept area) most area exit (kept * s .channels)
 
-module _ {s : SonicStream} {x : Float} {input stage : List ℤ} (d : StretchDue s x input stage) where
-  abbrev state : State
-  state = stateOf s input stage
+abbrev pub StretchAnswered : SonicStream → Float → ℕ → ℕ → List ℤ → List ℤ → List ℤ → S.Stretched → Type 0
+StretchAnswered s x kept most input area exit r = AnsweredTo (callOf s x) (lentOf s input) (placeFor s) s kept most area exit r
 
+module _ {s : SonicStream} {x : Float} {kept : ℕ} {input area : List ℤ} (d : StretchDue s x kept input area) where
   pub call-ready : StretchReady (callOf s x)
   call-ready =
       record {
@@ -99,7 +99,11 @@ module _ {s : SonicStream} {x : Float} {input stage : List ℤ} (d : StretchDue 
   pub lent-long : s .held .0 * s .channels ≤ length (lentOf s input)
   lent-long = omega (arith, length-take (s .held .0 * s .channels) input, d .fit .held)
 
-  -- the call and the samples lent are those of the state
+-- the call and the samples lent are those of the state, whatever the tail is
+
+module _ {s : SonicStream} {x : Float} {kept : ℕ} {input area : List ℤ} (d : StretchDue s x kept input area) (most : ℕ) (stage : List ℤ) where
+  abbrev state : State
+  state = stateOf s input stage
 
   call-is : callOf s x ≡ callAt x state
   unfolding stateOf
@@ -119,14 +123,14 @@ module _ {s : SonicStream} {x : Float} {input stage : List ℤ} (d : StretchDue 
 
   list-long : callAt x state .held .0 * s .channels ≤ length (flat (state .input))
   unfolding stateOf
-  list-long = rw (length-framesOf (s .channels) (s .held .0) input, flat-framesOf (s .channels) (s .held .0) input) lent-long
+  list-long = rw (length-framesOf (s .channels) (s .held .0) input, flat-framesOf (s .channels) (s .held .0) input) (lent-long d)
 
-  answered-by : (exit : List ℤ) (r : S.Stretched) → StretchAnswered s x input stage exit r
-      → AnsweredTo (callAt x state) (flat (state .input)) (placeOf state) s stage exit r
+  answered-by : (exit : List ℤ) (r : S.Stretched) → StretchAnswered s x kept most input area exit r
+      → AnsweredTo (callAt x state) (flat (state .input)) (placeOf state) s kept most area exit r
   unfolding stateOf
   answered-by exit r e =
-      let lent = subst (λ (l : List ℤ). AnsweredTo (callOf s x) l (placeFor s) s stage exit r) lent-is e in
-      subst (λ (u : StretchCall). AnsweredTo u (flat (state .input)) (placeFor s) s stage exit r) call-is lent
+      let lent = subst (λ (l : List ℤ). AnsweredTo (callOf s x) l (placeFor s) s kept most area exit r) lent-is e in
+      subst (λ (u : StretchCall). AnsweredTo u (flat (state .input)) (placeFor s) s kept most area exit r) call-is lent
 
   -- ---- what is taken
 
@@ -139,8 +143,9 @@ module _ {s : SonicStream} {x : Float} {input stage : List ℤ} (d : StretchDue 
       taken-stretched state (omega (arith, held, d .enough)) (ap speedChanges same ∙ d .changes) (omega (arith, held, d .enough))
       ∙ ap (λ (y : Float). stretched y state) same
 
-  fills : (exit : List ℤ) (f : Fill) → FilledBy s (stretched x state) input stage exit f → FillEnsures s input stage exit f
-  fills exit f = subst (λ (t : Taken). FilledBy s t input stage exit f) (sym taken-is)
+  fills : (exit : List ℤ) (f : Fill) → FilledBy s kept most (stretched x state) input area exit f
+      → FilledBy s kept most (taken state) input area exit f
+  fills exit f = subst (λ (t : Taken). FilledBy s kept most t input area exit f) (sym taken-is)
 
 -- ---- the state after the steps of an answer
 
@@ -179,15 +184,15 @@ surplus-is false t position e k =
 
 -- ---- by the answer
 
-answer-full : (b : Bool) (a : Stretch) → S.Stretched.Full ≡ cond b S.Stretched.Full (S.Stretched.Made a) → b ≡ true
-answer-full true a e = refl
-answer-full false a e = cc
+answer-over : (b : Bool) (a : Stretch) → S.Stretched.TooMany ≡ cond b S.Stretched.TooMany (S.Stretched.Made a) → b ≡ true
+answer-over true a e = refl
+answer-over false a e = cc
 
-answer-made : (b : Bool) (a m : Stretch) → S.Stretched.Made m ≡ cond b S.Stretched.Full (S.Stretched.Made a) → (b ≡ false) × (a ≡ m)
+answer-made : (b : Bool) (a m : Stretch) → S.Stretched.Made m ≡ cond b S.Stretched.TooMany (S.Stretched.Made a) → (b ≡ false) × (a ≡ m)
 answer-made true a m e = (cc, cc)
 answer-made false a m e = (refl, cc)
 
-module _ {s : SonicStream} {x : Float} {input stage : List ℤ} (d : StretchDue s x input stage) (exit : List ℤ) where
+module _ {s : SonicStream} {x : Float} {kept : ℕ} {input area : List ℤ} (d : StretchDue s x kept input area) (most : ℕ) (exit : List ℤ) (stage : List ℤ) where
   abbrev call : StretchCall
   call = callAt x (stateOf s input stage)
 
@@ -203,49 +208,76 @@ module _ {s : SonicStream} {x : Float} {input stage : List ℤ} (d : StretchDue 
   abbrev made : ℕ
   made = framesMade (steps call list place)
 
-  abbrev room : ℕ
-  room = length stage / s .channels - s .tail .0
+  frames-are : length (stretchedFrames call list place) ≡ made
+  frames-are = length-framesOf (call .channels) made (samplesOf (call .channels) list (place .position .0) (steps call list place))
 
   ready : StretchReady call
-  ready = subst StretchReady (call-is d) (call-ready d)
+  ready = subst StretchReady (call-is d most stage) (call-ready d)
 
-  pub stretched-full : StretchAnswered s x input stage exit S.Stretched.Full → FillEnsures s input stage exit Fill.Full
+  over-by : StretchAnswered s x kept most input area exit S.Stretched.TooMany → FilledBy s kept most (taken (stateOf s input stage)) input area exit Fill.TooMany
   unfolding changeSpeed stretched stateOf
-  stretched-full e =
-      let f = answered-by d exit S.Stretched.Full e in
-      fills d exit Fill.Full (staged-full (f .1) ready (ltb-true room made (answer-full (ltb room made) answer (f .0))))
+  over-by e =
+      let f = answered-by d most stage exit S.Stretched.TooMany e in
+      let over = ltb-true most made (answer-over (ltb most made) answer (f .0)) in
+      fills d most stage exit Fill.TooMany (f .1 .kept, rw frames-are over)
 
-  module _ (m : Stretch) (e : StretchAnswered s x input stage exit (S.Stretched.Made m)) where
-    answers : AnsweredTo call list place s stage exit (S.Stretched.Made m)
-    answers = answered-by d exit (S.Stretched.Made m) e
+  module _ (m : Stretch) (e : StretchAnswered s x kept most input area exit (S.Stretched.Made m)) where
+    answers : AnsweredTo call list place s kept most area exit (S.Stretched.Made m)
+    answers = answered-by d most stage exit (S.Stretched.Made m) e
 
-    made-all : (made ≤ room) × (answer ≡ m)
+    made-all : (made ≤ most) × (answer ≡ m)
     unfolding changeSpeed
-    made-all = let r = answer-made (ltb room made) answer m (answers .0) in (ltb-false room made (r .0), r .1)
+    made-all = let r = answer-made (ltb most made) answer m (answers .0) in (ltb-false most made (r .0), r .1)
 
-    pub stretched-used : m .used .0 ≤ s .held .0
+    made-is : made ≡ m .made .0
+    unfolding answerFor
+    made-is = ap (λ (a : Stretch). a .made .0) (made-all .1)
+
+    used-by : m .used .0 ≤ s .held .0
     unfolding stateOf
-    stretched-used =
+    used-by =
         let used = used-held list place ready (d .ready .state .prev .period-in) zero-le in
         subst (λ (a : Stretch). a .used .0 ≤ s .held .0) (made-all .1) (omega (arith, used, held-is s input stage))
 
-    -- the steps' frames fill the stage, as f says
-    pub stretched-filled : (f : Filled) → SteppedAs s m f → FillEnsures s input stage exit (Fill.Done f)
+    full-by : roomIn s kept area < m .made .0 → FilledBy s kept most (taken (stateOf s input stage)) input area exit Fill.Full
+    unfolding stretched stateOf
+    full-by over =
+        fills d most stage exit Fill.Full (area-full (answers .1) ready (omega (arith, made-is, over)), rw frames-are (made-all .0))
+
+    filled-by : (f : Filled) → m .made .0 ≤ roomIn s kept area → SteppedAs s m f
+        → FilledBy s kept most (taken (stateOf s input stage)) input area exit (Fill.Done f)
     unfolding stretched stateOf answerFor counted
-    stretched-filled f g =
+    filled-by f room g =
         let t : State = stateOf s input stage in
-        let fits = room-under (s .channels) (s .tail .0) made (length stage) (ready-limits (d .ready) .channels-low) (d .fit .tail) (made-all .0) in
-        let behind = staged-behind (answers .1) ready (d .ready .state .prev .period-in) (list-long d) (made-all .0) fits in
+        let roomy : made ≤ roomIn s kept area = omega (arith, made-is, room) in
+        let fits = room-under (s .channels) kept made (length area) (ready-limits (d .ready) .channels-low) (d .fit .kept-fit) roomy in
+        let behind = area-behind (answers .1) ready (d .ready .state .prev .period-in) (list-long d most stage) (made-all .0) roomy fits in
         let h : SteppedAs s answer f = subst (λ (a : Stretch). SteppedAs s a f) (sym (made-all .1)) g in
-        fills d exit (Fill.Done f)
+        fills d most stage exit (Fill.Done f)
         (record {
           told = h .told;
           balance = h .balance
               ∙ surplus-is (stalled (steps call list place)) (tally (steps call list place)) (lastPlace call list place (steps call list place) .position .0)
               (omega (arith, position-used call list place (steps call list place))) (steps-surplus call list place);
           behind = rw (h .frames) behind;
-          used = rw (g .used) (used-cases (m .stalled) stretched-used);
+          within = rw frames-are (made-all .0);
+          used = rw (g .used) (used-cases (m .stalled) used-by);
           rest = ap (λ (n : ℕ). drop n (t .input)) (h .used) ∙ sym (stepped-input answer t);
           stream = h .stream input stage;
           prev-in = rw (stepped-prev answer t) (answers .1 .in-order (made-all .0));
         })
+
+module _ {s : SonicStream} {x : Float} {kept : ℕ} {input area : List ℤ} (d : StretchDue s x kept input area) (most : ℕ) (exit : List ℤ) where
+  pub stretched-over : StretchAnswered s x kept most input area exit S.Stretched.TooMany → FillEnsures s kept most input area exit Fill.TooMany
+  stretched-over e stage = over-by d most exit stage e
+
+  module _ (m : Stretch) (e : StretchAnswered s x kept most input area exit (S.Stretched.Made m)) where
+    pub stretched-used : m .used .0 ≤ s .held .0
+    stretched-used = used-by d most exit [] m e
+
+    pub stretched-full : roomIn s kept area < m .made .0 → FillEnsures s kept most input area exit Fill.Full
+    stretched-full over stage = full-by d most exit stage m e over
+
+    -- the steps' frames fill the area, as f says
+    pub stretched-filled : (f : Filled) → m .made .0 ≤ roomIn s kept area → SteppedAs s m f → FillEnsures s kept most input area exit (Fill.Done f)
+    stretched-filled f room g stage = filled-by d most exit stage m e f room g

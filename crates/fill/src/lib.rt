@@ -2,7 +2,6 @@
 // with its tail, or the output with the frames waiting. The input stays.
 use frames::Frames;
 use frames::Samples;
-use frames::fewest;
 use period::PeriodRecord;
 use stream::Balance;
 use stream::SonicStream;
@@ -157,7 +156,6 @@ fn stretch_input(
     };
     let count = held.samples(channels).0;
     let free = Samples(area.len()).frames(channels).0 - kept.0;
-    let room = fewest(Frames(free), most);
     match stretch::change_speed(
         &input[0..count],
         call,
@@ -165,7 +163,7 @@ fn stretch_input(
         prev,
         area,
         kept.samples(channels),
-        room,
+        Frames(free),
         most,
         scratch,
     ) {

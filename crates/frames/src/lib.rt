@@ -1,6 +1,6 @@
 // Counts of frames and of samples, and areas of samples: copying, silence, removing from the front.
 ghost use mathlib.Core.Path.{_≡_};
-ghost use Prim.Native.Nat.{_+_, _*_, _/_, _^_, _≤_, _<_, min};
+ghost use Prim.Native.Nat.{_+_, _*_, _/_, _^_, _≤_, _<_};
 ghost use lib.IntN.{pos};
 ghost use lib.ListN.{length, drop, replicate};
 ghost use lib.Seq.{paste};
@@ -33,13 +33,6 @@ impl Samples {
         let n = self.0;
         Frames(n / channels)
     }
-}
-
-// The smaller of two counts.
-pub fn fewest(a: Frames, b: Frames) -> Frames
-    ensures { λ r. ⌜ r .0 ≡ min (a .0) (b .0) ⌝ }
-{
-    if a.0 <= b.0 { a } else { b }
 }
 
 // Copies `count` samples of the source, from `from` on, to the place `to` of the area.

@@ -7,7 +7,7 @@ use mathlib.Core.Path.{_≡_, refl, ap, _∙_, subst}
 use mathlib.Core.Bool.{true, false}
 use mathlib.Core.List.{List, [], map}
 use Prim.Native.Nat.{ℕ, _+_, _-_, _*_, _≤_}
-use native.Mathlib.Nat.{add-mul, mul-le-mul-right}
+use native.Mathlib.Nat.{add-mul, mul-le-mul-right, le-trans}
 use native.Mathlib.Omega.{arith}
 use lib.IntN.{ℤ}
 use lib.ListN.{length, drop, length-drop, length-map}
@@ -29,7 +29,7 @@ use Rattle.stream.specs.Balance.{past}
 use Rattle.stream.specs.Stream.{stateOf, streamOf, ChangedBy}
 use Rattle.process.specs.declared.Work.{Work}
 use Rattle.fill.specs.declared.Filled.{Filled}
-use Rattle.process.specs.Finishing.{FinishReady, CommitReady, totals, finishedState, FinishedBy, adjustedAs}
+use Rattle.process.specs.Finishing.{UsedReady, CommitReady, totals, finishedState, FinishedBy, adjustedAs}
 
 -- ---- volume: a map over the samples of frames
 
@@ -74,13 +74,13 @@ pub removed-as : {area exit : List ℤ} {n m k l : ℕ} → FrontRemoved n m are
 removed-as {area} {exit} r p q = rw (← p, ← q) r
 
 module _ {s : SonicStream} {d : Filled} {a : Areas} where
-  pub used-fits : FinishReady s d a → d .used .0 * s .channels + d .stream .held .0 * s .channels ≤ length (a .input)
+  pub used-fits : UsedReady s d a → d .used .0 * s .channels + d .stream .held .0 * s .channels ≤ length (a .input)
   used-fits r =
       let e : d .used .0 + d .stream .held .0 ≡ s .held .0 = omega (arith, r .held, r .used) in
       omega (arith, add-mul (d .used .0) (d .stream .held .0) (s .channels), ap (λ (n : ℕ). n * s .channels) e, r .held-fits)
 
   -- the input without the frames used
-  rest-removed : {exit : List ℤ} → FinishReady s d a
+  rest-removed : {exit : List ℤ} → UsedReady s d a
       → FrontRemoved (d .used .0 * s .channels) (d .stream .held .0 * s .channels) (a .input) exit
       → framesOf (s .channels) (s .held .0 - d .used .0) exit ≡ drop (d .used .0) (framesOf (s .channels) (s .held .0) (a .input))
   rest-removed r moved =
@@ -89,12 +89,11 @@ module _ {s : SonicStream} {d : Filled} {a : Areas} where
 
   module _ {c : Adjusted} (r : CommitReady s d c a) where
     pub left-fits : c .from .0 * s .channels + c .left .0 * s .channels ≤ length (a .stage)
-    left-fits =
-        omega (arith, add-mul (c .from .0) (c .left .0) (s .channels), mul-le-mul-right (s .channels) (r .within), r .finish .staged-fits)
+    left-fits = omega (arith, add-mul (c .from .0) (c .left .0) (s .channels), r .within)
 
     done-is : StateFinished s d (adjustedAs s c a) (committed (d .stream) c (s .waiting .0 + c .made .0) (totals d))
     unfolding stateOf streamOf
-    done-is input stage = simp length-framesOf (rw (r .finish .period-is))
+    done-is input stage = simp length-framesOf (rw (r .used .period-is))
 
     -- a total passes 64 bits: the areas stay as they are
     pub commit-passed : past (totals d) ≡ true → FinishedBy s d (adjustedAs s c a) a a Work.TotalFull
@@ -112,7 +111,7 @@ module _ {s : SonicStream} {d : Filled} {a : Areas} where
           told = refl;
           within = within .0;
           stream = rw (← within .1) done-is;
-          rest = rest-removed (r .finish) input;
+          rest = rest-removed (r .used) input;
           tail = rw length-framesOf (remaining-frames (s .channels) (c .from .0) (c .left .0) stage);
           behind = rw length-framesOf behind;
         }
@@ -123,29 +122,27 @@ module _ {s : SonicStream} {d : Filled} {a : Areas} where
 behind-again : {ch w m n : ℕ} {a b c : List ℤ} {fs gs : List Frame} → Behind ch w m a b fs → Behind ch w n b c gs → Behind ch w n a c gs
 behind-again p q = record { kept = q .kept ∙ p .kept; made = q .made; long = q .long ∙ p .long; fits = rw (← p .long) (q .fits) }
 
--- the conversion c took the output to `middle`; from there the commit goes on
-module _ (s : SonicStream) (d : Filled) (c : Conversion) (a : Areas) (middle : List ℤ) {x : Adjusted}
-    (j : AdjustedAs (s .channels) (s .waiting .0) (s .tail .0 + d .frames .0) c (a .stage) (a .output) middle x) where
+-- the conversion c took the output to `middle`, and left of the tail what lies within the first `staged` frames; from there the commit goes on
+module _ (s : SonicStream) (d : Filled) (c : Conversion) (a : Areas) (middle : List ℤ) {staged : ℕ} {x : Adjusted}
+    (j : AdjustedAs (s .channels) (s .waiting .0) staged c (a .stage) (a .output) middle x) where
   abbrev between : Areas
   between = areas (a .input) (a .stage) middle []
 
-  pub commit-ready : FinishReady s d a → CommitReady s d x (areas (a .input) (a .stage) middle [])
-  commit-ready r =
+  pub commit-ready : UsedReady s d a → staged * s .channels ≤ length (a .stage) → CommitReady s d x (areas (a .input) (a .stage) middle [])
+  commit-ready r fits =
       record {
-        finish =
+        used =
             record {
               ready = r .ready;
               held = r .held;
               period-is = r .period-is;
               used = r .used;
               held-fits = r .held-fits;
-              staged-fits = r .staged-fits;
-              waiting-fits = rw (j .behind .long) (r .waiting-fits);
               input-short = r .input-short;
               stage-short = r .stage-short;
               output-short = rw (j .behind .long) (r .output-short);
             };
-        within = j .within;
+        within = le-trans (mul-le-mul-right (s .channels) (j .within)) fits;
         fits = rw (j .behind .long) (j .behind .fits);
       }
 

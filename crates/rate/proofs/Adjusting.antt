@@ -1,56 +1,30 @@
--- What the two ways of a conversion leave, in the words of the contracts. Assumes nothing.
+-- What a conversion at another pitch than 1.0 leaves, with new frames and without, in the words of the contracts. Assumes nothing.
 use mathlib.Core.Path.{_≡_, refl, sym, ap, _∙_, subst}
-use mathlib.Core.Bool.{true, false}
+use mathlib.Core.Bool.{false}
 use mathlib.Core.List.{List, [], _∷_, _++_}
 use Prim.Native.Nat.{ℕ, _+_, _*_, _≤_, _<_}
-use native.Mathlib.Nat.{add-mul, zero-mul}
+use native.Mathlib.Nat.{zero-mul}
 use native.Mathlib.Omega.{arith}
-use lib.ListN.{length, drop, length-drop}
-use lib.Seq.{paste}
+use lib.ListN.{length, drop}
 use lib.IntN.{ℤ}
 use lib.Ieee.{Float, eq}
 use Rattle.floats.specs.Numbers.{one}
-use Rattle.frames.specs.Framing.{Frame, framesOf, Behind}
+use Rattle.frames.specs.Framing.{Frame, framesOf}
 use Rattle.frames.proofs.Framing.{framesOf-add, length-framesOf}
-use Rattle.frames.proofs.Behind.{behind-paste, behind-none}
+use Rattle.frames.proofs.Behind.{behind-none}
 use Rattle.rate.specs.declared.Position.{Position}
 use Rattle.rate.specs.declared.Adjustment.{Adjustment}
 use Rattle.rate.specs.Halving.{ratesOf}
 use Rattle.rate.specs.Conversion.{Conversion, convert, joinTail, adjustRate}
-use Rattle.rate.specs.Adjusting.{AdjustedBy, newFrames, StraightOutEnsures, ScanEnsures, AdjustEnsures}
+use Rattle.rate.specs.Adjusting.{AdjustedBy, newFrames, ScanEnsures, AdjustEnsures}
 
 -- the tail as it was
 stays : (ch tail : ℕ) (stage : List ℤ) → framesOf ch tail (drop (0 * ch) stage) ≡ framesOf ch tail stage
 stays ch tail stage = ap (λ (i : ℕ). framesOf ch tail (drop i stage)) (zero-mul ch)
 
--- ---- straight out: a copy
-
-pub straight-done : (ch tail new w : ℕ) (at : Position) (stage entry exit : List ℤ) → (tail + new) * ch ≤ length stage → (w + new) * ch ≤ length entry
-    → exit ≡ paste entry (w * ch) (drop (tail * ch) stage) (new * ch)
-    → StraightOutEnsures ch tail new w at stage entry exit
-    (Adjustment.Done (record { made = record { 0 = new }; from = record { 0 = 0 }; left = record { 0 = tail }; at = at }))
-straight-done ch tail new w at stage entry exit h k e =
-    let l : new * ch ≤ length (drop (tail * ch) stage) = omega (arith, add-mul tail new ch, length-drop (tail * ch) stage) in
-    let b = behind-paste ch w new entry (drop (tail * ch) stage) k l in
-    record {
-      behind = subst (λ (x : List ℤ). Behind ch w new entry x (newFrames ch tail new stage)) (sym e) b;
-      rest = stays ch tail stage;
-      at = refl;
-      within = omega arith;
-    }
-
-pub straight-full : (ch tail new w : ℕ) (at : Position) (stage entry : List ℤ) → length entry < (w + new) * ch
-    → StraightOutEnsures ch tail new w at stage entry entry Adjustment.Full
-straight-full ch tail new w at stage entry h =
-    record { kept = refl; over = subst (λ (k : ℕ). length entry < (w + k) * ch) (sym (length-framesOf ch new (drop (tail * ch) stage))) h }
-
--- ---- by the pitch and the number of new frames
+-- ---- by the number of new frames
 
 module _ (ch rate : ℕ) (pitch : Float) (at : Position) (tail new w : ℕ) (stage entry exit : List ℤ) (a : Adjustment) where
-  pub pitch-one : eq pitch one ≡ true → StraightOutEnsures ch tail new w at stage entry exit a → AdjustEnsures ch rate pitch at tail new w stage entry exit a
-  unfolding adjustRate
-  pitch-one e h = rw e h
-
   join-some : (fs : List Frame) → length fs ≡ new → 0 < new
       → joinTail (ratesOf rate pitch) at (framesOf ch tail stage) fs ≡ convert (ratesOf rate pitch) at (framesOf ch tail stage ++ fs)
   unfolding joinTail

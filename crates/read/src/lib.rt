@@ -1,13 +1,13 @@
 // The read: frames waiting, as f32 values. `specs/Reading.antt` says what it answers.
 use frames::Frames;
 use frames::Samples;
-use frames::fewest;
 use stream::Order;
 use stream::SonicStream;
 use stream::areas::output_bad;
 use stream::refusals;
 ghost use mathlib.Core.Path.{_≡_};
 ghost use mathlib.Core.Bool.{true, false};
+ghost use Prim.Native.Nat.{min};
 ghost use Rattle.floats.specs.Settings.{samplePeriod};
 ghost use Rattle.stream.specs.Refusals.{inOrder, outputBad};
 ghost use Rattle.read.specs.Reading.{readCount, readCall, ReadEnsures};
@@ -16,6 +16,13 @@ ghost use Rattle.read.specs.Reading.{readCount, readCall, ReadEnsures};
 pub enum Gave {
     Refused(u32, SonicStream),
     Done(Frames, SonicStream),
+}
+
+// The smaller of two counts.
+fn fewest(a: Frames, b: Frames) -> Frames
+    ensures { λ r. ⌜ r .0 ≡ min (a .0) (b .0) ⌝ }
+{
+    if a.0 <= b.0 { a } else { b }
 }
 
 // Gives the first n frames waiting. The period is that of the rate.

@@ -85,11 +85,13 @@ abbrev pub stretchedFrames : StretchCall → List ℤ → Place → List Frame
 stretchedFrames u x h =
     framesOf (u .channels) (framesMade (steps u x h)) (samplesOf (u .channels) x (h .position .0) (steps u x h))
 
--- the area after it: what lies before the place `to` stays; if there is room for the frames among `room` frames, they
--- stand there, and the period record is in order
-pub record AreaAfter (u : StretchCall) (x : List ℤ) (h : Place) (room : ℕ) (area area' : List ℤ) (to : ℕ) : Type 0 where
+-- the area after it: what lies before the place `to` stays; if no more than `most` frames are made, and there is room
+-- for them among `room` frames, they stand there, and the period record is in order
+pub record AreaAfter (u : StretchCall) (x : List ℤ) (h : Place) (room most : ℕ) (area area' : List ℤ) (to : ℕ)
+    : Type 0 where
   pub kept : take to area' ≡ take to area
-  pub written : framesMade (steps u x h) ≤ room
+  pub written : framesMade (steps u x h) ≤ most
+      → framesMade (steps u x h) ≤ room
       → area' ≡ paste area to (samplesOf (u .channels) x (h .position .0) (steps u x h))
       (framesMade (steps u x h) * u .channels)
-  pub in-order : framesMade (steps u x h) ≤ room → PrevInOrder (u .rate) (lastPlace u x h (steps u x h) .prev)
+  pub in-order : framesMade (steps u x h) ≤ most → PrevInOrder (u .rate) (lastPlace u x h (steps u x h) .prev)

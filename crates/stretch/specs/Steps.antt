@@ -2,7 +2,7 @@
 -- C-16 and C-18. u is the call, x the held input, h a place. Definitions only.
 use Prim.Native.Nat.{ℕ, _+_, _-_, _*_, _^_, _≤_}
 use mathlib.Core.Path.{_≡_}
-use mathlib.Core.Bool.{Bool, false, cond, _&&_}
+use mathlib.Core.Bool.{Bool, false, cond, _&&_, _||_}
 use mathlib.Core.List.{List, []}
 use lib.Dec.{T, eqb, ltb}
 use lib.IntN.{ℤ}
@@ -124,20 +124,21 @@ placeAfter u h s found =
 unfoldable pub after : StretchCall → List ℤ → Place → Step → Place
 after u x h s = placeAfter u h s (prevAfter u x h s)
 
--- ---- one turn
+-- ---- one turn, of a call that has made `made` frames and may make `most`; they go to the place `to` of an area, which
+-- has room for `room` frames there
 
--- whether the step gives more than `most` frames; the place after it, its frames, the periods passed over, and whether
--- it stalls
-unfoldable pub turnFor : StretchCall → List ℤ → Place → ℕ → Step → Turn
-turnFor u x h most s =
-    cond (ltb most (framesOut s)) TooMany
+-- whether these are too many with the step's frames; the place after it, its frames, the periods passed over, and
+-- whether it stalls
+unfoldable pub turnFor : StretchCall → List ℤ → Place → ℕ → ℕ → Step → Turn
+turnFor u x h made most s =
+    cond (ltb most (made + framesOut s)) TooMany
     (Went (after u x h s) (record { 0 = framesOut s }) (periodsPassed s) (stalls s))
 
--- the area after it: the step's frames at the place `to`, if it has room for them among `room` frames
-unfoldable pub areaFor : StretchCall → List ℤ → Place → ℕ → List ℤ → ℕ → Step → List ℤ
-areaFor u x h room area to s =
-    cond (ltb room (framesOut s)) area
-    (paste area to (samplesOut (u .channels) x (h .position .0) s) (framesOut s * u .channels))
+-- the area after it: the step's frames behind those made, unless they are too many or there is no room for them
+unfoldable pub areaFor : StretchCall → List ℤ → Place → ℕ → ℕ → ℕ → List ℤ → ℕ → Step → List ℤ
+areaFor u x h made room most area to s =
+    cond (ltb most (made + framesOut s) || ltb room (made + framesOut s)) area
+    (paste area (to + made * u .channels) (samplesOut (u .channels) x (h .position .0) s) (framesOut s * u .channels))
 
 -- ---- what calls and steps are handed
 

@@ -7,7 +7,7 @@ use frames::Frames;
 use frames::Samples;
 ghost use mathlib.Core.Path.{_≡_};
 ghost use mathlib.Core.Bool.{cond};
-ghost use Prim.Native.Nat.{_+_, _*_, _≤_};
+ghost use Prim.Native.Nat.{_+_, _*_, _^_, _≤_};
 ghost use lib.Dec.{ltb};
 ghost use lib.ListN.{length};
 ghost use lib.Seq.{paste};
@@ -43,7 +43,8 @@ fn write_step(
     }
 }
 
-// The same, if there is room for its n frames among `room` frames; else nothing is written.
+// The same for a step of n frames, behind `made` frames that stand at the place `to`, if there is room for all of them
+// among `room` frames; else nothing is written.
 pub(crate) fn write_fitting(
     step: Step,
     n: Frames,
@@ -52,17 +53,19 @@ pub(crate) fn write_fitting(
     position: Frames,
     area: &mut [i16],
     to: Samples,
+    made: Frames,
     room: Frames,
 )
-    requires { ⌜ (n .0 ≡ framesOut step) × (1 ≤ channels) × (crossfaded step ≤ longestPeriod)
-        × ((position .0 + framesRead step) * channels ≤ length (now input))
+    requires { ⌜ (n .0 ≡ framesOut step) × (made .0 + n .0 ≤ 2 ^ 25) × (1 ≤ channels)
+        × (crossfaded step ≤ longestPeriod) × ((position .0 + framesRead step) * channels ≤ length (now input))
         × (to .0 + room .0 * channels ≤ length (now area)) ⌝ }
-    ensures { λ _. ⌜ now (area .exit) ≡ cond (ltb (room .0) (framesOut step)) (now (area .entry))
-        (paste (now (area .entry)) (to .0) (samplesOut channels (now (input .entry)) (position .0) step)
-        (framesOut step * channels)) ⌝ }
+    ensures { λ _. ⌜ now (area .exit) ≡ cond (ltb (room .0) (made .0 + framesOut step)) (now (area .entry))
+        (paste (now (area .entry)) (to .0 + made .0 * channels)
+        (samplesOut channels (now (input .entry)) (position .0) step) (framesOut step * channels)) ⌝ }
 {
-    if room.0 < n.0 {
+    if room.0 < made.0 + n.0 {
         return;
     }
-    write_step(step, input, channels, position, area, to);
+    let at = to.0 + made.samples(channels).0;
+    write_step(step, input, channels, position, area, Samples(at));
 }

@@ -7,7 +7,6 @@ use crate::Turn;
 use crate::steps::take_step;
 use frames::Frames;
 use frames::Samples;
-use frames::fewest;
 use period::PeriodRecord;
 ghost use mathlib.Core.Path.{_≡_};
 ghost use Prim.Native.Nat.{_+_, _*_, _^_, _≤_};
@@ -50,15 +49,15 @@ pub fn change_speed(
     requires { ⌜ PrevInOrder (call .rate) prev ⌝ }
     requires { ⌜ (call .held .0 * call .channels ≤ length (now input))
         × (maxRequired (call .rate) ≤ length (now scratch))
-        × (to .0 + room .0 * call .channels ≤ length (now area)) × (room .0 ≤ most .0) × (most .0 ≤ 2 ^ 24) ⌝ }
+        × (to .0 + room .0 * call .channels ≤ length (now area)) × (most .0 ≤ 2 ^ 24) ⌝ }
     ensures { λ r. ⌜ (r ≡ changeSpeed call (now (input .entry)) (begun «time_error» prev) (most .0))
-        × AreaAfter call (now (input .entry)) (begun «time_error» prev) (room .0) (now (area .entry))
-        (now (area .exit)) (to .0) ⌝ }
+        × AreaAfter call (now (input .entry)) (begun «time_error» prev) (room .0) (most .0)
+        (now (area .entry)) (now (area .exit)) (to .0) ⌝ }
 {
     let required = period::max_required(call.rate).0;
     let held = call.held.0;
-    let all = most.0;
-    let places = room.0;
+    let all = room.0;
+    let limit = most.0;
     let first = to.0;
     let mut place = Place {
         position: Frames(0),
@@ -68,18 +67,15 @@ pub fn change_speed(
     let mut made: usize = 0;
     let mut passed: usize = 0;
     while place.position.0 + required <= held {
-        let written = fewest(Frames(made), Frames(places)).0;
-        let at = first + Frames(written).samples(call.channels).0;
-        let free = places - written;
-        let left = all - made;
         let turn = take_step(
             input,
             call,
             place,
             area,
-            Samples(at),
-            Frames(free),
-            Frames(left),
+            Samples(first),
+            Frames(made),
+            Frames(all),
+            Frames(limit),
             scratch,
         );
         match turn {

@@ -181,14 +181,16 @@ fn place_after(call: StretchCall, place: Place, step: Step, prev: PeriodRecord) 
     }
 }
 
-// One turn: the step that is due, if it gives `most` frames at the most. Its frames are written at the place `to` of the
-// area if there is room for them among `room` frames, and only counted else.
+// One turn of a call that has made `made` frames: the step that is due, unless more than `most` are made with it. Its
+// frames go behind those made, which stand at the place `to` of the area, if there is room for all of them among `room`
+// frames; else they are only counted.
 pub(crate) fn take_step(
     input: &[i16],
     call: StretchCall,
     place: Place,
     area: &mut [i16],
     to: Samples,
+    made: Frames,
     room: Frames,
     most: Frames,
     scratch: &mut [i16],
@@ -198,10 +200,11 @@ pub(crate) fn take_step(
     requires { ⌜ (place .position .0 + maxRequired (call .rate) ≤ call .held .0)
         × (call .held .0 * call .channels ≤ length (now input))
         × (maxRequired (call .rate) ≤ length (now scratch))
-        × (to .0 + room .0 * call .channels ≤ length (now area)) × (room .0 ≤ most .0) ⌝ }
-    ensures { λ r. ⌜ (r ≡ turnFor call (now (input .entry)) place (most .0) (nextStep call (now (input .entry)) place))
-        × (now (area .exit) ≡ areaFor call (now (input .entry)) place (room .0) (now (area .entry)) (to .0)
+        × (to .0 + room .0 * call .channels ≤ length (now area)) × (made .0 ≤ 2 ^ 24) ⌝ }
+    ensures { λ r. ⌜ (r ≡ turnFor call (now (input .entry)) place (made .0) (most .0)
         (nextStep call (now (input .entry)) place))
+        × (now (area .exit) ≡ areaFor call (now (input .entry)) place (made .0) (room .0) (most .0) (now (area .entry))
+        (to .0) (nextStep call (now (input .entry)) place))
         × PrevInOrder (call .rate) (prevAfter call (now (input .entry)) place
         (nextStep call (now (input .entry)) place)) ⌝ }
 {
@@ -209,7 +212,7 @@ pub(crate) fn take_step(
     let step = due.step;
     let prev = due.prev;
     let n = frames_out(step);
-    if most.0 < n.0 {
+    if most.0 < made.0 + n.0 {
         return Turn::TooMany;
     }
     crate::samples::write_fitting(
@@ -220,6 +223,7 @@ pub(crate) fn take_step(
         place.position,
         area,
         to,
+        made,
         room,
     );
     let next = place_after(call, place, step, prev);

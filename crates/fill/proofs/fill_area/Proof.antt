@@ -1,4 +1,4 @@
--- `fill::fill_stage` meets its contract: places, what the code tests, the needs that it answers, what is closed by search.
+-- `fill::fill_area` meets its contract: places, what the code tests, the needs that it answers, what is closed by search.
 -- Assumes nothing.
 use borrow.Author.Needs.{needs}
 use mathlib.Core.Path.{_≡_, sym, ap, _∙_}
@@ -10,8 +10,8 @@ use Rattle.floats.specs.Write.{localSpeed, speedChanges}
 use Rattle.period.specs.Rates.{maxRequired}
 use Rattle.fill.specs.Filling.{speedOf}
 use Rattle.fill.proofs.Filling.{held-few, empty-filled, waiting-filled}
-use Rattle.fill.proofs.fill_stage.Statement.{statement}
-use Rattle.fill.proofs.fill_stage.Tie as tie
+use Rattle.fill.proofs.fill_area.Statement.{statement}
+use Rattle.fill.proofs.fill_area.Tie as tie
 
 -- ---- places
 
@@ -40,7 +40,8 @@ returns : tie.Need-returns
 returns c =
     let s = c .before .before .before in
     let a = s .args in
-    rw (c .nothing .ensures) (empty-filled (a .stream) (s .pre .0) (a .input .now) (a .stage .now) (s .pre .1 .fit) (c .before .if1 .taken))
+    rw (c .nothing .ensures)
+    (empty-filled (a .stream) (a .kept .0) (a .most .0) (s .pre .0) (a .input .now) (a .area .now) (s .pre .1 .fit) (c .before .if1 .taken))
 
 local-speed-requires : tie.Need-local-speed-requires
 local-speed-requires c κs = let r = c .before .before .pre in held-few (r .0) (r .1 .fit)
@@ -54,7 +55,7 @@ returns-2 c =
     let a = s .args in
     let far : speedChanges (speedOf (a .stream)) ≡ true = sym (changes-is test) ∙ tested required .if2 .taken in
     rw (c .nothing2 .ensures)
-    (waiting-filled (a .stream) (s .pre .0) (a .input .now) (a .stage .now) (s .pre .1 .fit) (some (test .before)) far
+    (waiting-filled (a .stream) (a .kept .0) (a .most .0) (s .pre .0) (a .input .now) (a .area .now) (s .pre .1 .fit) (some (test .before)) far
     (omega (arith, few .if3 .taken, required .max-required .ensures)))
 
 stretch-input-requires : tie.Need-stretch-input-requires
@@ -105,8 +106,8 @@ same-length-3 c = search needs
 returns-4 : tie.Need-returns-4
 returns-4 c = search needs
 
-pub fill-stage-spec : {M : Type 1} → statement M
-fill-stage-spec =
+pub fill-area-spec : {M : Type 1} → statement M
+fill-area-spec =
     tie.close
     (tie.spec nothing-requires returns local-speed-requires speed-changes-requires cast-max-required max-required-requires nothing-requires-2
     returns-2 stretch-input-requires same-length same-length-2 returns-3 copy-input-requires same-length-3 returns-4)

@@ -50,20 +50,20 @@ within c =
 -- ---- answered here
 
 samples-requires : tie.Need-samples-requires
-samples-requires c κs = let r = input-start c .pre .finish in omega (arith, used-fits r, r .input-short)
+samples-requires c κs = let r = input-start c .pre .used in omega (arith, used-fits r, r .input-short)
 
 samples-requires-2 : tie.Need-samples-requires-2
-samples-requires-2 c κs = let r = input-start (c .before) .pre .finish in omega (arith, used-fits r, r .input-short)
+samples-requires-2 c κs = let r = input-start (c .before) .pre .used in omega (arith, used-fits r, r .input-short)
 
 remove-front-requires : tie.Need-remove-front-requires
 remove-front-requires c κs =
-    omega (arith, used-fits (input-start (c .before .before) .pre .finish), c .before .samples .ensures, c .samples2 .ensures)
+    omega (arith, used-fits (input-start (c .before .before) .pre .used), c .before .samples .ensures, c .samples2 .ensures)
 
 samples-requires-3 : tie.Need-samples-requires-3
-samples-requires-3 c κs = let r = stage-start c .pre in omega (arith, left-fits r, r .finish .stage-short)
+samples-requires-3 c κs = let r = stage-start c .pre in omega (arith, left-fits r, r .used .stage-short)
 
 samples-requires-4 : tie.Need-samples-requires-4
-samples-requires-4 c κs = let r = stage-start (c .before) .pre in omega (arith, left-fits r, r .finish .stage-short)
+samples-requires-4 c κs = let r = stage-start (c .before) .pre in omega (arith, left-fits r, r .used .stage-short)
 
 remove-front-requires-2 : tie.Need-remove-front-requires-2
 remove-front-requires-2 c κs =
@@ -74,8 +74,8 @@ add-waiting c =
     let s = stage-start (c .before .before .before .before .before .before) in
     let r = s .pre in
     let x = s .args .stream in
-    let count = count-le (x .channels) (x .waiting .0 + s .args .adjusted .made .0) (ready-limits (r .finish .ready) .channels-low) in
-    record { fits = omega (arith, count, r .fits, r .finish .output-short) }
+    let count = count-le (x .channels) (x .waiting .0 + s .args .adjusted .made .0) (ready-limits (r .used .ready) .channels-low) in
+    record { fits = omega (arith, count, r .fits, r .used .output-short) }
 
 returns : tie.Need-returns
 returns c =

@@ -56,9 +56,10 @@ adjust-rate-requires : tie.Need-adjust-rate-requires
 unfolding stateOf
 adjust-rate-requires c κs =
     let r = c .before .before .before .before .before .before .pre in
-    let o = r .ready .state in
+    let o = r .used .ready .state in
     record {
       exact = omega (arith, o .limits .rate-high);
+      other = r .other;
       order = o .position;
       lent = record { some = o .limits .channels-low; holds = r .staged-fits; waits = r .waiting-fits };
     }
@@ -69,7 +70,7 @@ commit-requires c κs =
     let rate = rated (done .before .before) in
     let s = start rate in
     let is = answer-is rate (Adjustment.Done (done .adjusted .given .0 .0)) (done .adjusted .given .1) in
-    commit-ready (s .args .stream) (s .args .filled) (converted s) (lent s) (middle rate) is (s .pre)
+    commit-ready (s .args .stream) (s .args .filled) (converted s) (lent s) (middle rate) is (s .pre .used) (s .pre .staged-fits)
 
 returns : tie.Need-returns
 returns c = (refl, refl, answer-is (rated (c .before .before)) Adjustment.Full (c .enum-told .given .1))

@@ -1,7 +1,7 @@
 -- `stretch::steps::take_step` meets its contract: the step that is due is sound, and its frames are written if there is room. Assumes nothing.
 use borrow.Author.Needs.{needs}
 use mathlib.Core.Path.{_≡_, sym, ap, _∙_, subst}
-use Prim.Native.Nat.{_*_, _≤_}
+use Prim.Native.Nat.{_+_, _*_, _^_, _≤_}
 use native.Mathlib.Nat.{mul-le-mul-right, le-trans}
 use native.Mathlib.Omega.{arith}
 use borrow.Author.Tests.{lt-ltb, le-ltb}
@@ -45,11 +45,16 @@ module _ (c : tie.After-frames-out) where
   out : c .frames-out .result .0 ≡ framesOut (step stepped)
   out = c .frames-out .ensures ∙ ap framesOut (stepped .next-step .ensures .0)
 
--- the test whether they fit
-abbrev counted : tie.After-struct-known2 → tie.After-frames-out
-counted c = c .before .before
+  few : start stepped .args .made .0 + c .frames-out .result .0 ≤ 2 ^ 25
+  few =
+      let s = start stepped in
+      omega (arith, c .frames-out .ensures, sound stepped .within, framesOut-le (stepped .next-step .result .step), s .pre .0 .few, s .pre .1 .1 .4)
 
--- they fit, and are written
+-- the test whether they fit
+abbrev counted : tie.After-struct-known3 → tie.After-frames-out
+counted c = c .before .before .before
+
+-- they are not too many, and are written if they fit
 abbrev fitting : tie.After-area → tie.Else1
 fitting c = c .before .before .before
 
@@ -65,20 +70,21 @@ unfolding turnFor areaFor
 returns c =
     let f = counted (c .before) in
     let n = stepped f in
-    let t = lt-ltb (start n .args .room .0) (framesOut (step n)) (omega (arith, out f, c .if1 .taken)) in
+    let a = start n .args in
+    let t = lt-ltb (a .most .0) (a .made .0 + framesOut (step n)) (omega (arith, out f, c .if1 .taken)) in
     (sym (rw t), sym (rw t), in-order n)
 
-write-step-requires : tie.Need-write-step-requires
-write-step-requires c κs =
+add-if1 : tie.Need-add-if1
+add-if1 c = record { fits = omega (arith, few (c .before .before)) }
+
+write-fitting-requires : tie.Need-write-fitting-requires
+write-fitting-requires c κs =
     let f = counted (c .before .before) in
     let n = stepped f in
     let a = start n .args in
     let p = start n .pre in
-    let s = n .next-step .result .step in
-    let few : framesOut s ≤ a .room .0 = omega (arith, f .frames-out .ensures, c .before .if1 .left) in
-    let out : framesOut s * a .call .channels ≤ a .room .0 * a .call .channels = mul-le-mul-right (a .call .channels) few in
     let read = le-trans (mul-le-mul-right (a .call .channels) (sound n .within)) (p .1 .1 .1) in
-    (p .0 .opened .channels-low, sound n .short, read, omega (arith, out, p .1 .1 .3))
+    (f .frames-out .ensures, few f, p .0 .opened .channels-low, sound n .short, read, p .1 .1 .3)
 
 place-after-requires : tie.Need-place-after-requires
 place-after-requires c κs =
@@ -93,12 +99,12 @@ returns-2 c =
     let n = stepped f in
     let a = start n .args in
     let is = n .next-step .ensures .0 in
-    let t = le-ltb (a .room .0) (framesOut (step n)) (omega (arith, out f, fitting w .if1 .left)) in
+    let t = le-ltb (a .most .0) (a .made .0 + framesOut (step n)) (omega (arith, out f, fitting w .if1 .left)) in
     let place = c .before .before .place-after .ensures ∙ next-is n in
     let periods : c .before .periods-passed .result ≡ periodsPassed (step n) = c .before .periods-passed .ensures ∙ ap periodsPassed is in
     let stall : c .stalls .result ≡ stalls (step n) = c .stalls .ensures ∙ ap stalls is in (
       rw t (λ i. Went (place i) (record { 0 = out f i }) (periods i) (stall i)),
-      rw t (rw is at (w .before .write-step .ensures)),
+      rw t (rw is at (w .before .write-fitting .ensures)),
       in-order n,
     )
 
@@ -125,5 +131,5 @@ same-length-3 c = search needs
 pub take-step-spec : {M : Type 1} → statement M
 take-step-spec =
     tie.close
-    (tie.spec next-step-requires frames-out-requires same-length returns write-step-requires place-after-requires periods-passed-requires stalls-requires same-length-2
+    (tie.spec next-step-requires frames-out-requires add-if1 same-length returns write-fitting-requires place-after-requires periods-passed-requires stalls-requires same-length-2
     same-length-3 returns-2)
