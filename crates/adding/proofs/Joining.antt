@@ -1,19 +1,19 @@
 -- The frames that a call adds behind those held, and what its work requires then:
 --   written-behind, silence-behind     the frames of a write and of a flush, in the input
---   held-joined, tail-joined           the counts of the stream with these frames
+--   held-joined, tail-joined, needed-joined     the counts of the stream with these frames
 --   add-ready, ready-with              refusals 3 to 5 are not met, and stay so when the frames are added
 --   accepted-areas, accepted-ready     what the work requires
 --   accepted-channels, accepted-place, accepted-held, accepted-tail, accepted-samples     counts
 -- Assumes nothing.
-use mathlib.Core.Path.{_≡_}
-use mathlib.Core.Bool.{true, false}
+use mathlib.Core.Path.{_≡_, ap}
+use mathlib.Core.Bool.{true, false, cond}
 use mathlib.Core.List.{List, [], map}
 use Prim.Native.Nat.{ℕ, _+_, _*_, _/_, _^_, _≤_}
 use native.Mathlib.Nat.{add-mul}
 use native.Mathlib.Omega.{arith}
 use borrow.Author.Tests.{ltb-false}
 use lib.IntN.{ℤ, pos}
-use lib.Ieee.{Float}
+use lib.Ieee.{Float, eq}
 use lib.ListN.{length, length-append, length-map, replicate, length-replicate}
 use lib.Seq.{paste}
 use Rattle.frames.specs.Areas.{Areas, areas}
@@ -21,12 +21,13 @@ use Rattle.frames.specs.Framing.{framesOf, Behind}
 use Rattle.frames.proofs.Framing.{length-framesOf, framesOf-map}
 use Rattle.frames.proofs.Behind.{behind-paste, silent-frames}
 use Rattle.frames.proofs.Room.{samples-le, count-le}
+use Rattle.floats.specs.Numbers.{one}
 use Rattle.floats.specs.Settings.{samplePeriod}
 use Rattle.floats.specs.Write.{sampleIn}
 use Rattle.stream.specs.declared.SonicStream.{SonicStream}
 use Rattle.stream.specs.Stream.{stateOf, streamOf}
 use Rattle.stream.specs.Order.{StreamReady}
-use Rattle.stream.specs.Refusals.{inOrder, tooShort, sizesBad, partsBad, areasBad}
+use Rattle.stream.specs.Refusals.{inOrder, tooShort, sizesBad, partsBad, areasBad, stageNeeded}
 use Rattle.stream.proofs.InOrder.{limits-of, ready-of}
 use Rattle.stream.proofs.AreaTests.{AreasGood, areas-of}
 use Rattle.stream.proofs.Streams.{ready-stream, ready-input}
@@ -61,6 +62,10 @@ module _ (s : SonicStream) (n : ℕ) where
   pub tail-joined : joinedStream n s .tail .0 ≡ s .tail .0
   unfolding joined stateOf streamOf
   tail-joined = length-framesOf (s .channels) (s .tail .0) []
+
+  pub needed-joined : (staged : ℕ) → stageNeeded (joinedStream n s) staged ≡ stageNeeded s staged
+  unfolding stageNeeded joined stateOf streamOf
+  needed-joined staged = ap (λ (k : ℕ). cond (eq (s .pitch) one) staged (k + staged)) tail-joined
 
 -- ---- what the work asks for
 

@@ -69,10 +69,11 @@ fn print_step(label: &[u8], speed: f32) {
         &mut stage,
         Samples(0),
         Frames(REQUIRED),
+        Frames(REQUIRED),
         &mut scratch,
     ) {
-        Stretched::Full => {
-            io::write_all(STDOUT_FILENO, b" full\n");
+        Stretched::TooMany => {
+            io::write_all(STDOUT_FILENO, b" too many\n");
         }
         Stretched::Made(answer) => {
             print_stretch(answer);

@@ -2,21 +2,24 @@
 -- what it keeps fits.
 -- Assumes nothing.
 use mathlib.Core.Path.{_≡_, sym, ap, _∙_, subst}
+use mathlib.Core.Bool.{Bool, true, false, cond}
 use mathlib.Core.List.{List, _∷_, [], _++_, map}
 use Prim.Native.Nat.{ℕ, _+_, _*_, _≤_}
 use native.Mathlib.Nat.{le-refl, le-trans, mul-le-mul-right}
 use native.Mathlib.Omega.{arith}
 use lib.IntN.{pos}
-use lib.Ieee.{Float}
+use lib.Ieee.{Float, eq}
 use lib.ListN.{length, take, replicate, length-append, length-map, length-take, length-replicate}
 use Rattle.frames.specs.Areas.{Areas}
 use Rattle.frames.specs.Framing.{Frame, framesOf}
 use Rattle.frames.proofs.Framing.{length-framesOf}
+use Rattle.floats.specs.Numbers.{one}
 use Rattle.floats.specs.Write.{sampleIn}
 use Rattle.period.specs.Rates.{maxRequired}
 use Rattle.stream.specs.declared.SonicStream.{SonicStream}
 use Rattle.stream.specs.State.{State}
 use Rattle.stream.specs.Stream.{stateOf, streamOf}
+use Rattle.stream.specs.Refusals.{stageNeeded}
 use Rattle.process.specs.Process.{Made, wholeFrames, joined, process, writeWork, flushWork, expected, cleared}
 use Rattle.process.proofs.Claims.{Held}
 use Rattle.adding.specs.Calls.{refusalOf}
@@ -27,6 +30,12 @@ use Rattle.runs.specs.Run.{Moment, Lent}
 use Rattle.runs.proofs.KeptParts.{frames-shown}
 use Rattle.runs.proofs.Work.{process-channels, process-input, process-tail}
 use Rattle.runs.proofs.Tracking.{Tracks, Accepts}
+
+-- the tail after a call fits the stage: at pitch 1.0 it is the one before, at another no longer than that and the frames staged
+tail-fits : (b : Bool) (tail held staged ch long : ℕ) → tail ≤ cond b held (held + staged) → held * ch ≤ long
+    → cond b staged (held + staged) * ch ≤ long → tail * ch ≤ long
+tail-fits true tail held staged ch long h p q = le-trans (mul-le-mul-right ch h) p
+tail-fits false tail held staged ch long h p q = le-trans (mul-le-mul-right ch h) q
 
 module _ {m : Moment} {l : Ledger} (h : Tracks m l) (a : Areas) (g : Lent m a) where
   abbrev ch : ℕ
@@ -65,22 +74,21 @@ module _ {m : Moment} {l : Ledger} (h : Tracks m l) (a : Areas) (g : Lent m a) w
         → length (t .input) ≤ length (work .state .input) → length (t .tail) ≤ length (work .state .tail) → length frames ≤ length (work .frames)
         → Room s a added work
         → Fits t frames
-    unfolding joined stateOf streamOf
+    unfolding joined stateOf streamOf stageNeeded
     work-fits t frames added e input tail output r =
         let from : State = joined fs seen in
         let in-less : length (work .state .input) ≤ length (from .input) = process-input from in
         let in-held : length (from .input) ≡ length (l .state .input) + length fs =
         length-append (framesOf ch (length (l .state .input)) (a .input)) fs
         ∙ ap (λ (n : ℕ). n + length fs) (length-framesOf ch (length (l .state .input)) (a .input)) in
-        let tail-less : length (work .state .tail) ≤ length (from .tail) + work .staged = process-tail from in
         let tail-held : length (from .tail) ≡ length (l .state .tail) = length-framesOf ch (length (l .state .tail)) (a .stage) in
+        let tail-less = rw tail-held at (process-tail from) in
         let in-most : length (t .input) ≤ length (l .state .input) + added = omega arith in
-        let tail-most : length (t .tail) ≤ length (l .state .tail) + work .staged = omega arith in
         let out-most : h .waiting + length frames ≤ h .waiting + length (work .frames) = omega arith in
         record {
           held = added-held s a fs (subst (Accepted s a) e (r .accepted));
           input = le-trans (mul-le-mul-right ch in-most) (r .accepted .fits);
-          tail = le-trans (mul-le-mul-right ch tail-most) (r .stage);
+          tail = tail-fits (eq (l .state .pitch) one) _ (length (l .state .tail)) (work .staged) ch (length (a .stage)) (le-trans tail tail-less) (r .tail-fits) (r .stage);
           output = le-trans (mul-le-mul-right ch out-most) (r .output);
         }
 

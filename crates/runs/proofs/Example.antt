@@ -28,7 +28,7 @@ use Rattle.stream.specs.Balance.{none, booked, past}
 use Rattle.stream.specs.State.{withSettings}
 use Rattle.stream.specs.Stream.{stateOf, streamOf}
 use Rattle.stream.specs.Refusals.{badAreas, inputFull, rateBad, channelsBad, limitsInOrder, periodInOrder, settingsInOrder, prevInOrder, positionsInOrder}
-use Rattle.stream.specs.Refusals.{inOrder, sizesBad, partsBad, areasBad, outputBad, refusal, readRefusal}
+use Rattle.stream.specs.Refusals.{inOrder, sizesBad, partsBad, areasBad, outputBad, stageNeeded, refusal, readRefusal}
 use Rattle.stream.specs.Settings.{fresh, withSetting, openCall, setCall}
 use Rattle.fill.specs.declared.Told.{Told}
 use Rattle.fill.specs.declared.Outcome.the-variants.{Copied}
@@ -122,7 +122,7 @@ example : RunOf 8000 1
 unfolding no-room small copies fair fair-left softer too-short short takes-one copies-softer large flushes takes-rest samples
     opening after afterSetting afterCall afterRead Agree leave
     setCall withSetting writeCall flushCall refusedCall acceptedCall readCall readCount
-    refusal readRefusal past inOrder limitsInOrder periodInOrder settingsInOrder prevInOrder positionsInOrder rateBad channelsBad
+    stageNeeded refusal readRefusal past inOrder limitsInOrder periodInOrder settingsInOrder prevInOrder positionsInOrder rateBad channelsBad
     areasBad sizesBad partsBad outputBad fresh streamOf stateOf framesOf wholeFrames
     writeWork flushWork process counting counted stalled tally booked finished taken takenAt copied nothing joined removed expected cleared adjustRate
     sampleIn sampleOut unitClamped playTimeGrown playTimeLeft localSpeed speedChanges expectedFrames gain scaled amplified clampZ clamped

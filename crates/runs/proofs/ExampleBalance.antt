@@ -36,7 +36,7 @@ use Rattle.stream.specs.Balance.{none, booked, past}
 use Rattle.stream.specs.State.{State, withSettings, withInput, withBalance}
 use Rattle.stream.specs.Stream.{stateOf, streamOf}
 use Rattle.stream.specs.Refusals.{rateBad, channelsBad, limitsInOrder, periodInOrder, settingsInOrder, prevInOrder, positionsInOrder, inOrder}
-use Rattle.stream.specs.Refusals.{sizesBad, partsBad, areasBad, refusal}
+use Rattle.stream.specs.Refusals.{sizesBad, partsBad, areasBad, stageNeeded, refusal}
 use Rattle.stream.specs.Settings.{fresh, withSetting, openCall, setCall}
 use Rattle.fill.specs.declared.Told.{Told}
 use Rattle.fill.specs.declared.Outcome.the-variants.{Stretched}
@@ -101,7 +101,7 @@ skipping : RunOf 1000 1
 unfolding faster skips flushes lent pulse six
     opening Run.after afterSetting afterCall Agree leave
     setCall withSetting writeCall flushCall refusedCall acceptedCall
-    refusal past inOrder limitsInOrder periodInOrder settingsInOrder prevInOrder positionsInOrder areasBad sizesBad partsBad rateBad channelsBad
+    stageNeeded refusal past inOrder limitsInOrder periodInOrder settingsInOrder prevInOrder positionsInOrder areasBad sizesBad partsBad rateBad channelsBad
     fresh streamOf stateOf framesOf flat wholeFrames
     writeWork flushWork process counting counted stalled tally booked finished expected expectedFrames cleared
     taken takenAt stretched stepped removed answerFor lastPlace joined
@@ -202,7 +202,7 @@ inserting : RunOf 1000 1
 unfolding slower inserts lent pulse six
     opening Run.after afterSetting afterCall Agree leave
     setCall withSetting writeCall refusedCall acceptedCall
-    refusal past inOrder limitsInOrder periodInOrder settingsInOrder prevInOrder positionsInOrder areasBad sizesBad partsBad rateBad channelsBad
+    stageNeeded refusal past inOrder limitsInOrder periodInOrder settingsInOrder prevInOrder positionsInOrder areasBad sizesBad partsBad rateBad channelsBad
     fresh streamOf stateOf framesOf flat wholeFrames
     writeWork process counting counted stalled tally booked finished taken takenAt stretched stepped removed answerFor lastPlace joined
     steps stepsIn nextStep after placeAfter prevAfter errorAfter copyingDue insertCount errorInserted

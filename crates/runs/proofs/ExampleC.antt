@@ -25,7 +25,7 @@ use Rattle.stream.specs.Balance.{booked, past}
 use Rattle.stream.specs.State.{withSettings}
 use Rattle.stream.specs.Stream.{stateOf, streamOf}
 use Rattle.stream.specs.Refusals.{inputFull, rateBad, channelsBad, limitsInOrder, periodInOrder, settingsInOrder, prevInOrder, positionsInOrder}
-use Rattle.stream.specs.Refusals.{inOrder, sizesBad, partsBad, areasBad, outputBad, refusal, readRefusal}
+use Rattle.stream.specs.Refusals.{inOrder, sizesBad, partsBad, areasBad, outputBad, stageNeeded, refusal, readRefusal}
 use Rattle.stream.specs.Settings.{fresh, withSetting, openCall, setCall}
 use Rattle.fill.specs.declared.Outcome.the-variants.{Copied}
 use Rattle.fill.specs.Taking.{removed, nothing, copied, takenAt, taken, counted}
@@ -74,7 +74,7 @@ unfolding softer no-room small copies lent takes-one openedOf changedOf wroteOf 
     eventIn changedIn wroteIn gaveIn outcomeIn openCall
     opening after afterSetting afterCall afterRead Agree leave
     setCall withSetting writeCall refusedCall acceptedCall readCall readCount
-    refusal readRefusal past inOrder limitsInOrder periodInOrder settingsInOrder prevInOrder positionsInOrder rateBad channelsBad
+    stageNeeded refusal readRefusal past inOrder limitsInOrder periodInOrder settingsInOrder prevInOrder positionsInOrder rateBad channelsBad
     areasBad sizesBad partsBad outputBad fresh streamOf stateOf framesOf wholeFrames
     writeWork process counting counted stalled tally booked finished taken takenAt copied nothing joined removed adjustRate
     sampleIn sampleOut unitClamped playTimeGrown playTimeLeft localSpeed speedChanges gain scaled amplified clampZ clamped

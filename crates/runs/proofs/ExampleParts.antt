@@ -31,7 +31,7 @@ use Rattle.stream.specs.Balance.{booked, past}
 use Rattle.stream.specs.State.{withSettings, withTail}
 use Rattle.stream.specs.Stream.{stateOf, streamOf}
 use Rattle.stream.specs.Refusals.{rateBad, channelsBad, limitsInOrder, periodInOrder, settingsInOrder, prevInOrder, positionsInOrder, inOrder}
-use Rattle.stream.specs.Refusals.{sizesBad, partsBad, areasBad, refusal}
+use Rattle.stream.specs.Refusals.{sizesBad, partsBad, areasBad, stageNeeded, refusal}
 use Rattle.stream.specs.Settings.{fresh, withSetting, openCall, setCall}
 use Rattle.fill.specs.declared.Told.{Told}
 use Rattle.fill.specs.declared.Outcome.the-variants.{Copied}
@@ -111,7 +111,7 @@ at-once : RunOf 8000 1
 unfolding slower deeper lent early late click made made-of-all all-at-once
     opening after afterSetting afterCall Agree leave
     setCall withSetting writeCall refusedCall acceptedCall
-    refusal past inOrder limitsInOrder periodInOrder settingsInOrder prevInOrder positionsInOrder areasBad sizesBad partsBad rateBad channelsBad
+    stageNeeded refusal past inOrder limitsInOrder periodInOrder settingsInOrder prevInOrder positionsInOrder areasBad sizesBad partsBad rateBad channelsBad
     fresh streamOf stateOf framesOf wholeFrames
     writeWork process counting counted stalled tally booked finished taken takenAt copied nothing joined removed
     sampleIn unitClamped playTimeGrown playTimeLeft localSpeed speedChanges scaled clampZ clamped
@@ -142,7 +142,7 @@ in-parts : RunOf 8000 1
 unfolding slower deeper lent early late click made made-of-all first-part second-part
     opening after afterSetting afterCall Agree leave
     setCall withSetting writeCall refusedCall acceptedCall
-    refusal past inOrder limitsInOrder periodInOrder settingsInOrder prevInOrder positionsInOrder areasBad sizesBad partsBad rateBad channelsBad
+    stageNeeded refusal past inOrder limitsInOrder periodInOrder settingsInOrder prevInOrder positionsInOrder areasBad sizesBad partsBad rateBad channelsBad
     fresh streamOf stateOf framesOf wholeFrames
     writeWork process counting counted stalled tally booked finished taken takenAt copied nothing joined removed
     sampleIn unitClamped playTimeGrown playTimeLeft localSpeed speedChanges scaled clampZ clamped
@@ -180,7 +180,7 @@ with-flush : RunOf 8000 1
 unfolding slower deeper lent early late click made made-of-all all-at-once made-by-flush long flush-behind
     opening after afterSetting afterCall Agree leave
     setCall withSetting writeCall flushCall refusedCall acceptedCall
-    refusal past inOrder limitsInOrder periodInOrder settingsInOrder prevInOrder positionsInOrder areasBad sizesBad partsBad rateBad channelsBad
+    stageNeeded refusal past inOrder limitsInOrder periodInOrder settingsInOrder prevInOrder positionsInOrder areasBad sizesBad partsBad rateBad channelsBad
     fresh streamOf stateOf framesOf wholeFrames
     writeWork flushWork process counting counted stalled tally booked finished expected expectedFrames cleared taken takenAt copied nothing joined removed
     sampleIn unitClamped playTimeGrown playTimeLeft localSpeed speedChanges scaled clampZ clamped

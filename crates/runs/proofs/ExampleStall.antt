@@ -34,7 +34,7 @@ use Rattle.stream.specs.Balance.{booked, past}
 use Rattle.stream.specs.State.{State, withSettings, withInput}
 use Rattle.stream.specs.Stream.{stateOf, streamOf}
 use Rattle.stream.specs.Refusals.{inputFull, rateBad, channelsBad, limitsInOrder, periodInOrder, settingsInOrder, prevInOrder, positionsInOrder, inOrder}
-use Rattle.stream.specs.Refusals.{sizesBad, partsBad, areasBad, outputBad, refusal, readRefusal}
+use Rattle.stream.specs.Refusals.{sizesBad, partsBad, areasBad, outputBad, stageNeeded, refusal, readRefusal}
 use Rattle.stream.specs.Settings.{fresh, withSetting, openCall, setCall}
 use Rattle.fill.specs.declared.Told.{Told}
 use Rattle.fill.specs.declared.Outcome.the-variants.{Stalled}
@@ -114,7 +114,7 @@ stalled-run : RunOf 1000 1
 unfolding faster stalls takes stalls-again lent pulse samples held
     opening Run.after afterSetting afterCall afterRead Agree leave
     setCall withSetting writeCall refusedCall acceptedCall readCall readCount
-    refusal readRefusal past inOrder limitsInOrder periodInOrder settingsInOrder prevInOrder positionsInOrder rateBad channelsBad
+    stageNeeded refusal readRefusal past inOrder limitsInOrder periodInOrder settingsInOrder prevInOrder positionsInOrder rateBad channelsBad
     areasBad sizesBad partsBad outputBad fresh streamOf stateOf framesOf flat wholeFrames
     writeWork process counting counted stalled tally booked finished
     taken takenAt stretched stepped answerFor lastPlace joined
@@ -154,7 +154,7 @@ unread : RunOf 1000 1
 unfolding faster stalls no-room stalls-unread lent pulse samples held
     opening Run.after afterSetting afterCall Agree leave
     setCall withSetting writeCall refusedCall acceptedCall
-    refusal past inOrder limitsInOrder periodInOrder settingsInOrder prevInOrder positionsInOrder rateBad channelsBad
+    stageNeeded refusal past inOrder limitsInOrder periodInOrder settingsInOrder prevInOrder positionsInOrder rateBad channelsBad
     areasBad sizesBad partsBad fresh streamOf stateOf framesOf flat wholeFrames
     writeWork process counting counted stalled tally booked finished
     taken takenAt stretched stepped answerFor lastPlace joined

@@ -35,7 +35,7 @@ use Rattle.stream.specs.Balance.{none, booked, past}
 use Rattle.stream.specs.State.{State, withSettings, withInput, withBalance}
 use Rattle.stream.specs.Stream.{stateOf, streamOf}
 use Rattle.stream.specs.Refusals.{rateBad, channelsBad, limitsInOrder, periodInOrder, settingsInOrder, prevInOrder, positionsInOrder, inOrder}
-use Rattle.stream.specs.Refusals.{sizesBad, partsBad, areasBad, refusal}
+use Rattle.stream.specs.Refusals.{sizesBad, partsBad, areasBad, stageNeeded, refusal}
 use Rattle.stream.specs.Settings.{fresh, withSetting, openCall, setCall}
 use Rattle.fill.specs.declared.Outcome.the-variants.{Stretched, Stalled}
 use Rattle.fill.specs.Taking.{removed, stepped, stretched, takenAt, taken, counted}
@@ -99,7 +99,7 @@ passing : RunOf 1000 1
 unfolding faster stalls switched-on passes lent pulse six
     opening Run.after afterSetting afterCall Agree leave
     setCall withSetting writeCall refusedCall acceptedCall
-    refusal past inOrder limitsInOrder periodInOrder settingsInOrder prevInOrder positionsInOrder areasBad sizesBad partsBad rateBad channelsBad
+    stageNeeded refusal past inOrder limitsInOrder periodInOrder settingsInOrder prevInOrder positionsInOrder areasBad sizesBad partsBad rateBad channelsBad
     fresh streamOf stateOf framesOf flat wholeFrames
     writeWork process counting counted stalled tally booked finished
     taken takenAt stretched stepped removed answerFor lastPlace joined

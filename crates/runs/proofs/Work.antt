@@ -1,6 +1,6 @@
 -- Laws of one call's work: what a setting, copying or stretching leaves alone, and how long the input and the tail are after a write or a
 -- flush. Assumes nothing.
-use mathlib.Core.Path.{_≡_, refl, ap}
+use mathlib.Core.Path.{_≡_, refl, ap, subst}
 use mathlib.Core.Bool.{Bool, true, false, cond}
 use mathlib.Core.List.{List, [], _∷_, _++_}
 use Prim.Native.Nat.{ℕ, _+_, _≤_}
@@ -95,11 +95,15 @@ unfolding joinTail convert
 joinTail-rest r at tail [] = omega arith
 joinTail-rest r at tail (f ∷ fs) = omega (arith, length-append tail (f ∷ fs), length-drop (consumable (tail ++ (f ∷ fs))) (tail ++ (f ∷ fs)))
 
-adjustRate-rest : (rate : ℕ) (pitch : Float) (at : Position) (tail fs : List Frame) → length (adjustRate rate pitch at tail fs .rest) ≤ length tail + length fs
+adjustRate-rest : (rate : ℕ) (pitch : Float) (at : Position) (tail fs : List Frame)
+    → length (adjustRate rate pitch at tail fs .rest) ≤ cond (eq pitch one) (length tail) (length tail + length fs)
 unfolding adjustRate
-adjustRate-rest rate pitch at tail fs =
-    cond-cases (λ (c : Conversion). length (c .rest) ≤ length tail + length fs) (eq pitch one) (record { made = fs; rest = tail; at = at })
-    (joinTail (ratesOf rate pitch) at tail fs) (λ e. omega arith) (λ e. joinTail-rest (ratesOf rate pitch) at tail fs)
+adjustRate-rest rate pitch at tail fs = go (eq pitch one)
+  where
+    go : (b : Bool)
+        → length (cond b (record { made = fs; rest = tail; at = at }) (joinTail (ratesOf rate pitch) at tail fs) .rest) ≤ cond b (length tail) (length tail + length fs)
+    go true = le-refl (length tail)
+    go false = joinTail-rest (ratesOf rate pitch) at tail fs
 
 -- ---- a call's whole work
 
@@ -120,9 +124,12 @@ module _ (s : State) where
   unfolding process finished counting
   process-input = taken-leaves s .input
 
-  pub process-tail : length (process s .state .tail) ≤ length (s .tail) + process s .staged
+  pub process-tail : length (process s .state .tail) ≤ cond (eq (s .pitch) one) (length (s .tail)) (length (s .tail) + process s .staged)
   unfolding process finished counting bare
   process-tail =
       let t : Taken = taken s in
-      let e : t .state .tail ≡ s .tail = ap (λ (x : State). x .tail) (taken-leaves s .rest) in
-      omega (arith, ap length e, adjustRate-rest (t .state .rate) (t .state .pitch) (t .state .at) (t .state .tail) (t .frames))
+      let tail : t .state .tail ≡ s .tail = ap (λ (x : State). x .tail) (taken-leaves s .rest) in
+      let pitch : t .state .pitch ≡ s .pitch = ap (λ (x : State). x .pitch) (taken-leaves s .rest) in
+      let rest : List Frame = adjustRate (t .state .rate) (t .state .pitch) (t .state .at) (t .state .tail) (t .frames) .rest in
+      subst (λ (n : ℕ). length rest ≤ n) (λ i. cond (eq (pitch i) one) (length (tail i)) (length (tail i) + length (t .frames)))
+      (adjustRate-rest (t .state .rate) (t .state .pitch) (t .state .at) (t .state .tail) (t .frames))

@@ -34,7 +34,7 @@ change-speed-requires c κs =
         speed-fits = subst T (sym (s .good .1 .0 .1)) tt;
         few = lit≤ tt;
       },
-      (record { period-in = inl refl; min-diff-in = lit≤ tt }, (le-refl 246, le-refl 246, le-refl 246)),
+      (record { period-in = inl refl; min-diff-in = lit≤ tt }, (le-refl 246, le-refl 246, le-refl 246, lit≤ tt)),
     )
 
 enum-told : tie.Need-enum-told
