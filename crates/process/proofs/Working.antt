@@ -30,6 +30,7 @@ use Rattle.stream.specs.State.{State, withTail, withBalance}
 use Rattle.stream.specs.Stream.{stateOf, streamOf, ChangedBy}
 use Rattle.stream.specs.Order.{StateReady, StreamReady}
 use Rattle.stream.specs.Refusals.{stageNeeded}
+use Rattle.stream.proofs.Needed.{needed-straight, needed-joining}
 use Rattle.stream.proofs.Streams.{changed-back, tail-alike, balance-alike, ready-stream, ready-tail, ready-balance}
 use Rattle.fill.specs.declared.Told.{Told}
 use Rattle.process.specs.declared.Work.{Work}
@@ -196,10 +197,6 @@ module _ (s : SonicStream) (d : Filled) (a : Areas) {kept most : ℕ} {entry exi
 -- ---- through the stage, at another pitch than 1.0; it is `middle` after it was filled
 
 module _ (s : SonicStream) (other : eq (s .pitch) one ≡ false) where
-  needed : (n : ℕ) → stageNeeded s n ≡ s .tail .0 + n
-  unfolding stageNeeded
-  needed n = rw other
-
   module _ (d : Filled) (a : Areas) {most : ℕ} (middle : List ℤ)
       (f : FilledAs s (s .tail .0) most (taken (stateOf s (a .input) (a .stage))) (a .input) (a .stage) middle d) (r : StreamReady s) where
     pub finish-ready : AreasReady s a → FinishReady s d (areas (a .input) middle (a .output) [])
@@ -217,7 +214,7 @@ module _ (s : SonicStream) (other : eq (s .pitch) one ≡ false) where
     staged-done b w h =
         let front = behind-front (f .behind) in
         work-done s d a f _ (settled s d a f _ _ (sym front) (sym (f .behind .made))) middle front
-        (rw (needed (length (t s d a f .frames)), staged-is s d a f) (f .behind .fits)) r b w h
+        (rw (needed-joining s (length (t s d a f .frames)) other, staged-is s d a f) (f .behind .fits)) r b w h
 
   -- no room in the stage
   pub staged-full : (a b : Areas) → b .input ≡ a .input → b .output ≡ a .output
@@ -230,7 +227,7 @@ module _ (s : SonicStream) (other : eq (s .pitch) one ≡ false) where
       tail = framesOf-cong (s .channels) (s .tail .0) (b .stage) (a .stage) kept;
       waiting = ap (framesOf (s .channels) (s .waiting .0)) output;
     },
-    rw (needed (length (taken (stateOf s (a .input) (a .stage)) .frames))) over,
+    rw (needed-joining s (length (taken (stateOf s (a .input) (a .stage)) .frames)) other) over,
   )
 
 -- the output can be filled
@@ -249,10 +246,6 @@ made-straight rate pitch at tail fs e = rw e
 -- ---- straight out, at pitch 1.0; the output is `middle` after it was filled
 
 module _ (s : SonicStream) (at-one : eq (s .pitch) one ≡ true) where
-  needed-straight : (n : ℕ) → stageNeeded s n ≡ n
-  unfolding stageNeeded
-  needed-straight n = rw at-one
-
   -- no conversion: the frames go on, and the tail stays
   abbrev straight : List Frame → List Frame → Conversion
   straight tail fs = record { made = fs; rest = tail; at = record { old = s .«old_rate_position»; new = s .«new_rate_position» } }
@@ -307,7 +300,7 @@ module _ (s : SonicStream) (at-one : eq (s .pitch) one ≡ true) where
           let tail = framesOf (s .channels) (s .tail .0) (a .stage) in
           let is = settled s d a f tail (filled .frames) refl refl ∙ straight-is tail (filled .frames) in
           let fits = samples-le (s .channels) (length (filled .frames)) (length (a .stage)) some (f .within) in
-          work-done s d a f conversion is (a .stage) refl (rw (needed-straight (length (filled .frames))) fits) r b w
+          work-done s d a f conversion is (a .stage) refl (rw (needed-straight s (length (filled .frames)) at-one) fits) r b w
           (finish-done s d conversion (areas (a .input) (a .stage) (a .output) []) middle straight-adjusted (areas (b .input) (b .stage) (b .output) []) w h)
 
     -- too many frames for the stage, or no room in the output
@@ -324,7 +317,7 @@ module _ (s : SonicStream) (at-one : eq (s .pitch) one ≡ true) where
       pub straight-over : length (a .stage) / s .channels < length (taken (stateOf s (a .input) (a .stage)) .frames) → WorkEnsures s a b Work.StageFull
       unfolding process finished
       straight-over over =
-          (unchanged, rw (needed-straight (length (filled .frames))) (samples-over (s .channels) (length (filled .frames)) (length (a .stage)) some over))
+          (unchanged, rw (needed-straight s (length (filled .frames)) at-one) (samples-over (s .channels) (length (filled .frames)) (length (a .stage)) some over))
 
       made-all : length (process (stateOf s (a .input) (a .stage)) .frames) ≡ length (filled .frames)
       unfolding process finished stateOf
@@ -340,4 +333,4 @@ module _ (s : SonicStream) (at-one : eq (s .pitch) one ≡ true) where
       unfolding process finished
       straight-full few over =
           let fits = samples-le (s .channels) (length (filled .frames)) (length (a .stage)) some few in
-          (unchanged, rw (needed-straight (length (filled .frames))) fits, rw made-all over)
+          (unchanged, rw (needed-straight s (length (filled .frames)) at-one) fits, rw made-all over)

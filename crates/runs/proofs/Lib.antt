@@ -20,3 +20,4 @@ mod ExampleBalance
 mod ExampleStall
 mod ExampleStepOver
 mod ExampleC
+mod ExampleTail
