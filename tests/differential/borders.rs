@@ -1,5 +1,5 @@
 //! Runs at the borders of the refusals: each field of a stream at its ends and just past them, areas that are exactly long enough or one
-//! sample too short, totals that come to their end or pass it, and stages around a tail near pitch 1. The refusal of the last call is known.
+//! sample too short, totals that come to their end or pass it, and stages around a tail near pitch 1. The last call's refusal is known.
 
 use crate::interface::{Balance, Setting, Stream};
 use crate::made_up;
@@ -201,8 +201,8 @@ pub fn rooms(judge: &Model, seed: u64) -> Vec<Border> {
     writes.into_iter().chain(flushes).flatten().collect()
 }
 
-/// The refusal of a call that copies or stretches some frames and makes others, on a stream with a tail, in stages and outputs of so many
-/// samples: at pitch 1 the stage has to hold the tail and, apart from it, the frames; at another both together.
+/// The refusal of a call on a stream with a tail, in a stage and an output of so many samples. At pitch 1 the stage has to hold the tail, by
+/// 4, and the frames, by 6; at another both together.
 fn refusal_with_tail(stream: &Stream, needs: &ModelNeeds, stage: usize, output: usize) -> u32 {
     let room = |samples: usize| samples / stream.channels as usize;
     let beside = if stream.pitch == 1.0 { 0 } else { stream.tail };

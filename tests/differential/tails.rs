@@ -1,6 +1,6 @@
-//! Figures of the tail at pitch 1, request C-12, with known answers. An editor lowers a voice: 24 frames at pitch and speed 0.5 give 24, which
-//! are read, and 12 stay in the tail. Then the pitch goes back to 1, where 6 counts the frames of a call alone: the stage has to hold the
-//! tail or the frames, whichever are more, and not both.
+//! Figures of the tail at pitch 1, request C-12, with known answers. An editor lowers a voice: 24 frames at pitch and speed 0.5 give 24,
+//! which are read, and 12 stay in the tail. Then the pitch goes back to 1, where 6 counts the frames of a call alone: the stage has to hold
+//! the tail or the frames, whichever are more, and not both.
 
 use std::ops::Range;
 
@@ -199,8 +199,8 @@ fn stretches() -> Vec<Figure> {
     ]
 }
 
-/// Flushes back at pitch 1: 492 silent frames are copied, and as many as the tail has are kept; with 100 frames held at speed 2, 176 are made
-/// and 62 kept.
+/// Flushes back at pitch 1: 492 silent frames are copied, and as many as the tail has are kept; with 100 frames held at speed 2, 176 are
+/// made and 62 kept.
 fn flushes() -> Vec<Figure> {
     let flush = |input, stage, output| Call::Flush { areas: areas(input, stage, output, 246) };
     let of_tail = |stage, output| back(1.0, &[flush(492, stage, output)]);

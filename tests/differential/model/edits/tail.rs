@@ -27,9 +27,11 @@ edits! {
             if work.stream.pitch == 1.0 { Ok(()) } else { Right.stage_refusal(work, room) }
         }
     }
-    TailOutsideAreasAtOne, "4 leaves out the tail at pitch 1", Order {
-        fn areas_in_order(&self, stream: &Stream, areas: &Areas<'_>) -> bool {
-            Right.areas_in_order(&Stream { tail: if stream.pitch == 1.0 { 0 } else { stream.tail }, ..*stream }, areas)
+    TailAboveStageIsSix, "at pitch 1 a stage shorter than the tail is 6 and not 4", Order {
+        fn early_refusal(&self, stream: &Stream, in_order: bool, areas: &Areas<'_>) -> Option<u32> {
+            let refusal = Right.early_refusal(stream, in_order, areas);
+            let tail_alone = refusal.is_some() && Right.early_refusal(&Stream { tail: 0, ..*stream }, in_order, areas).is_none();
+            if stream.pitch == 1.0 && tail_alone { Some(6) } else { refusal }
         }
     }
     OutputEndsSteps, "at pitch 1, 7 told at the first step that the output does not hold", Order {
