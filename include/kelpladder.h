@@ -3,7 +3,8 @@
  * A sample in an area is one int16_t; a frame is one sample per channel, interleaved. Counts of frames and of samples are named for
  * their unit. The stream is a value: each call takes one and hands one back. Its samples are in four areas that the caller lends:
  *   input    written frames not yet used
- *   stage    the tail of the rate conversion, and the stretched frames of a call
+ *   stage    the tail of the rate conversion, and behind it the frames that a call copies or stretches. At pitch 1 these go straight from
+ *            the input to the output: the stage then needs the length of the tail or of these frames, whichever is more, not of both
  *   output   frames waiting to be read
  *   scratch  averages; free after any call
  * The caller passes the stream and the areas of the call before, and changes neither. Areas may be longer or shorter from call to call.
@@ -36,7 +37,7 @@ enum kelpladder_refusal {
     KELPLADDER_BAD_STREAM = 3,   /* the stream value is not in order */
     KELPLADDER_BAD_AREAS = 4,    /* an area above 16,777,216 samples, a scratch below 2*(rate/65), or an area below what the stream holds */
     KELPLADDER_INPUT_FULL = 5,   /* frames held plus frames added exceed the input area */
-    KELPLADDER_STAGE_FULL = 6,   /* tail plus stretched or copied frames exceed the stage */
+    KELPLADDER_STAGE_FULL = 6,   /* tail plus frames copied or stretched exceed the stage; at pitch 1 these frames alone */
     KELPLADDER_OUTPUT_FULL = 7,  /* frames waiting plus frames made exceed the output area */
     KELPLADDER_TOTAL_FULL = 12   /* a total of the balance would pass 64 bits */
 };

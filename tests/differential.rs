@@ -54,6 +54,8 @@ mod shrink;
 mod signals;
 #[path = "../../tests/differential/streams.rs"]
 mod streams;
+#[path = "../../tests/differential/tails.rs"]
+mod tails;
 #[path = "../../tests/differential/tally.rs"]
 mod tally;
 

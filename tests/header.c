@@ -64,12 +64,17 @@ static kelpladder_stream fresh(uint32_t channels)
     return opened.stream;
 }
 
-static kelpladder_stream with(float speed, float pitch)
+static kelpladder_stream set_both(kelpladder_stream stream, float speed, float pitch)
 {
-    kelpladder_changed faster = kelpladder_set_speed(fresh(1), speed);
+    kelpladder_changed faster = kelpladder_set_speed(stream, speed);
     kelpladder_changed changed = kelpladder_set_pitch(faster.stream, pitch);
     CHECK(faster.refusal == KELPLADDER_ACCEPTED && changed.refusal == KELPLADDER_ACCEPTED);
     return changed.stream;
+}
+
+static kelpladder_stream with(float speed, float pitch)
+{
+    return set_both(fresh(1), speed, pitch);
 }
 
 /* Writes with areas of these lengths. */
@@ -345,6 +350,65 @@ static void pitches(void)
     CHECK(wrote.told.outcome == KELPLADDER_COPIED && wrote.stream.waiting == 200 && wrote.stream.tail == 12);
 }
 
+/* A lowered voice, which leaves a tail of 12 and 24 frames waiting; then this speed and pitch. */
+static kelpladder_stream lowered(float speed, float pitch)
+{
+    kelpladder_wrote wrote;
+    speak(0, 4000, 62);
+    wrote = write_all(with(0.5f, 0.5f), voice, 24);
+    CHECK(wrote.told.outcome == KELPLADDER_COPIED && wrote.stream.waiting == 24 && wrote.stream.tail == 12);
+    return set_both(wrote.stream, speed, pitch);
+}
+
+/* Back at pitch 1 the stage needs room for the tail or for the frames of a write, whichever are more, and not for both. The tail stays, and
+   goes out first when the voice is lowered again. */
+static void keeps_the_tail(void)
+{
+    kelpladder_stream back = lowered(1.0f, 1.0f);
+    kelpladder_wrote wrote;
+    int16_t tail[12], waiting[24], again[40];
+    size_t i;
+    memcpy(tail, stage, sizeof tail);
+    memcpy(waiting, output, sizeof waiting);
+    refuses_write(back, 20, AREA, 19, AREA, REQUIRED, KELPLADDER_STAGE_FULL);
+    refuses_write(back, 20, AREA, 19, 24, REQUIRED, KELPLADDER_STAGE_FULL);
+    refuses_write(back, 20, AREA, 20, 43, REQUIRED, KELPLADDER_OUTPUT_FULL);
+    refuses_write(back, 20, AREA, 11, AREA, REQUIRED, KELPLADDER_BAD_AREAS);
+    CHECK(memcmp(tail, stage, sizeof tail) == 0 && memcmp(waiting, output, sizeof waiting) == 0);
+    wrote = write_in(back, voice + 24, 20, AREA, 20, 44, REQUIRED);
+    CHECK(wrote.refusal == KELPLADDER_ACCEPTED && wrote.told.outcome == KELPLADDER_COPIED && wrote.stream.waiting == 44);
+    CHECK(wrote.stream.tail == 12 && memcmp(tail, stage, sizeof tail) == 0 && memcmp(waiting, output, sizeof waiting) == 0);
+    for (i = 24; i < 44; i++)
+        CHECK(output[i] == (int16_t)(voice[i] * 32767.0f));
+    wrote = write_in(wrote.stream, voice + 44, 5, AREA, 12, AREA, REQUIRED);
+    CHECK(wrote.refusal == KELPLADDER_ACCEPTED && wrote.stream.waiting == 49 && memcmp(tail, stage, sizeof tail) == 0);
+    wrote = write_all(set_both(wrote.stream, 0.5f, 0.5f), voice + 49, 20);
+    CHECK(wrote.told.outcome == KELPLADDER_COPIED && wrote.stream.waiting == 89 && wrote.stream.tail == 12);
+    memcpy(again, output + 49, sizeof again);
+    wrote = write_all(lowered(0.5f, 0.5f), voice + 49, 20);
+    CHECK(wrote.stream.waiting == 64 && memcmp(again, output + 24, sizeof again) == 0);
+}
+
+/* The same with three skips of 62 frames and with a flush, which copies 492 silent frames; beside pitch 1 the tail counts. */
+static void counts_the_frames_alone(void)
+{
+    kelpladder_stream faster = lowered(2.0f, 1.0f), back, beside;
+    kelpladder_wrote wrote;
+    refuses_write(faster, 500, AREA, 185, AREA, REQUIRED, KELPLADDER_STAGE_FULL);
+    refuses_write(faster, 500, AREA, 185, 24 + 62, REQUIRED, KELPLADDER_STAGE_FULL);
+    refuses_write(faster, 500, AREA, 186, 24 + 62, REQUIRED, KELPLADDER_OUTPUT_FULL);
+    wrote = write_in(faster, voice, 500, AREA, 186, 24 + 186, REQUIRED);
+    CHECK(wrote.told.outcome == KELPLADDER_STRETCHED && wrote.stream.waiting == 24 + 186 && wrote.stream.tail == 12);
+    back = lowered(1.0f, 1.0f);
+    CHECK(flush_in(back, AREA, 491, 24).refusal == KELPLADDER_STAGE_FULL);
+    CHECK(flush_in(back, AREA, 492, 24 + 491).refusal == KELPLADDER_OUTPUT_FULL);
+    wrote = flush_in(back, AREA, 492, 24 + 492);
+    CHECK(wrote.told.outcome == KELPLADDER_COPIED && wrote.stream.waiting == 24 + 12 && wrote.stream.tail == 0);
+    beside = lowered(0.99999994f, 0.99999994f);
+    refuses_write(beside, 20, AREA, 31, AREA, REQUIRED, KELPLADDER_STAGE_FULL);
+    CHECK(write_in(beside, voice, 20, AREA, 32, AREA, REQUIRED).refusal == KELPLADDER_ACCEPTED);
+}
+
 /* Speed 20, pitch 0.5: a period of 62 gives one frame, one of 34 none. */
 static void stalls(void)
 {
@@ -552,6 +616,8 @@ int main(void)
     gives();
     stretches();
     pitches();
+    keeps_the_tail();
+    counts_the_frames_alone();
     stalls();
     leaves_stalls();
     flushes();

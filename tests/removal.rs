@@ -1,7 +1,8 @@
 //! Frames removed from the front of an area. Random removals first, each beside a vector of which the same samples are removed. Then, since
 //! no contract shows how often a sample is moved, that is counted: this program runs itself with the word `calls` under lackey, the tool
 //! of valgrind's that lists every load and every store, and compares those in the areas with what each call may do to them: nothing is
-//! moved where no frames go or none remain, and else each remaining sample once. Where valgrind is not there it says so.
+//! moved where no frames go or none remain, and else each remaining sample once; and at pitch 1 the frames go from the input straight to
+//! the output, and the stage is not touched at all. Where valgrind is not there it says so.
 
 #[path = "../bindings/rust/src/calls.rs"]
 #[allow(dead_code)]
@@ -48,14 +49,38 @@ const COPIED: u32 = 1;
 const WAITING: u32 = 2;
 const STRETCHED: u32 = 3;
 
+const STAGE_FULL: u32 = 6;
+const OUTPUT_FULL: u32 = 7;
+
 /// Stored to before and after each call that is looked at.
 static MARK: AtomicUsize = AtomicUsize::new(0);
 
-/// What one call may do to the areas: the places stored to, and those loaded from if that is looked at, each once for each range.
+/// What one call may do to the areas: the places stored to, and those loaded from.
 struct Case {
     name: &'static str,
-    stored: Vec<Range<usize>>,
-    loaded: Option<Vec<Range<usize>>>,
+    stored: Places,
+    loaded: Places,
+}
+
+/// Places touched, each once for each range; only those within a part are looked at.
+struct Places {
+    within: Range<usize>,
+    touched: Vec<Range<usize>>,
+}
+
+/// These places and no others.
+fn only(touched: Vec<Range<usize>>) -> Places {
+    Places { within: 0..MEMORY, touched }
+}
+
+/// None of the stage; the other areas are not looked at.
+fn none_of_stage() -> Places {
+    Places { within: STAGE..OUTPUT, touched: Vec::new() }
+}
+
+/// Any places.
+fn any() -> Places {
+    Places { within: 0..0, touched: Vec::new() }
 }
 
 /// The place of `count` samples from `from` on.
@@ -91,35 +116,56 @@ impl Calls {
         self.look(|memory| remove_front(&mut memory[..LENGTH], count, kept));
         let rest = moved(0, count, kept);
         let loaded = vec![span(count, rest.len())];
-        self.cases.push(Case { name, stored: vec![rest], loaded: Some(loaded) });
+        self.cases.push(Case { name, stored: only(vec![rest]), loaded: only(loaded) });
     }
 
     fn set(&mut self, speed: f32, pitch: f32) {
         self.stream = calls::set_pitch(calls::set_speed(self.stream, speed).stream, pitch).stream;
     }
 
-    fn write(&mut self, name: &'static str, frames: usize, outcome: u32) {
-        let (before, samples) = (self.stream, signals::voice(62, frames, 1));
-        let mut scratch = [0; 246];
-        let answer = self.look(|memory| {
+    /// A write with so many samples of stage and output.
+    fn write_in(&mut self, frames: usize, stage_length: usize, output_length: usize) -> calls::Wrote {
+        let (stream, samples, mut scratch) = (self.stream, signals::voice(62, frames, 1), [0; 246]);
+        self.look(|memory| {
             let (input, others) = memory.split_at_mut(LENGTH);
             let (stage, output) = others.split_at_mut(LENGTH);
-            calls::write_f32(before, &samples, calls::Areas { input, stage, output, scratch: &mut scratch })
-        });
+            let (stage, output) = (&mut stage[..stage_length], &mut output[..output_length]);
+            calls::write_f32(stream, &samples, calls::Areas { input, stage, output, scratch: &mut scratch })
+        })
+    }
+
+    /// A write; at another pitch than 1 all of them here copy.
+    fn write(&mut self, name: &'static str, frames: usize, outcome: u32) {
+        let (before, answer) = (self.stream, self.write_in(frames, LENGTH, LENGTH));
         assert_eq!((answer.refusal, answer.told.outcome), (0, outcome), "{name}");
         let after = answer.stream;
         let (used, made) = (before.held + frames - after.held, after.waiting - before.waiting);
-        // At another pitch than 1 all calls here copy.
-        let (staged, consumed) = if before.pitch == 1.0 { (made, 0) } else { (used, before.tail + used - after.tail) };
-        let stored = vec![
-            span(before.held, frames),
-            span(STAGE + before.tail, staged),
-            span(OUTPUT + before.waiting, made),
-            moved(0, used, after.held),
-            moved(STAGE, consumed, after.tail),
-        ];
+        let mut stored = vec![span(before.held, frames), span(OUTPUT + before.waiting, made), moved(0, used, after.held)];
+        if before.pitch != 1.0 {
+            stored.extend([span(STAGE + before.tail, used), moved(STAGE, before.tail + used - after.tail, after.tail)]);
+        }
         self.stream = after;
-        self.cases.push(Case { name, stored, loaded: None });
+        let loaded = if before.pitch == 1.0 { none_of_stage() } else { any() };
+        self.cases.push(Case { name, stored: only(stored), loaded });
+    }
+
+    /// A write at pitch 1 that is refused.
+    fn refused(&mut self, name: &'static str, frames: usize, (stage, output): (usize, usize), refusal: u32) {
+        assert_eq!((self.write_in(frames, stage, output).refusal, self.stream.pitch), (refusal, 1.0), "{name}");
+        self.cases.push(Case { name, stored: none_of_stage(), loaded: none_of_stage() });
+    }
+
+    /// A flush at pitch 1.
+    fn flush(&mut self, name: &'static str, outcome: u32) {
+        let (before, mut scratch) = (self.stream, [0; 246]);
+        let answer = self.look(|memory| {
+            let (input, others) = memory.split_at_mut(LENGTH);
+            let (stage, output) = others.split_at_mut(LENGTH);
+            calls::flush(before, calls::Areas { input, stage, output, scratch: &mut scratch })
+        });
+        assert_eq!((answer.refusal, answer.told.outcome, before.pitch), (0, outcome, 1.0), "{name}");
+        self.stream = answer.stream;
+        self.cases.push(Case { name, stored: none_of_stage(), loaded: none_of_stage() });
     }
 
     fn read(&mut self, name: &'static str, most: usize) {
@@ -129,7 +175,7 @@ impl Calls {
         let rest = moved(OUTPUT, answer.frames, answer.stream.waiting);
         let loaded = vec![span(OUTPUT, answer.frames), span(OUTPUT + answer.frames, rest.len())];
         self.stream = answer.stream;
-        self.cases.push(Case { name, stored: vec![rest], loaded: Some(loaded) });
+        self.cases.push(Case { name, stored: only(vec![rest]), loaded: only(loaded) });
     }
 }
 
@@ -153,11 +199,19 @@ fn every_call() -> Calls {
     calls.read("read of nothing waiting", usize::MAX);
     calls.set(1.0, 1.0);
     calls.write("copied at pitch 1, the tail stays", 500, COPIED);
+    calls.refused("copied at pitch 1, the stage full", 20, (19, LENGTH), STAGE_FULL);
+    calls.refused("copied at pitch 1, the output full", 20, (LENGTH, 519), OUTPUT_FULL);
     calls.set(2.0, 1.0);
     calls.write("waiting, no input used", 100, WAITING);
+    calls.refused("stretched, the output full and then the stage", 900, (300, 600), STAGE_FULL);
     calls.write("stretched, some input left", 300, STRETCHED);
     assert!(calls.stream.held > 0 && calls.stream.tail > 0);
     calls.read("read of all behind a stretch", usize::MAX);
+    calls.set(0.7, 1.0);
+    calls.write("stretched to more frames", 600, STRETCHED);
+    calls.flush("flushed, stretched", STRETCHED);
+    calls.set(1.0, 1.0);
+    calls.flush("flushed, copied", COPIED);
     calls
 }
 
@@ -197,16 +251,22 @@ fn touched_in(list: &str, memory: usize, mark: usize) -> Vec<Touched> {
     all
 }
 
+/// The area of a place, and the place in it.
+fn area(place: usize) -> String {
+    format!("{} of the {}", place % LENGTH, ["input", "stage", "output"][place / LENGTH])
+}
+
 /// That both bytes of each sample are touched as often as is wanted.
-fn compare(case: &str, what: &str, bytes: &[u32], wanted: &[Range<usize>]) {
-    let wanted = times(wanted);
-    for (byte, &count) in bytes.iter().enumerate() {
-        let (place, right) = (byte / 2, wanted[byte / 2]);
-        assert!(count == right, "{case}: the sample at {place} is {what} {count} times, and should be {right} times");
+fn compare(case: &str, what: &str, bytes: &[u32], wanted: &Places) {
+    let times = times(&wanted.touched);
+    for place in wanted.within.clone() {
+        let (counts, right) = (&bytes[2 * place..2 * place + 2], times[place]);
+        assert!(counts == [right; 2], "{case}: the sample at {} is {what} {counts:?} times, and should be {right} times", area(place));
     }
 }
 
 fn count_moves() {
+    let calls = every_call();
     let program = std::env::current_exe().expect("this program");
     let list = program.with_extension("list");
     let lackey = Command::new("valgrind")
@@ -223,11 +283,11 @@ fn count_moves() {
     let addresses: Vec<usize> = addresses.split_whitespace().map(|word| word.parse().expect("an address")).collect();
     let text = std::fs::read_to_string(&list).expect("the list");
     std::fs::remove_file(&list).expect("the list");
-    let (calls, touched) = (every_call(), touched_in(&text, addresses[0], addresses[1]));
+    let touched = touched_in(&text, addresses[0], addresses[1]);
     assert_eq!(touched.len(), calls.cases.len());
     for (case, touched) in calls.cases.iter().zip(&touched) {
         compare(case.name, "stored to", &touched.stored, &case.stored);
-        case.loaded.iter().for_each(|loaded| compare(case.name, "loaded from", &touched.loaded, loaded));
+        compare(case.name, "loaded from", &touched.loaded, &case.loaded);
     }
     let moves: u32 = touched.iter().flat_map(|touched| &touched.stored).sum();
     println!("removal: in {} calls each sample is stored as often as it may be, {} times in all", touched.len(), moves / 2);

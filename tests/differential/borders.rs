@@ -1,9 +1,10 @@
 //! Runs at the borders of the refusals: each field of a stream at its ends and just past them, areas that are exactly long enough or one
-//! sample too short, and totals that come to their end or pass it. The refusal of the last call is known.
+//! sample too short, totals that come to their end or pass it, and stages around a tail near pitch 1. The last call's refusal is known.
 
 use crate::interface::{Balance, Setting, Stream};
 use crate::made_up;
 use crate::model::settings::{max_required, sample_period};
+use crate::model::write::Needs as ModelNeeds;
 use crate::model::Model;
 use crate::run::{Call, Kept, Lengths};
 use crate::signals::{Random, Signal};
@@ -197,5 +198,59 @@ pub fn rooms(judge: &Model, seed: u64) -> Vec<Border> {
     let flush = needs(judge, &stream, &kept, &silence);
     let writes = write.map(|needs| at_full_totals(&needs, stream, &kept, &|areas| Call::Write { samples: samples.clone(), areas }));
     let flushes = flush.map(|needs| at_full_totals(&needs, stream, &kept, &|areas| Call::Flush { areas }));
+    writes.into_iter().chain(flushes).flatten().collect()
+}
+
+/// The refusal of a call on a stream with a tail, in a stage and an output of so many samples. At pitch 1 the stage has to hold the tail, by
+/// 4, and the frames, by 6; at another both together.
+fn refusal_with_tail(stream: &Stream, needs: &ModelNeeds, stage: usize, output: usize) -> u32 {
+    let room = |samples: usize| samples / stream.channels as usize;
+    let beside = if stream.pitch == 1.0 { 0 } else { stream.tail };
+    if room(stage) < stream.tail || room(output) < stream.waiting {
+        4
+    } else if room(stage) < beside + needs.frames {
+        6
+    } else if room(output) < stream.waiting + needs.made {
+        7
+    } else {
+        0
+    }
+}
+
+/// A call on a stream with a tail, in stages that hold the tail, the frames, or both, or one sample less; and in outputs that hold what is
+/// made, one sample less, or what waits and no more.
+fn around_tail(needs: &ModelNeeds, stream: Stream, kept: &Kept, input: usize, call: &dyn Fn(Lengths) -> Call) -> Vec<Border> {
+    let (channels, scratch) = (stream.channels as usize, max_required(stream.rate));
+    let stages = [stream.tail, needs.frames, stream.tail + needs.frames].map(|frames| frames * channels);
+    let (before, after) = (stream.waiting * channels, (stream.waiting + needs.made) * channels);
+    let mut lengths: Vec<(usize, usize)> = Vec::new();
+    for stage in stages.into_iter().flat_map(|stage| [stage, stage.saturating_sub(1)]) {
+        lengths.extend([before, after.saturating_sub(1), after].map(|output| (stage, output)));
+    }
+    lengths.sort_unstable();
+    lengths.dedup();
+    let border = |(stage, output)| Border {
+        name: "a tail near pitch 1",
+        calls: vec![Call::Made { stream, kept: kept.clone() }, call(Lengths { input: input * channels, stage, output, scratch })],
+        refusal: refusal_with_tail(&stream, needs, stage, output),
+    };
+    lengths.into_iter().map(border).collect()
+}
+
+/// Writes and flushes on made-up streams with a tail, at pitch 1 or just beside it, in such areas.
+pub fn tails(judge: &Model, seed: u64) -> Vec<Border> {
+    let mut random = Random::new(seed);
+    let rate = random.one_of(&[1_000, 2_345, 4_001, 8_000]);
+    let channels = random.between(1, 3);
+    let mut signal = Signal::new(&mut random, rate);
+    let (stream, kept) = made_up::with_tail(&mut random, judge, rate, channels as u32, &mut signal);
+    let frames = random.one_of(&[1, 5, 12, 40, max_required(rate)]);
+    let samples = signal.frames(&mut random, frames, channels);
+    let added: Vec<i16> = samples.iter().map(|&sample| judge.rules.write.sample_in(sample)).collect();
+    let silence = 2 * max_required(rate);
+    let needs = |added: &[i16]| judge.needs(stream, &kept.input, &kept.tail, added, 20_000);
+    let around = |needs: ModelNeeds, more, call: &dyn Fn(Lengths) -> Call| around_tail(&needs, stream, &kept, stream.held + more, call);
+    let writes = needs(&added).map(|needs| around(needs, frames, &|areas| Call::Write { samples: samples.clone(), areas }));
+    let flushes = needs(&vec![0; silence * channels]).map(|needs| around(needs, silence, &|areas| Call::Flush { areas }));
     writes.into_iter().chain(flushes).flatten().collect()
 }

@@ -9,6 +9,7 @@ use crate::model::settings::{max_required, sample_period};
 use crate::passes::passes;
 use crate::run::{Call, Kept, Lengths};
 use crate::signals::pulses;
+use crate::tails::tails;
 
 /// A run with the refusal, the outcome and the frames of its last call, and, where they are known, the samples that it leaves in the output,
 /// the totals that it leaves, the periods passed over in its last call, and the setting to step over that it leaves.
@@ -240,8 +241,9 @@ fn absurd() -> Vec<Figure> {
 
 /// Every figure.
 pub fn figures() -> Vec<Figure> {
-    let all = [samples(), refusals(), local_speeds(), steps(), conversions(), balances(), passes(), absurd(), tables(), longest()];
-    all.into_iter().flatten().collect()
+    let known = [samples(), refusals(), local_speeds(), steps(), conversions(), balances(), passes(), tails()];
+    let all = known.into_iter().chain([absurd(), tables(), longest()]);
+    all.flatten().collect()
 }
 
 /// Openings of every rate.

@@ -2,7 +2,7 @@
 
 use std::time::Instant;
 
-use crate::borders::{openings, orders, rooms, Border};
+use crate::borders::{openings, orders, rooms, tails, Border};
 use crate::figures::{every_rate, figures, large, rate_borders, Figure};
 use crate::run::{parse, text};
 use crate::runner::{Bench, Failure};
@@ -13,6 +13,8 @@ use crate::{model_with, subject};
 const FIXED_RUNS: u64 = 5_000;
 /// Made-up streams whose calls are tried in areas just long enough and one sample short.
 const BORDER_SEEDS: u64 = 300;
+/// Made-up streams with a tail whose calls are tried in stages around it.
+const TAIL_SEEDS: u64 = 150;
 
 /// Plays a figure; its last answer has to be the one known, and so have the periods passed over, the samples left in the output, the totals
 /// and the setting to step over, where they are known.
@@ -51,6 +53,7 @@ pub fn first_runs(bench: &mut Bench<'_>, random_runs: u64) -> Result<(), Failure
     orders().into_iter().try_for_each(|border| play_border(bench, border))?;
     let model = model_with(0);
     (0..BORDER_SEEDS).flat_map(|seed| rooms(&model, seed)).try_for_each(|border| play_border(bench, border))?;
+    (0..TAIL_SEEDS).flat_map(|seed| tails(&model, seed)).try_for_each(|border| play_border(bench, border))?;
     rate_borders().into_iter().try_for_each(|calls| bench.play(&calls).map(|_| ()))?;
     (0..random_runs).try_for_each(|seed| bench.random(seed))
 }

@@ -124,6 +124,21 @@ pub fn in_order(random: &mut Random, judge: &Model, rate: u32, channels: u32, si
     (stream, Kept { input, tail, output })
 }
 
+/// A stream in order with a tail, at pitch 1 or just beside it, and totals far from their end; often it holds nothing and will copy.
+pub fn with_tail(random: &mut Random, judge: &Model, rate: u32, channels: u32, signal: &mut Signal) -> (Stream, Kept) {
+    let (mut stream, mut kept) = in_order(random, judge, rate, channels, signal);
+    stream.pitch = random.one_of(&[1.0, 1.0, 1.0, 0.99999994, 1.0000001]);
+    positions(random, judge, &mut stream);
+    stream.tail = random.one_of(&[1, 5, 11, 12, 12, 13, 40]);
+    kept.tail = signal.samples(random, stream.tail, channels as usize);
+    stream.balance = Balance::default();
+    if random.once_in(2) {
+        (stream.held, stream.input_play_time, stream.speed) = (0, 0.0, stream.pitch);
+        kept.input.clear();
+    }
+    (stream, kept)
+}
+
 /// Puts the two positions at a random place in order; often at the last before both become 0.
 fn positions(random: &mut Random, judge: &Model, stream: &mut Stream) {
     let (new, old) = judge.rules.rate.rates(stream.rate, stream.pitch);

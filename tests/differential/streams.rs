@@ -26,6 +26,7 @@ enum Mood {
     MadeUp,
     Stall,
     Copy,
+    Lowered,
     Tight,
     Refused,
 }
@@ -70,8 +71,8 @@ impl Scenario {
     /// The run of a seed.
     pub fn new(seed: u64) -> Scenario {
         let mut random = Random::new(seed);
-        use Mood::{Copy, MadeUp, Ordinary, Refused, Stall, Tight};
-        let moods = [Ordinary, Ordinary, Ordinary, Ordinary, MadeUp, MadeUp, MadeUp, MadeUp, Stall, Copy, Copy, Tight, Tight];
+        use Mood::{Copy, Lowered, MadeUp, Ordinary, Refused, Stall, Tight};
+        let moods = [Ordinary, Ordinary, Ordinary, Ordinary, MadeUp, MadeUp, MadeUp, MadeUp, Stall, Copy, Copy, Lowered, Tight, Tight];
         let mood = if random.once_in(30) { Refused } else { random.one_of(&moods) };
         let rate = random_rate(&mut random);
         let channels = random_channels(&mut random, rate);
@@ -106,6 +107,7 @@ impl Scenario {
                 let both = made_up::ratio(random);
                 (both, both)
             }
+            Mood::Lowered => (0.5, 0.5),
             _ => (made_up::ratio(random), if random.once_in(3) { 1.0 } else { made_up::ratio(random) }),
         };
         self.next = vec![Call::Set(Setting::Pitch(pitch)), Call::Set(Setting::Speed(speed))];
@@ -135,6 +137,7 @@ impl Scenario {
         match self.random.below(100) {
             0..=4 if self.mood == Mood::Refused => Call::Open { rate: self.random.one_of(&RATES), channels: 1 + self.random.below(33) as u32 },
             0..=29 if self.mood == Mood::MadeUp => self.made_up(session),
+            0..=29 if self.mood == Mood::Lowered => self.turn_pitch(session),
             0..=2 => self.made_up(session),
             3..=6 => self.setting(session),
             7 => Call::Available,
@@ -181,6 +184,16 @@ impl Scenario {
         Call::Set(setting)
     }
 
+    /// The pitch back to 1, or away from it, and then a speed, often one at which frames are copied.
+    fn turn_pitch(&mut self, session: &Session<'_>) -> Call {
+        let random = &mut self.random;
+        let away = if random.once_in(2) { made_up::ratio(random) } else { random.one_of(&[0.5, 0.8, 2.0, 0.99999994, 1.0000001]) };
+        let pitch = if session.stream.pitch == 1.0 { away } else { 1.0 };
+        let speed = if random.once_in(2) { pitch } else { random.one_of(&[2.0, 0.5, 1.3, 0.8, 20.0]) };
+        self.next.push(Call::Set(Setting::Speed(speed)));
+        Call::Set(Setting::Pitch(pitch))
+    }
+
     /// The frames of a write.
     fn write_frames(&mut self) -> usize {
         let required = max_required(self.rate.clamp(1_000, 500_000));
@@ -221,7 +234,7 @@ impl Scenario {
 
     /// Areas for a call that adds frames: ample, or exactly what it needs, or one less in one of them.
     fn areas(&mut self, session: &Session<'_>, samples: &[f32], frames: usize) -> Lengths {
-        let tight = if self.mood == Mood::Tight { 2 } else { 8 };
+        let tight = if [Mood::Tight, Mood::Lowered].contains(&self.mood) { 2 } else { 8 };
         if self.random.once_in(tight) {
             if let Some(exact) = self.exact_areas(session, samples, frames) {
                 return exact;
@@ -261,6 +274,8 @@ impl Scenario {
         let needs = session.judge().needs(*stream, &session.kept.input, &session.kept.tail, &added, AMPLE / channels)?;
         let exact = [stream.held + frames, needs.staged, stream.waiting + needs.made].map(|count| count * channels);
         let [input, stage, output] = exact.map(|length| self.near(length, channels));
+        let parts = [stream.tail, needs.frames, stream.tail + needs.frames].map(|frames| frames * channels);
+        let stage = if self.mood == Mood::Lowered && self.random.once_in(2) { self.random.one_of(&parts) } else { stage };
         let required = max_required(stream.rate);
         let scratch = if self.random.once_in(12) { required - 1 } else { required };
         Some(Lengths { input, stage, output, scratch })

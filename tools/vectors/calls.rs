@@ -112,7 +112,9 @@ impl Session {
         let mut added = copy_of(&before);
         add(&mut added);
         let stretched = stretched(&added, self.over());
-        if !self.room((before.pitch_frames() + stretched.made) as u64, stage) {
+        let tail = if before.pitch == 1.0 { 0 } else { before.pitch_frames() };
+        if !self.room((tail + stretched.made) as u64, stage) {
+            self.count_with_tail(stretched.made, 6);
             return Err(6);
         }
         let mut done = copy_of(&added);
@@ -122,12 +124,29 @@ impl Session {
             if totals.is_none() {
                 self.census.count("7 before 12");
             }
+            self.count_with_tail(stretched.made, 7);
             return Err(7);
         }
         if totals.is_none() && stretched.passed > 0 {
             self.census.count("12 where periods would be passed over");
         }
-        Ok(Tried { before, added, done, stretched, totals: totals.ok_or(12u32)? })
+        let totals = totals.ok_or(12u32)?;
+        self.count_with_tail(stretched.made, 0);
+        Ok(Tried { before, added, done, stretched, totals })
+    }
+
+    /// Counts a call at pitch 1 that finds a tail and copies or stretches so many frames, by its refusal and the room that it finds.
+    fn count_with_tail(&mut self, frames: usize, refusal: u32) {
+        let ([_, stage, output, _], tail, frames) = (self.lent, self.fields[TAIL], frames as u64);
+        if tail == 0 || float(self.fields[PITCH]) != 1.0 {
+            return;
+        }
+        match refusal {
+            0 if !self.room(tail + frames, stage) => self.census.count("tail and frames above the stage"),
+            0 => (),
+            6 if !self.room(self.fields[WAITING] + frames, output) => self.census.count("6 with a tail at pitch 1, the output full"),
+            number => self.census.count(&format!("{number} with a tail at pitch 1")),
+        }
     }
 
     /// A write or a flush: `add` puts its frames behind those held, `call` is the original's call, or that of the copy that steps over.

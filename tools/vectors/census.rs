@@ -10,7 +10,7 @@ struct Census(BTreeMap<String, usize>);
 const FULL: [u64; 2] = [u64::MAX; 2];
 
 /// What the runs have to touch.
-const TOUCHED: [&str; 74] = [
+const TOUCHED: [&str; 78] = [
     "write empty", "write copied", "write waiting", "write stretched", "write stalled", "flush copied", "flush stretched", "flush stalled",
     "open refused 1", "open refused 2", "speed refused 3", "pitch refused 3", "volume refused 3", "available refused 3",
     "read refused 3", "read refused 4",
@@ -27,7 +27,8 @@ const TOUCHED: [&str; 74] = [
     "step copying, s > 1", "step copying, s < 1", "step copying all that is left", "step skip, s < 2", "step skip, s >= 2", "step insert, s > 0.5",
     "step insert, s <= 0.5", "step insert of 1 frame", "step stall after frames", "previous period used",
     "search of samples", "search of averages, skip 1", "search twice, 1 channel", "search twice, more channels",
-    "tail kept at pitch 1", "rates halved", "rate positions back to 0",
+    "tail kept at pitch 1", "tail and frames above the stage", "6 with a tail at pitch 1", "6 with a tail at pitch 1, the output full",
+    "7 with a tail at pitch 1", "rates halved", "rate positions back to 0",
 ];
 
 impl Census {

@@ -145,9 +145,9 @@ fn short_areas(r: &mut Runs) {
     r.run("5: flush", [551, 900, 900, 300], 8_000, 1).speed(2.0).write(NOISE, 1, 1, 60).flush().lend([552, 900, 900, 300]).flush();
     r.read(900, 900);
     r.run("6: stage of 50", [500, 50, 500, 300], 8_000, 1).write(NOISE, 1, 1, 51).write(NOISE, 1, 1, 50).flush().read(90, 90);
-    r.run("6: the tail counts, at pitch 1 too", [900, 60, 900, 300], 8_000, 1).pitch(2.0).speed(2.0).write(VOICE, 1, 50, 60);
+    r.run("6: the tail counts, but not at pitch 1", [900, 60, 900, 300], 8_000, 1).pitch(2.0).speed(2.0).write(VOICE, 1, 50, 60);
     r.write(VOICE, 61, 50, 49);
-    r.write(VOICE, 61, 50, 48).pitch(1.0).speed(1.0).write(VOICE, 109, 50, 49).write(VOICE, 109, 50, 48).flush().read(200, 200);
+    r.write(VOICE, 61, 50, 48).pitch(1.0).speed(1.0).write(VOICE, 109, 50, 61).write(VOICE, 109, 50, 60).flush().read(200, 200);
     r.run("6: of a stretch", [2_000, 243, 2_000, 300], 8_000, 1).speed(0.7).write(VOICE, 1, 62, 400).lend([2_000, 600, 2_000, 300]);
     r.write(VOICE, 1, 62, 400).flush();
     r.run("7: output of 50, stage of 60", [500, 60, 50, 300], 8_000, 1).write(NOISE, 1, 1, 51).write(NOISE, 1, 1, 50).write(NOISE, 2, 1, 1);

@@ -8,7 +8,8 @@ pub const MAX_SAMPLES: usize = 1 << 24;
 /// The length of an area at first; it doubles from here to [`MAX_SAMPLES`].
 const FIRST_SAMPLES: usize = 1 << 12;
 
-/// Written frames not yet used, the tail and the frames of a call, the frames that wait, and the averages of the search.
+/// Written frames not yet used; the tail, and behind it the frames of a call; the frames that wait; and the averages of the search. At
+/// pitch 1 the frames of a call do not go through the stage, but it has to be as long as they are.
 pub struct OwnedAreas {
     pub input: Vec<i16>,
     pub stage: Vec<i16>,

@@ -1,4 +1,5 @@
-//! Tests of the balance and of stepping over that look at the frames held, or set the totals, which no caller can.
+//! Tests of the balance, of stepping over and of the tail that look at the frames held or at the areas, or set the totals, which no caller
+//! can.
 
 #[path = "../../../tests/signals.rs"]
 mod signals;
@@ -59,4 +60,16 @@ fn a_total_that_would_pass_its_end_is_full() {
     stream.set_speed(1.0);
     assert_eq!(stream.write_f32(&voice).outcome, Outcome::Copied);
     assert_eq!(stream.balance(), Balance { skipped: u64::MAX, inserted: u64::MAX });
+}
+
+/// At pitch 1 the tail of a lowered voice takes no room of the stage, which has 4,096 samples at first; at another pitch it does.
+#[test]
+fn a_tail_takes_no_room_at_pitch_one() {
+    let mut stream = SonicStream::new(8_000, 1).expect("in range");
+    for (pitch, frames, stage, waiting) in [(0.5, 24, 4_096, 24), (1.0, 4_096, 4_096, 4_120), (0.5, 4_096, 8_192, 12_312)] {
+        stream.set_speed(pitch);
+        stream.set_pitch(pitch);
+        assert_eq!(stream.write_f32(&vec![0.25; frames]).outcome, Outcome::Copied);
+        assert_eq!((stream.value.tail, stream.areas.stage.len(), stream.available_frames()), (12, stage, waiting));
+    }
 }

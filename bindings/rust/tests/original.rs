@@ -169,6 +169,25 @@ fn one_long_write_gives_the_same() {
     pair.read(usize::MAX);
 }
 
+/// The tail of the lowered voice stays at pitch 1, and goes out first when the voice is lowered again. The writes at pitch 1 come up to the
+/// 4,096 samples that an area has at first, and past them.
+#[test]
+fn a_voice_lowered_and_set_back_gives_the_same() {
+    for (speed, volume, channels) in [(1.0, 1.0, 1), (1.0, 0.6, 3), (2.0, 1.0, 1), (0.7, 1.3, 2)] {
+        for samples in [60, 4_084, 4_085, 4_096, 4_100] {
+            let mut pair = Plain::open(8_000, channels as u32);
+            pair.set(0.5, 0.5, 1.0);
+            pair.write(&saw(0, 24, channels, 62, 300));
+            pair.set(speed, 1.0, volume);
+            pair.write(&saw(24, samples / channels, channels, 62, 300));
+            pair.set(0.5, 0.5, 1.0);
+            pair.write(&saw(5_000, 400, channels, 62, 300));
+            pair.flush();
+            pair.read(usize::MAX);
+        }
+    }
+}
+
 #[test]
 fn most_channels_give_the_same() {
     let mut pair = Plain::open(8_000, 32);

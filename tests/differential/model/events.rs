@@ -24,10 +24,11 @@ pub enum Event {
     PositionsWrapped,
     LowestSample,
     Trimmed,
+    TailAside,
 }
 
 /// Every event with the words for it.
-pub const EVENTS: [(Event, &str); 19] = [
+pub const EVENTS: [(Event, &str); 20] = [
     (Event::CopyingFast, "copying steps, s above 1"),
     (Event::CopyingSlow, "copying steps, s below 1"),
     (Event::CopyingAll, "copying steps of all frames left"),
@@ -47,6 +48,7 @@ pub const EVENTS: [(Event, &str); 19] = [
     (Event::PositionsWrapped, "times both positions became 0"),
     (Event::LowestSample, "interpolated samples of -32768"),
     (Event::Trimmed, "flushes that dropped frames"),
+    (Event::TailAside, "calls accepted with tail and frames above the stage"),
 ];
 
 /// How often each event was met.

@@ -1,6 +1,6 @@
-//! The module of docs/RULES.md in plain Rust, written from that text and requests C-16 and C-18 alone. It says which calls are refused and
-//! how the accepted ones go. The rules are traits, whose methods can be overridden: a model with one of them wrong (edits/) has to be found
-//! out by the comparison.
+//! The module of docs/RULES.md in plain Rust, written from that text and requests C-12, C-16 and C-18 alone. It says which calls are refused
+//! and how the accepted ones go. The rules are traits, whose methods can be overridden: a model with one of them wrong (edits/) has to be
+//! found out by the comparison.
 
 pub mod calls;
 pub mod edits;
@@ -58,7 +58,7 @@ pub struct Work {
     pub added: usize,
     /// The frames before the next step's.
     pub position: usize,
-    /// The samples that were stretched or copied and have not gone on, and all frames that were in the stage.
+    /// The samples that were copied or stretched and have not gone on, and the frames that they were.
     pub stretched: Vec<i16>,
     pub staged: usize,
     pub tail: Vec<i16>,
@@ -80,6 +80,11 @@ impl Work {
     /// The frames in the input.
     pub fn held(&self) -> usize {
         self.input.len() / self.channels()
+    }
+
+    /// The frames that were copied or stretched and have not gone on.
+    pub fn frames(&self) -> usize {
+        self.stretched.len() / self.channels()
     }
 
     /// Takes frames from the front of the input.
@@ -104,7 +109,7 @@ impl Model {
             added: added.samples.len() / stream.channels as usize,
             position: 0,
             stretched: Vec::new(),
-            staged: stream.tail,
+            staged: 0,
             tail: tail.to_vec(),
             made: Vec::new(),
             counted: Balance::default(),

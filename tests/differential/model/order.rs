@@ -103,9 +103,19 @@ pub trait Order {
         stream.held + added > room
     }
 
-    /// The frames of the stage that are free: the tail takes its part at every pitch.
-    fn stage_free(&self, stream: &Stream, stage: usize) -> usize {
-        stage - stream.tail
+    /// Whether 6 counts the tail at a pitch: not at 1, where the frames go straight out and the tail stays where it is.
+    fn tail_counts(&self, pitch: f32) -> bool {
+        pitch != 1.0
+    }
+
+    /// The frames that the stage has to hold when so many are copied or stretched; it holds the tail by 4.
+    fn stage_needed(&self, stream: &Stream, frames: usize) -> usize {
+        if self.tail_counts(stream.pitch) { stream.tail + frames } else { stream.tail.max(frames) }
+    }
+
+    /// Refusal 6, if the frames copied or stretched so far meet it; whether the output is full by then does not matter.
+    fn stage_refusal(&self, work: &Work, room: Room) -> Result<(), u32> {
+        if self.stage_needed(&work.stream, work.frames()) > room.stage { Err(6) } else { Ok(()) }
     }
 
     /// Refusal 5 before those that the work meets: 6, 7 and then 12.

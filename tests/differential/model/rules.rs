@@ -1,5 +1,5 @@
-//! The rules, a trait for each part of docs/RULES.md and of requests C-16 and C-18. Its methods are the right ones unless overridden; those
-//! of one part know nothing of the other parts, and the model joins them.
+//! The rules, a trait for each part of docs/RULES.md and of requests C-12, C-16 and C-18. Its methods are the right ones unless overridden;
+//! those of one part know nothing of the other parts, and the model joins them.
 
 use super::flush::Flush;
 use super::order::Order;

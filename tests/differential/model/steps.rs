@@ -2,7 +2,7 @@
 
 use super::events::Event;
 use super::settings::max_required;
-use super::{Model, Work};
+use super::{Model, Room, Work};
 use crate::interface::{Stream, STALLED, STRETCHED, WAITING};
 
 /// A skip or an insert step: the local speed, its position, the frames held at the start of the call, its period, and k.
@@ -129,7 +129,7 @@ pub trait Steps {
 
 impl Model {
     /// The steps of a call, from position 0 until too few frames lie ahead. Refusal 6.
-    pub fn stretch(&self, work: &mut Work, s: f32, room: usize) -> Result<(), u32> {
+    pub fn stretch(&self, work: &mut Work, s: f32, room: Room) -> Result<(), u32> {
         let (rules, held, required) = (self.rules.steps, work.held(), max_required(work.stream.rate));
         if rules.waits(held, required) {
             work.outcome = WAITING;
@@ -137,9 +137,7 @@ impl Model {
         }
         loop {
             let used = self.step(work, s);
-            if work.stretched.len() > room * work.channels() {
-                return Err(6);
-            }
+            self.rules.order.stage_refusal(work, room)?;
             let Some(used) = used else {
                 work.saw(if work.stretched.is_empty() { Event::StalledAtOnce } else { Event::StalledLater });
                 rules.stall(work);

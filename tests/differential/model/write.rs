@@ -1,6 +1,7 @@
 //! The common part of a write and a flush, frames in, stretch or copy, rate, volume, and what goes back into the areas: docs/RULES.md,
 //! "A write". IEEE 754 decides each float step; a cut toward zero saturates, and takes a NaN to 0.
 
+use super::events::Event;
 use super::{Model, Room, Work};
 use crate::interface::{Areas, Balance, Stream, Told, Wrote, COPIED, EMPTY};
 
@@ -77,9 +78,11 @@ pub trait Write {
     }
 }
 
-/// What a call needs: frames in the stage, frames that it makes, and what it adds to the totals; and the periods that it passes over.
+/// What a call needs: frames that the stage has to hold, frames that it makes, and what it adds to the totals; and the frames that it copies
+/// or stretches, and the periods that it passes over.
 pub struct Needs {
     pub staged: usize,
+    pub frames: usize,
     pub made: usize,
     pub counted: Balance,
     pub passed: usize,
@@ -103,20 +106,19 @@ impl Model {
             work.outcome = outcome;
             return Ok(work);
         }
-        let free = rules.order.stage_free(&work.stream, room.stage);
         let s = rules.write.local_speed(&work.stream, work.held());
         if rules.write.stretches(s) {
-            self.stretch(&mut work, s, free)?;
+            self.stretch(&mut work, s, room)?;
         } else {
             rules.write.copy_all(&mut work);
         }
-        let frames = work.stretched.len() / work.channels();
-        work.staged += frames;
-        if frames > free {
-            return Err(6);
-        }
+        rules.order.stage_refusal(&work, room)?;
+        work.staged = work.frames();
         rules.volume.convert_and_scale(&mut work, &|work| self.convert(work, room.output))?;
         work.stream.balance = rules.totals.balance_after(work.stream.balance, work.counted, work.outcome)?;
+        if work.stream.tail + work.staged > room.stage {
+            work.saw(Event::TailAside);
+        }
         Ok(work)
     }
 
@@ -126,6 +128,7 @@ impl Model {
         let play_time = self.rules.write.play_time_grown(&stream, added.len() / stream.channels as usize);
         let work = self.work(stream, held, &Added { samples: added.to_vec(), play_time }, tail);
         let work = self.process(work, Room { stage: stream.tail + cap, output: cap }).ok()?;
-        Some(Needs { staged: work.staged, made: work.made.len() / work.channels(), counted: work.stream.balance, passed: work.passed })
+        let (frames, staged) = (work.staged, self.rules.order.stage_needed(&stream, work.staged));
+        Some(Needs { staged, frames, made: work.made.len() / work.channels(), counted: work.stream.balance, passed: work.passed })
     }
 }

@@ -1,5 +1,6 @@
 //! The wrong edits, numbered from 1: each overrides one rule. They are in the order of the parts of docs/RULES.md; "Contracts" are the
-//! wrong programs of its "How firm each contract is", "Balance" is request C-16, "Stepping over" C-18, "Moving the rest down" C-13.
+//! wrong programs of its "How firm each contract is", "Balance" is request C-16, "Stepping over" C-18, "Moving the rest down" C-13, "The tail
+//! at pitch 1" C-12.
 
 /// Makes the edits of a part and the table of them. Each has a name, its words, the rules that it overrides, and its method.
 macro_rules! edits {
@@ -25,6 +26,7 @@ mod search;
 mod settings;
 mod step_over;
 mod steps;
+mod tail;
 mod volume;
 mod write;
 
@@ -41,7 +43,7 @@ pub struct Edit {
 /// Every wrong edit, from number 1 on.
 pub fn edits() -> Vec<Edit> {
     let rules = [order::EDITS, settings::EDITS, write::EDITS, search::EDITS, steps::EDITS, rate::EDITS, volume::EDITS, flush::EDITS];
-    [rules.concat(), [contracts::EDITS, balance::EDITS, step_over::EDITS, removal::EDITS].concat()].concat()
+    [rules.concat(), [contracts::EDITS, balance::EDITS, step_over::EDITS, removal::EDITS, tail::EDITS].concat()].concat()
 }
 
 /// The rules with the wrong edit of a number; 0 is none.

@@ -26,11 +26,6 @@ edits! {
             Right.input_full(stream, if flush { added / 2 } else { added }, room)
         }
     }
-    TailOutsideStageAtOne, "6 leaves out the tail at pitch 1", Order {
-        fn stage_free(&self, stream: &Stream, stage: usize) -> usize {
-            if stream.pitch == 1.0 { stage } else { Right.stage_free(stream, stage) }
-        }
-    }
     CountsWrap, "held·channels wraps in 4", Order {
         fn reaches(&self, area: &[i16], frames: usize, channels: u32) -> bool { frames.wrapping_mul(channels as usize) <= area.len() }
     }
