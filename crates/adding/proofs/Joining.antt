@@ -31,9 +31,9 @@ use Rattle.stream.specs.Refusals.{inOrder, tooShort, sizesBad, partsBad, areasB
 use Rattle.stream.proofs.InOrder.{limits-of, ready-of}
 use Rattle.stream.proofs.AreaTests.{AreasGood, areas-of}
 use Rattle.stream.proofs.Streams.{ready-stream, ready-input}
+use Rattle.fill.specs.Filling.{FillReady}
 use Rattle.process.specs.Process.{joined}
 use Rattle.process.specs.Streams.{joinedStream}
-use Rattle.process.specs.Working.{AreasReady}
 use Rattle.adding.specs.Adding.{Accepted, AddReady}
 
 -- ---- the frames, in the input
@@ -90,21 +90,24 @@ module _ {s : SonicStream} {a : Areas} {n : ℕ} (p : Accepted s a n) where
   good : AreasGood s a
   good = areas-of s a (p .areas-good)
 
-  accepted-areas : AreasReady (joinedStream n s) a
+  accepted-areas : FillReady (joinedStream n s) a
   unfolding joined stateOf streamOf
   accepted-areas =
       let held : joinedStream n s .held .0 * s .channels ≤ length (a .input) = rw (held-joined s n) (p .fits) in
       let tail : joinedStream n s .tail .0 * s .channels ≤ length (a .stage) = rw (tail-joined s n) (good .tail) in
       record {
-        fill = record {
-          fit = record { held = held; kept-fit = tail; input-short = good .input-short; area-short = good .stage-short };
-          scratch-fits = good .scratch-fits;
+        fit = record {
+          held = held;
+          tail = tail;
+          waiting = good .waiting;
+          input-short = good .input-short;
+          stage-short = good .stage-short;
+          output-short = good .output-short;
         };
-        waiting = good .waiting;
-        output-short = good .output-short;
+        scratch-fits = good .scratch-fits;
       }
 
-  pub accepted-ready : StreamReady (joinedStream n s) × AreasReady (joinedStream n s) a
+  pub accepted-ready : StreamReady (joinedStream n s) × FillReady (joinedStream n s) a
   unfolding joined
   accepted-ready =
       let r = ready-of s (p .in-order) in

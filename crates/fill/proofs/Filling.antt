@@ -1,5 +1,6 @@
 -- No frames and copied frames, in the words of the contracts: how they fill the area. Here:
---   ready-limits, held-few, kept-le     counts of a stream in order, where frames held and frames kept lie in their areas
+--   AreaFits, FillsWith                 what is asked and said of an area that is filled behind its first `kept` frames
+--   ready-limits, held-few              counts of a stream in order, where the frames held lie in the input
 --   speed-same                          the local speed of a stream and of its state
 --   empty-filled, waiting-filled        no frames
 --   allFilled, copied-over, copied-full, copied-filled     all frames
@@ -7,7 +8,7 @@
 use mathlib.Core.Path.{_≡_, refl, sym, ap, _∙_, subst}
 use mathlib.Core.Bool.{true, false}
 use mathlib.Core.List.{List}
-use Prim.Native.Nat.{ℕ, _+_, _*_, _/_, _^_, _≤_, _<_, zero-le}
+use Prim.Native.Nat.{ℕ, _+_, _*_, _^_, _≤_, _<_, zero-le}
 use native.Mathlib.Nat.{le-of-eq}
 use native.Mathlib.Omega.{arith}
 use lib.IntN.{ℤ}
@@ -16,7 +17,7 @@ use lib.Seq.{paste}
 use Rattle.frames.specs.Framing.{framesOf, Behind}
 use Rattle.frames.proofs.Framing.{length-framesOf}
 use Rattle.frames.proofs.Behind.{behind-none, behind-paste}
-use Rattle.frames.proofs.Room.{frames-le, count-le}
+use Rattle.frames.proofs.Room.{count-le}
 use Rattle.floats.specs.Settings.{samplePeriod}
 use Rattle.floats.specs.Write.{localSpeed, speedChanges}
 use Rattle.period.specs.Rates.{InLimits, maxRequired}
@@ -33,8 +34,19 @@ use Rattle.fill.specs.declared.Outcome.the-variants.{Empty, Copied, Wait
 use Rattle.fill.specs.declared.Fill.{Fill}
 use Rattle.fill.specs.Taking.{Taken, nothing, removed, copied, speedAt, taken, counted}
 use Rattle.fill.specs.Filling.{speedOf}
-use Rattle.fill.specs.Filling.{AreasFit, nothingFilled, FilledBy, FillEnsures}
+use Rattle.fill.specs.Filling.{nothingFilled, FilledBy}
 use Rattle.fill.proofs.Branches.{taken-empty, taken-waiting, taken-copied}
+
+-- ---- an area that is filled behind its first `kept` frames, with at most `most`; it goes from `entry` to `exit`
+
+pub record AreaFits (s : SonicStream) (kept : ℕ) (input area : List ℤ) : Type 0 where
+  pub held : s .held .0 * s .channels ≤ length input
+  pub kept-fit : kept * s .channels ≤ length area
+  pub input-short : length input ≤ 2 ^ 24
+
+-- whatever the tail is, which lies in the stage
+abbrev pub FillsWith : SonicStream → ℕ → ℕ → List ℤ → List ℤ → List ℤ → Fill → Type 0
+FillsWith s kept most input entry exit f = (stage : List ℤ) → FilledBy s kept most (taken (stateOf s input stage)) input entry exit f
 
 -- ---- counts
 
@@ -42,12 +54,9 @@ pub ready-limits : {s : SonicStream} → StreamReady s → InLimits (s .rate) (s
 unfolding stateOf
 ready-limits r = r .state .limits
 
-module _ {s : SonicStream} {kept : ℕ} {input area : List ℤ} (r : StreamReady s) (fit : AreasFit s kept input area) where
+module _ {s : SonicStream} {kept : ℕ} {input area : List ℤ} (r : StreamReady s) (fit : AreaFits s kept input area) where
   pub held-few : s .held .0 ≤ 2 ^ 24
   held-few = omega (arith, count-le (s .channels) (s .held .0) (ready-limits r .channels-low), fit .held, fit .input-short)
-
-  pub kept-le : kept ≤ length area / s .channels
-  kept-le = frames-le (s .channels) kept (length area) (ready-limits r .channels-low) (fit .kept-fit)
 
 -- ---- the local speed
 
@@ -60,7 +69,7 @@ speed-same s input stage =
 abbrev pub allFilled : SonicStream → SonicStream → Fill
 allFilled s t = Fill.Done (record { frames = s .held; used = s .held; balance = none; stream = t; told = record { outcome = Copied; passed = 0 } })
 
-module _ (s : SonicStream) (kept most : ℕ) (r : StreamReady s) (input area : List ℤ) (fit : AreasFit s kept input area) where
+module _ (s : SonicStream) (kept most : ℕ) (r : StreamReady s) (input area : List ℤ) (fit : AreaFits s kept input area) where
   abbrev state : List ℤ → State
   state stage = stateOf s input stage
 
@@ -83,11 +92,11 @@ module _ (s : SonicStream) (kept most : ℕ) (r : StreamReady s) (input area : L
         prev-in = r .state .prev;
       }
 
-  pub empty-filled : s .held .0 ≡ 0 → FillEnsures s kept most input area area (nothingFilled s Empty)
+  pub empty-filled : s .held .0 ≡ 0 → FillsWith s kept most input area area (nothingFilled s Empty)
   empty-filled e stage = rw (taken-empty (state stage) (held stage ∙ e)) (nothing-filled stage Empty)
 
   pub waiting-filled : 1 ≤ s .held .0 → speedChanges (speedOf s) ≡ true → s .held .0 < maxRequired (s .rate)
-      → FillEnsures s kept most input area area (nothingFilled s Waiting)
+      → FillsWith s kept most input area area (nothingFilled s Waiting)
   unfolding stateOf
   waiting-filled some e few stage =
       let n = held stage in
@@ -103,7 +112,7 @@ module _ (s : SonicStream) (kept most : ℕ) (r : StreamReady s) (input area : L
         let t = taken-copied (state stage) (omega (arith, held stage)) (ap speedChanges (speed-same s input stage) ∙ same) in
         subst (λ (x : Taken). FilledBy s kept most x input area exit f) (sym t)
 
-    pub copied-over : most < s .held .0 → FillEnsures s kept most input area area Fill.TooMany
+    pub copied-over : most < s .held .0 → FillsWith s kept most input area area Fill.TooMany
     unfolding copied
     copied-over over stage = copies stage area Fill.TooMany (refl, subst (λ (n : ℕ). most < n) (sym (held stage)) over)
 
@@ -111,7 +120,7 @@ module _ (s : SonicStream) (kept most : ℕ) (r : StreamReady s) (input area : L
       few-are : (stage : List ℤ) → length (state stage .input) ≤ most
       few-are stage = subst (λ (n : ℕ). n ≤ most) (sym (held stage)) few
 
-      pub copied-full : length area < (kept + s .held .0) * s .channels → FillEnsures s kept most input area area Fill.Full
+      pub copied-full : length area < (kept + s .held .0) * s .channels → FillsWith s kept most input area area Fill.Full
       unfolding copied
       copied-full over stage =
           let no-room = subst (λ (n : ℕ). length area < (kept + n) * s .channels) (sym (held stage)) over in
@@ -120,7 +129,7 @@ module _ (s : SonicStream) (kept most : ℕ) (r : StreamReady s) (input area : L
       pub copied-filled : (exit : List ℤ) (t : SonicStream) → (kept + s .held .0) * s .channels ≤ length area
           → exit ≡ paste area (kept * s .channels) (drop 0 input) (s .held .0 * s .channels)
           → ChangedBy (removed (s .held .0)) s (s .waiting .0) t
-          → FillEnsures s kept most input area exit (allFilled s t)
+          → FillsWith s kept most input area exit (allFilled s t)
       unfolding copied removed stateOf counted stalled tally
       copied-filled exit t fits e changed stage =
           let ch = s .channels in

@@ -1,3 +1,4 @@
 pub mod Branches
 pub mod Filling
+mod Destinations
 mod Stretching

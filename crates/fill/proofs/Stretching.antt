@@ -41,9 +41,9 @@ use Rattle.fill.specs.declared.Filled.{Filled}
 use Rattle.fill.specs.declared.Fill.{Fill}
 use Rattle.fill.specs.Taking.{Taken, removed, stretched, stepped, callAt, placeOf, speedAt, taken, counted}
 use Rattle.fill.specs.Filling.{speedOf}
-use Rattle.fill.specs.Filling.{AreasFit, surplus, SteppedAs, FilledBy, FillEnsures}
+use Rattle.fill.specs.Filling.{placeFor, surplus, SteppedAs, FilledBy}
 use Rattle.fill.proofs.Branches.{speed-fits, taken-stretched}
-use Rattle.fill.proofs.Filling.{ready-limits, held-few, speed-same}
+use Rattle.fill.proofs.Filling.{AreaFits, FillsWith, ready-limits, held-few, speed-same}
 
 -- ---- the call
 
@@ -63,13 +63,10 @@ callOf s x =
 abbrev pub lentOf : SonicStream → List ℤ → List ℤ
 lentOf s input = take (s .held .0 * s .channels) input
 
-abbrev pub placeFor : SonicStream → Place
-placeFor s = begun (s .«time_error») (record { period = s .«prev_period»; «min_diff» = s .«prev_min_diff» })
-
 -- a stretch of the frames held is due, at speed x
 pub record StretchDue (s : SonicStream) (x : Float) (kept : ℕ) (input area : List ℤ) : Type 0 where
   pub ready : StreamReady s
-  pub fit : AreasFit s kept input area
+  pub fit : AreaFits s kept input area
   pub enough : maxRequired (s .rate) ≤ s .held .0
   pub speed-is : x ≡ speedOf s
   pub changes : speedChanges x ≡ true
@@ -268,16 +265,16 @@ module _ {s : SonicStream} {x : Float} {kept : ℕ} {input area : List ℤ} (d :
         })
 
 module _ {s : SonicStream} {x : Float} {kept : ℕ} {input area : List ℤ} (d : StretchDue s x kept input area) (most : ℕ) (exit : List ℤ) where
-  pub stretched-over : StretchAnswered s x kept most input area exit S.Stretched.TooMany → FillEnsures s kept most input area exit Fill.TooMany
+  pub stretched-over : StretchAnswered s x kept most input area exit S.Stretched.TooMany → FillsWith s kept most input area exit Fill.TooMany
   stretched-over e stage = over-by d most exit stage e
 
   module _ (m : Stretch) (e : StretchAnswered s x kept most input area exit (S.Stretched.Made m)) where
     pub stretched-used : m .used .0 ≤ s .held .0
     stretched-used = used-by d most exit [] m e
 
-    pub stretched-full : roomIn s kept area < m .made .0 → FillEnsures s kept most input area exit Fill.Full
+    pub stretched-full : roomIn s kept area < m .made .0 → FillsWith s kept most input area exit Fill.Full
     stretched-full over stage = full-by d most exit stage m e over
 
     -- the steps' frames fill the area, as f says
-    pub stretched-filled : (f : Filled) → m .made .0 ≤ roomIn s kept area → SteppedAs s m f → FillEnsures s kept most input area exit (Fill.Done f)
+    pub stretched-filled : (f : Filled) → m .made .0 ≤ roomIn s kept area → SteppedAs s m f → FillsWith s kept most input area exit (Fill.Done f)
     stretched-filled f room g stage = filled-by d most exit stage m e f room g

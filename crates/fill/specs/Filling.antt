@@ -1,25 +1,33 @@
--- What the functions of `fill` require and ensure of a stream s, its input, and the area that they fill behind its first
--- `kept` frames; it goes from `entry` to `exit`. Definitions only. Assumes nothing.
+-- What the functions of `fill` require and ensure of a stream s; its areas go from a to b. Definitions only. Assumes
+-- nothing.
 use mathlib.Core.Path.{_≡_}
-use mathlib.Core.Bool.{cond}
+use mathlib.Core.Bool.{Bool, cond}
 use mathlib.Core.List.{List}
-use Prim.Native.Nat.{ℕ, _-_, _*_, _^_, _≤_, _<_}
+use Prim.Native.Nat.{ℕ, _-_, _*_, _/_, _^_, _≤_, _<_}
 use lib.IntN.{ℤ}
-use lib.Ieee.{Float}
+use lib.Ieee.{Float, eq}
 use lib.ListN.{length, take, drop}
+use lib.Seq.{paste}
+use Rattle.frames.specs.Areas.{Areas}
 use Rattle.frames.specs.Framing.{framesOf, Behind, NoRoom}
+use Rattle.floats.specs.Numbers.{one}
 use Rattle.floats.specs.Settings.{samplePeriod}
 use Rattle.floats.specs.Write.{localSpeed}
 use Rattle.period.specs.Rates.{maxRequired}
 use Rattle.period.specs.Pitch.{PrevInOrder}
+use Rattle.stretch.specs.declared.StretchCall.{StretchCall}
+use Rattle.stretch.specs.declared.Place.{Place}
 use Rattle.stretch.specs.declared.Stretch.{Stretch}
+use Rattle.stretch.specs.declared.Stretched.{Stretched}
+use Rattle.stretch.specs.Speed.{begun, changeSpeed, AreaAfter}
 use Rattle.stream.specs.declared.SonicStream.{SonicStream}
 use Rattle.stream.specs.declared.balance.Balance.{Balance}
 use Rattle.stream.specs.Balance.{none}
 use Rattle.stream.specs.Stream.{stateOf, streamOf, ChangedBy}
 use Rattle.fill.specs.declared.Outcome.{Outcome}
-use Rattle.fill.specs.declared.Outcome.the-variants.{Stretched, Stalled}
+use Rattle.fill.specs.declared.Outcome.the-variants as Outcomes
 use Rattle.fill.specs.declared.Filled.{Filled}
+use Rattle.fill.specs.declared.destination.Destination.{Destination}
 use Rattle.fill.specs.declared.Fill.{Fill}
 use Rattle.fill.specs.Taking.{Taken, taken, stepped, counted}
 
@@ -27,19 +35,56 @@ use Rattle.fill.specs.Taking.{Taken, taken, stepped, counted}
 abbrev pub speedOf : SonicStream → Float
 speedOf s = localSpeed (s .held .0) (samplePeriod (s .rate)) (s .«input_play_time»)
 
+-- ---- where a call's frames go
+
+abbrev pub straight : SonicStream → Bool
+straight s = eq (s .pitch) one
+
+-- at pitch 1.0 straight into the output, behind the frames waiting, as many as the stage holds at the most (C-12); at
+-- another into the stage, behind the tail, as many as there is room for
+abbrev pub destinationOf : SonicStream → ℕ → ℕ → Destination
+destinationOf s stage output =
+    cond (straight s)
+    (record {
+      kept = s .waiting;
+      room = record { 0 = output / s .channels - s .waiting .0 };
+      most = record { 0 = stage / s .channels };
+    })
+    (record {
+      kept = s .tail;
+      room = record { 0 = stage / s .channels - s .tail .0 };
+      most = record { 0 = stage / s .channels - s .tail .0 };
+    })
+
+abbrev pub destinationIn : SonicStream → Areas → Destination
+destinationIn s a = destinationOf s (length (a .stage)) (length (a .output))
+
+-- that area, and the other of the two
+abbrev pub filledArea : SonicStream → Areas → List ℤ
+filledArea s a = cond (straight s) (a .output) (a .stage)
+
+abbrev pub otherArea : SonicStream → Areas → List ℤ
+otherArea s a = cond (straight s) (a .stage) (a .output)
+
+-- where a stretch begins
+abbrev pub placeFor : SonicStream → Place
+placeFor s = begun (s .«time_error») (record { period = s .«prev_period»; «min_diff» = s .«prev_min_diff» })
+
 -- ---- required
 
--- the frames held lie in the input, and the frames kept in the area
-pub record AreasFit (s : SonicStream) (kept : ℕ) (input area : List ℤ) : Type 0 where
-  pub held : s .held .0 * s .channels ≤ length input
-  pub kept-fit : kept * s .channels ≤ length area
-  pub input-short : length input ≤ 2 ^ 24
-  pub area-short : length area ≤ 2 ^ 24
+-- what the stream holds lies in its areas
+pub record AreasFit (s : SonicStream) (a : Areas) : Type 0 where
+  pub held : s .held .0 * s .channels ≤ length (a .input)
+  pub tail : s .tail .0 * s .channels ≤ length (a .stage)
+  pub waiting : s .waiting .0 * s .channels ≤ length (a .output)
+  pub input-short : length (a .input) ≤ 2 ^ 24
+  pub stage-short : length (a .stage) ≤ 2 ^ 24
+  pub output-short : length (a .output) ≤ 2 ^ 24
 
 -- and the scratch is long enough for a search
-pub record FillReady (s : SonicStream) (kept : ℕ) (input area scratch : List ℤ) : Type 0 where
-  pub fit : AreasFit s kept input area
-  pub scratch-fits : maxRequired (s .rate) ≤ length scratch
+pub record FillReady (s : SonicStream) (a : Areas) : Type 0 where
+  pub fit : AreasFit s a
+  pub scratch-fits : maxRequired (s .rate) ≤ length (a .scratch)
 
 -- ---- ensured
 
@@ -53,7 +98,7 @@ pub record SteppedAs (s : SonicStream) (a : Stretch) (d : Filled) : Type 0 where
   pub used : d .used .0 ≡ cond (a .stalled) 0 (a .used .0)
   pub balance : d .balance ≡ cond (a .stalled) none (surplus (a .made .0) (a .used .0))
   pub stream : ChangedBy (stepped a) s (s .waiting .0) (d .stream)
-  pub told : d .told ≡ record { outcome = cond (a .stalled) Stalled Stretched; passed = a .passed }
+  pub told : d .told ≡ record { outcome = cond (a .stalled) Outcomes.Stalled Outcomes.Stretched; passed = a .passed }
 
 -- no frames
 abbrev pub nothingFilled : SonicStream → Outcome → Fill
@@ -67,7 +112,8 @@ nothingFilled s outcome =
       told = record { outcome = outcome; passed = 0 };
     })
 
--- the area was filled as t says, with at most `most` frames
+-- an area was filled behind its first `kept` frames as t says, with at most `most` frames; it goes from `entry` to
+-- `exit`
 pub record FilledAs (s : SonicStream) (kept most : ℕ) (t : Taken) (input entry exit : List ℤ) (d : Filled)
     : Type 0 where
   pub told : d .told ≡ t .told
@@ -87,7 +133,26 @@ FilledBy s kept most t input entry exit Fill.Full =
     NoRoom (s .channels) kept entry exit (t .frames) × (length (t .frames) ≤ most)
 FilledBy s kept most t input entry exit (Fill.Done d) = FilledAs s kept most t input entry exit d
 
--- whatever the tail is, which lies in the stage
-abbrev pub FillEnsures : SonicStream → ℕ → ℕ → List ℤ → List ℤ → List ℤ → Fill → Type 0
-FillEnsures s kept most input entry exit r =
-    (stage : List ℤ) → FilledBy s kept most (taken (stateOf s input stage)) input entry exit r
+-- the area of the call, and the other stays
+abbrev pub FillEnsures : SonicStream → Areas → Areas → Fill → Type 0
+FillEnsures s a b r =
+    let to : Destination = destinationIn s a in
+    FilledBy s (to .kept .0) (to .most .0) (taken (stateOf s (a .input) (a .stage))) (a .input) (filledArea s a)
+    (filledArea s b) r
+    × (otherArea s b ≡ otherArea s a)
+
+-- the frames of the input were copied there
+abbrev pub CopyEnsures : SonicStream → Areas → Areas → Type 0
+CopyEnsures s a b =
+    (filledArea s b ≡ paste (filledArea s a) (destinationIn s a .kept .0 * s .channels) (drop 0 (a .input))
+    (s .held .0 * s .channels))
+    × (otherArea s b ≡ otherArea s a)
+
+-- the frames of a stretch u were put there, if there was room
+abbrev pub StretchEnsures : SonicStream → StretchCall → Areas → Areas → Stretched → Type 0
+StretchEnsures s u a b r =
+    let to : Destination = destinationIn s a in
+    (r ≡ changeSpeed u (a .input) (placeFor s) (to .most .0))
+    × AreaAfter u (a .input) (placeFor s) (to .room .0) (to .most .0) (filledArea s a) (filledArea s b)
+    (to .kept .0 * s .channels)
+    × (otherArea s b ≡ otherArea s a)

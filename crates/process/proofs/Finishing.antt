@@ -1,13 +1,14 @@
 -- The second half of a call's work, in the words of the contracts. Here:
 --   mapped-behind                 volume
 --   StateFinished, removed-as, used-fits, left-fits, commit-passed, commit-done     the commit
+--   straight-done, staged-done, staged-placed, staged-fits     the conversion, where frames go straight out and where they go through the stage
 --   commit-ready, finish-done     the finish, which the commit ends
 -- Assumes nothing.
 use mathlib.Core.Path.{_≡_, refl, ap, _∙_, subst}
-use mathlib.Core.Bool.{true, false}
+use mathlib.Core.Bool.{Bool, true, false, cond}
 use mathlib.Core.List.{List, [], map}
 use Prim.Native.Nat.{ℕ, _+_, _-_, _*_, _≤_}
-use native.Mathlib.Nat.{add-mul, mul-le-mul-right, le-trans}
+use native.Mathlib.Nat.{add-mul, zero-mul, mul-le-mul-right, le-trans}
 use native.Mathlib.Omega.{arith}
 use lib.IntN.{ℤ}
 use lib.ListN.{length, drop, length-drop, length-map}
@@ -21,15 +22,17 @@ use Rattle.frames.proofs.Behind.{behind-paste}
 use Rattle.frames.proofs.Removal.{remaining-frames, removed-frames}
 use Rattle.volume.specs.Volume.{scaled}
 use Rattle.rate.specs.declared.Adjusted.{Adjusted}
-use Rattle.rate.specs.Conversion.{Conversion}
-use Rattle.rate.specs.Adjusting.{AdjustedAs, newFrames}
+use Rattle.rate.specs.declared.Adjustment.{Adjustment}
+use Rattle.rate.specs.Conversion.{Conversion, adjustRate}
+use Rattle.rate.specs.Adjusting.{AdjustedAs, newFrames, AdjustEnsures}
 use Rattle.stream.specs.declared.SonicStream.{SonicStream}
 use Rattle.stream.specs.declared.balance.Balance.{Balance}
 use Rattle.stream.specs.Balance.{past}
 use Rattle.stream.specs.Stream.{stateOf, streamOf, ChangedBy}
 use Rattle.process.specs.declared.Work.{Work}
 use Rattle.fill.specs.declared.Filled.{Filled}
-use Rattle.process.specs.Finishing.{UsedReady, CommitReady, totals, finishedState, FinishedBy, adjustedAs}
+use Rattle.fill.specs.Filling.{straight}
+use Rattle.process.specs.Finishing.{UsedReady, ConvertReady, ConvertEnsures, CommitReady, totals, finishedState, FinishedBy, adjustedAs}
 
 -- ---- volume: a map over the samples of frames
 
@@ -115,6 +118,40 @@ module _ {s : SonicStream} {d : Filled} {a : Areas} where
           tail = rw length-framesOf (remaining-frames (s .channels) (c .from .0) (c .left .0) stage);
           behind = rw length-framesOf behind;
         }
+
+-- ---- the conversion of `new` frames
+
+module _ (s : SonicStream) (new : ℕ) (a : Areas) (r : ConvertReady s new a) where
+  -- they stand in the output already
+  pub straight-done : straight s ≡ true
+      → ConvertEnsures s new a (a .output)
+      (Adjustment.Done (record { made = record { 0 = new }; from = record { 0 = 0 }; left = s .tail; at = record { old = s .«old_rate_position»; new = s .«new_rate_position» } }))
+  unfolding adjustRate
+  straight-done e =
+      rw e
+      (record {
+        behind = record { kept = refl; made = refl; long = refl; fits = rw e at (r .placed) };
+        rest = ap (λ (i : ℕ). framesOf (s .channels) (s .tail .0) (drop i (a .stage))) (zero-mul (s .channels));
+        at = refl;
+        within = omega arith;
+      })
+
+  pub staged-done : straight s ≡ false → (exit : List ℤ) (x : Adjustment)
+      → AdjustEnsures (s .channels) (s .rate) (s .pitch) (record { old = s .«old_rate_position»; new = s .«new_rate_position» }) (s .tail .0) new (s .waiting .0)
+      (a .stage) (a .output) exit x → ConvertEnsures s new a exit x
+  staged-done e exit x h = rw e h
+
+  -- at another pitch than 1.0 they stand in the stage, behind the tail
+  pub staged-placed : straight s ≡ false → (s .tail .0 + new) * s .channels ≤ length (a .stage)
+  staged-placed e = rw e at (r .placed)
+
+  -- what is left of the tail lies in the stage
+  pub staged-fits : cond (straight s) (s .tail .0) (s .tail .0 + new) * s .channels ≤ length (a .stage)
+  staged-fits = go (straight s) refl
+    where
+      go : (b : Bool) → straight s ≡ b → cond b (s .tail .0) (s .tail .0 + new) * s .channels ≤ length (a .stage)
+      go true e = r .tail-fits
+      go false e = staged-placed e
 
 -- ---- the finish
 

@@ -1,28 +1,22 @@
--- A call's whole work, from the area that was filled and the finish. Here:
---   used-ready, work-done                             of every call
---   finish-ready, staged-done, staged-full            of one whose frames go through the stage
---   straight-fill, straight-ready, straight-done, straight-over, straight-full     of one at pitch 1.0
--- Assumes nothing.
+-- A call's whole work, from the area that was filled and the finish: finish-ready, work-done, work-over, work-full. Assumes nothing.
 use mathlib.Core.Path.{_≡_, refl, sym, ap, _∙_, subst}
-use mathlib.Core.Bool.{true, false}
+use mathlib.Core.Bool.{Bool, true, false, cond}
 use mathlib.Core.List.{List, [], map}
 use Prim.Native.Nat.{ℕ, _+_, _-_, _*_, _/_, _≤_, _<_}
-use native.Mathlib.Nat.{zero-mul}
-use native.Mathlib.Omega.{arith}
+use native.Mathlib.Nat.{not-le-of-lt}
 use lib.IntN.{ℤ}
 use lib.Ieee.{Float, eq}
-use lib.ListN.{length, take, drop, length-drop, length-map}
+use lib.ListN.{length, take, length-drop, length-map}
 use Rattle.frames.specs.Areas.{Areas, areas}
-use Rattle.frames.specs.Framing.{Frame, framesOf}
+use Rattle.frames.specs.Framing.{Frame, framesOf, NoRoom}
 use Rattle.frames.proofs.Framing.{length-framesOf, framesOf-cong}
-use Rattle.frames.proofs.Behind.{behind-length, behind-whole, behind-front}
-use Rattle.frames.proofs.Room.{samples-le, samples-over}
+use Rattle.frames.proofs.Behind.{behind-length, behind-whole}
+use Rattle.frames.proofs.Room.{samples-le, samples-over, room-under, room-over}
 use Rattle.floats.specs.Numbers.{one}
 use Rattle.volume.specs.Volume.{scaled}
 use Rattle.rate.specs.declared.Position.{Position}
-use Rattle.rate.specs.declared.Adjusted.{Adjusted}
 use Rattle.rate.specs.Conversion.{Conversion, adjustRate}
-use Rattle.rate.specs.Adjusting.{AdjustedAs}
+use Rattle.rate.specs.Adjusting.{newFrames}
 use Rattle.rate.proofs.Chunks.{adjustRate-order}
 use Rattle.stream.specs.declared.SonicStream.{SonicStream}
 use Rattle.stream.specs.Balance.{booked, past}
@@ -37,17 +31,53 @@ use Rattle.process.specs.declared.Work.{Work}
 use Rattle.fill.specs.declared.Filled.{Filled}
 use Rattle.fill.specs.Taking.{Taken, taken}
 use Rattle.process.specs.Process.{Made, counting, finished, process}
-use Rattle.fill.specs.Filling.{FillReady, FilledAs}
+use Rattle.fill.specs.declared.destination.Destination.{Destination}
+use Rattle.fill.specs.Filling.{straight, destinationOf, destinationIn, filledArea, otherArea, FillReady, FilledAs}
 use Rattle.fill.proofs.Filling.{ready-limits}
-use Rattle.process.specs.Finishing.{UsedReady, FinishReady, CommitReady, totals, finishedState, FinishedAs, FinishedBy, FinishEnsures, CommitEnsures}
-use Rattle.process.specs.Working.{AreasReady, Unchanged, WorkedAs, WorkedBy, WorkEnsures}
+use Rattle.process.specs.Finishing.{FinishReady, totals, finishedState, FinishedAs, FinishedBy, conversionOf, FinishEnsures}
+use Rattle.process.specs.Working.{Unchanged, WorkedAs, WorkedBy, WorkEnsures}
 use Rattle.process.proofs.States.{Keeps}
 use Rattle.process.proofs.Taken.{taken-keeps}
-use Rattle.process.proofs.Finishing.{StateFinished, commit-ready, finish-done}
+use Rattle.process.proofs.Finishing.{StateFinished}
 
--- `kept` frames are kept in the area that was filled, which goes from `entry` to `exit`
-module _ (s : SonicStream) (d : Filled) (a : Areas) {kept most : ℕ} {entry exit : List ℤ}
-    (f : FilledAs s kept most (taken (stateOf s (a .input) (a .stage))) (a .input) entry exit d) where
+-- ---- what filling leaves in stage and output, which go from a to b: the tail, the frames waiting, and the lengths
+
+pub record Spared (s : SonicStream) (a b : Areas) : Type 0 where
+  pub tail : take (s .tail .0 * s .channels) (b .stage) ≡ take (s .tail .0 * s .channels) (a .stage)
+  pub waiting : take (s .waiting .0 * s .channels) (b .output) ≡ take (s .waiting .0 * s .channels) (a .output)
+
+module _ (s : SonicStream) (a b : Areas) where
+  -- where x says whether the frames go straight out
+  abbrev keptFrames : Bool → ℕ
+  keptFrames x = cond x (s .waiting .0) (s .tail .0)
+
+  kept-is : (x : Bool) → straight s ≡ x → destinationIn s a .kept .0 ≡ keptFrames x
+  kept-is true e = rw e
+  kept-is false e = rw e
+
+  spared-by : (x : Bool) → take (keptFrames x * s .channels) (cond x (b .output) (b .stage)) ≡ take (keptFrames x * s .channels) (cond x (a .output) (a .stage))
+      → cond x (b .stage) (b .output) ≡ cond x (a .stage) (a .output) → Spared s a b
+  spared-by true kept other = record { tail = ap (take (s .tail .0 * s .channels)) other; waiting = kept }
+  spared-by false kept other = record { tail = kept; waiting = ap (take (s .waiting .0 * s .channels)) other }
+
+  spared : take (destinationIn s a .kept .0 * s .channels) (filledArea s b) ≡ take (destinationIn s a .kept .0 * s .channels) (filledArea s a)
+      → otherArea s b ≡ otherArea s a → Spared s a b
+  spared kept other =
+      spared-by (straight s)
+      (subst (λ (n : ℕ). take (n * s .channels) (filledArea s b) ≡ take (n * s .channels) (filledArea s a)) (kept-is (straight s) refl) kept) other
+
+  -- and lengths: where both areas keep theirs
+  longs-by : (x : Bool) → length (cond x (b .output) (b .stage)) ≡ length (cond x (a .output) (a .stage))
+      → cond x (b .stage) (b .output) ≡ cond x (a .stage) (a .output)
+      → (length (b .stage) ≡ length (a .stage)) × (length (b .output) ≡ length (a .output))
+  longs-by true long other = (ap length other, long)
+  longs-by false long other = (long, ap length other)
+
+-- ---- a call that was filled as f says
+
+module _ (s : SonicStream) (d : Filled) (a b : Areas)
+    (f : FilledAs s (destinationIn s a .kept .0) (destinationIn s a .most .0) (taken (stateOf s (a .input) (a .stage))) (a .input) (filledArea s a)
+    (filledArea s b) d) (other : otherArea s b ≡ otherArea s a) where
   t : Taken
   t = taken (stateOf s (a .input) (a .stage))
 
@@ -61,19 +91,40 @@ module _ (s : SonicStream) (d : Filled) (a : Areas) {kept most : ℕ} {entry exi
   unfolding t
   staged-is = behind-length (f .behind)
 
-  pub used-ready : StreamReady s → AreasReady s a → (stage : List ℤ) → length stage ≡ length (a .stage)
-      → UsedReady s d (areas (a .input) stage (a .output) [])
+  kept : Spared s a b
+  kept = spared s a b (f .behind .kept) other
+
+  longs : (length (b .stage) ≡ length (a .stage)) × (length (b .output) ≡ length (a .output))
+  longs = longs-by s a b (straight s) (f .behind .long) other
+
+  -- the destination is the same before and after, since the lengths are
+  same-destination : destinationIn s b ≡ destinationIn s a
+  same-destination = λ i. destinationOf s (longs .0 i) (longs .1 i)
+
+  pub finish-ready : StreamReady s → FillReady s a → FinishReady s d (areas (a .input) (b .stage) (b .output) [])
   unfolding streamOf t
-  used-ready r fit stage long =
+  finish-ready r fit =
       record {
-        ready = r;
-        held = ap (λ (x : SonicStream). x .held .0) (f .stream) ∙ rest-length;
-        period-is = rw (f .stream);
-        used = f .used;
-        held-fits = fit .fill .fit .held;
-        input-short = fit .fill .fit .input-short;
-        stage-short = rw long (fit .fill .fit .area-short);
-        output-short = fit .output-short;
+        used =
+            record {
+              ready = r;
+              held = ap (λ (x : SonicStream). x .held .0) (f .stream) ∙ rest-length;
+              period-is = rw (f .stream);
+              used = f .used;
+              held-fits = fit .fit .held;
+              input-short = fit .fit .input-short;
+              stage-short = rw (longs .0) (fit .fit .stage-short);
+              output-short = rw (longs .1) (fit .fit .output-short);
+            };
+        convert =
+            record {
+              ready = r;
+              placed =
+                  subst (λ (g : Destination). (g .kept .0 + d .frames .0) * s .channels ≤ length (filledArea s b)) (sym same-destination)
+                  (rw (f .behind .long) (f .behind .fits));
+              tail-fits = rw (longs .0) (fit .fit .tail);
+              waiting-fits = rw (longs .1) (fit .fit .waiting);
+            };
       }
 
   keeps : Keeps (stateOf s (a .input) (a .stage)) (t .state)
@@ -85,252 +136,187 @@ module _ (s : SonicStream) (d : Filled) (a : Areas) {kept most : ℕ} {entry exi
   volume-is = keeps .settings .volume
 
   -- the conversion of its frames
-  converted : Conversion
-  converted = adjustRate (t .state .rate) (t .state .pitch) (t .state .at) (t .state .tail) (t .frames)
+  c : Conversion
+  c = conversionOf s (d .frames .0) (areas (a .input) (b .stage) (b .output) [])
 
-  -- with the settings and the tail of the stream
-  settled : (tail : List Frame) (fs : List Frame) → framesOf (s .channels) (s .tail .0) (a .stage) ≡ tail → t .frames ≡ fs
-      → converted ≡ adjustRate (s .rate) (s .pitch) (record { old = s .«old_rate_position»; new = s .«new_rate_position» }) tail fs
-  unfolding converted stateOf
-  settled tail fs p q =
+  conversion-is : adjustRate (t .state .rate) (t .state .pitch) (t .state .at) (t .state .tail) (t .frames) ≡ c
+  unfolding t c stateOf
+  conversion-is =
       let k = keeps .settings in
-      λ i. adjustRate (k .rate i) (k .pitch i) (keeps .at i) ((keeps .tail ∙ p) i) (q i)
+      let tail = framesOf-cong (s .channels) (s .tail .0) (b .stage) (a .stage) (kept .tail) in
+      let made = subst (λ (g : Destination). newFrames (s .channels) (g .kept .0) (d .frames .0) (filledArea s b) ≡ taken (stateOf s (a .input) (a .stage)) .frames)
+      (sym same-destination) (f .behind .made) in
+      λ i. adjustRate (k .rate i) (k .pitch i) (keeps .at i) ((keeps .tail ∙ sym tail) i) (sym made i)
 
-  -- it is c; the stage is `middle` before the finish
-  module _ (c : Conversion) (is : converted ≡ c) (middle : List ℤ)
-      (tail-kept : framesOf (s .channels) (s .tail .0) middle ≡ framesOf (s .channels) (s .tail .0) (a .stage))
-      (stage-fits : stageNeeded s (length (t .frames)) * s .channels ≤ length (a .stage)) where
-    process-is : process (stateOf s (a .input) (a .stage)) ≡ finished t c
-    unfolding process t converted
-    process-is = ap (finished t) is
+  process-is : process (stateOf s (a .input) (a .stage)) ≡ finished t c
+  unfolding process t
+  process-is = ap (finished t) conversion-is
 
-    scaled-length : length (map (map (scaled (t .state .volume))) (c .made)) ≡ length (c .made)
-    scaled-length = length-map (c .made) (map (scaled (t .state .volume)))
+  scaled-length : length (map (map (scaled (t .state .volume))) (c .made)) ≡ length (c .made)
+  scaled-length = length-map (c .made) (map (scaled (t .state .volume)))
 
-    -- ---- the stream after it
+  -- what 6 counts fits the stage: at pitch 1.0 the frames, at another the tail too
+  fits-by : (x : Bool) → straight s ≡ x → 0 < s .channels → s .tail .0 * s .channels ≤ length (a .stage)
+      → length (t .frames) ≤ destinationIn s a .most .0 → stageNeeded s (length (t .frames)) * s .channels ≤ length (a .stage)
+  fits-by true e some tail h =
+      let few : length (t .frames) ≤ length (a .stage) / s .channels = rw e at h in
+      rw (needed-straight s (length (t .frames)) e) (samples-le (s .channels) (length (t .frames)) (length (a .stage)) some few)
+  fits-by false e some tail h =
+      let few : length (t .frames) ≤ length (a .stage) / s .channels - s .tail .0 = rw e at h in
+      rw (needed-joining s (length (t .frames)) e) (room-under (s .channels) (s .tail .0) (length (t .frames)) (length (a .stage)) some tail few)
 
-    totals-are : totals d ≡ finished t c .state .balance
-    unfolding finished counting t streamOf
-    totals-are = λ i. booked (f .stream i .balance) (f .balance i)
+  -- ---- the stream after it
 
-    stream-is : (x : SonicStream) → StateFinished s d c x → x ≡ streamOf (finished t c .state) (s .waiting .0 + length (finished t c .frames))
-    unfolding finished counting t
-    stream-is x e =
-        let w : ℕ = s .waiting .0 + length (c .made) in
-        changed-back (finishedState d c) (λ y z h. balance-alike (tail-alike h (c .rest) (c .rest) refl refl) refl) (t .state) (s .waiting .0) w x
-        (subst (λ (y : SonicStream). ChangedBy (finishedState d c) y w x) (f .stream) e)
-        ∙ (λ i. streamOf (withBalance (withTail (t .state) (c .rest) (c .at)) (totals-are i)) (s .waiting .0 + sym scaled-length i))
+  totals-are : totals d ≡ finished t c .state .balance
+  unfolding finished counting t streamOf
+  totals-are = λ i. booked (f .stream i .balance) (f .balance i)
 
-    module _ (r : StreamReady s) where
-      taken-ready : StateReady (t .state)
-      unfolding stateOf t
-      taken-ready =
-          let k = keeps .settings in
-          let o = r .state in
-          record {
-            limits = rw (k .rate, k .channels) (o .limits);
-            volume-low = rw volume-is (o .volume-low);
-            volume-high = rw volume-is (o .volume-high);
-            position = rw (k .rate, k .pitch, keeps .at) (o .position);
-            prev = rw (k .rate) (f .prev-in);
-          }
+  stream-is : (x : SonicStream) → StateFinished s d c x → x ≡ streamOf (finished t c .state) (s .waiting .0 + length (finished t c .frames))
+  unfolding finished counting t
+  stream-is x e =
+      let w : ℕ = s .waiting .0 + length (c .made) in
+      changed-back (finishedState d c) (λ y z h. balance-alike (tail-alike h (c .rest) (c .rest) refl refl) refl) (t .state) (s .waiting .0) w x
+      (subst (λ (y : SonicStream). ChangedBy (finishedState d c) y w x) (f .stream) e)
+      ∙ (λ i. streamOf (withBalance (withTail (t .state) (c .rest) (c .at)) (totals-are i)) (s .waiting .0 + sym scaled-length i))
 
-      stream-ready : (w : ℕ) → StreamReady (streamOf (finished t c .state) w)
-      unfolding finished counting converted
-      stream-ready w =
-          let u = t .state in
-          let at = rw is at (adjustRate-order (u .rate) (u .pitch) (u .at) (u .tail) (t .frames) (taken-ready .position)) in
-          ready-stream (ready-balance (ready-tail taken-ready (c .rest) (c .at) at) _) w
-
-      -- ---- the whole; the areas go from a to b
-
-      module _ (b : Areas) where
-        abbrev before : Areas
-        before = areas (a .input) middle (a .output) []
-
-        abbrev after : Areas
-        after = areas (b .input) (b .stage) (b .output) []
-
-        worked : (o : Told) (x : SonicStream) → FinishedAs s d c before after o x → WorkedAs s (finished t c) a b o x
-        unfolding finished counting t
-        worked o x h =
-            record {
-              told = h .told ∙ f .told;
-              stream = stream-is x (h .stream);
-              ready = rw (stream-is x (h .stream)) (stream-ready (s .waiting .0 + length (finished t c .frames)));
-              stage-fits = stage-fits;
-              output-fits = rw scaled-length (h .behind .fits);
-              totals-fit = ap past (sym totals-are) ∙ h .within;
-              held = rw rest-length (h .rest ∙ f .rest);
-              tail = h .tail;
-              waiting = rw (scaled-length, volume-is) (behind-whole (h .behind));
-            }
-
-        worked-by : (w : Work) → FinishedBy s d c before after w → WorkedBy s (finished t c) a b w
-        unfolding finished
-        worked-by Work.StageFull h = absurd h
-        worked-by Work.OutputFull h = (
-          record {
-            held = ap (framesOf (s .channels) (s .held .0)) (h .0);
-            tail = ap (framesOf (s .channels) (s .tail .0)) (h .1) ∙ tail-kept;
-            waiting = framesOf-cong (s .channels) (s .waiting .0) (b .output) (a .output) (h .2 .kept);
-          },
-          stage-fits,
-          rw scaled-length (h .2 .over),
-        )
-        worked-by Work.TotalFull h = (
-          record {
-            held = ap (framesOf (s .channels) (s .held .0)) (h .input);
-            tail = ap (framesOf (s .channels) (s .tail .0)) (h .stage) ∙ tail-kept;
-            waiting = framesOf-cong (s .channels) (s .waiting .0) (b .output) (a .output) (h .kept);
-          },
-          stage-fits,
-          rw scaled-length (h .fits),
-          ap past (sym totals-are) ∙ h .passed,
-        )
-        worked-by (Work.Done o x) h = worked o x h
-
-        work-done : (w : Work) → FinishedBy s d c (areas (a .input) middle (a .output) []) (areas (b .input) (b .stage) (b .output) []) w
-            → WorkEnsures s a b w
-        work-done w h = subst (λ (m : Made). WorkedBy s m a b w) (sym process-is) (worked-by w h)
-
--- ---- through the stage, at another pitch than 1.0; it is `middle` after it was filled
-
-module _ (s : SonicStream) (other : eq (s .pitch) one ≡ false) where
-  module _ (d : Filled) (a : Areas) {most : ℕ} (middle : List ℤ)
-      (f : FilledAs s (s .tail .0) most (taken (stateOf s (a .input) (a .stage))) (a .input) (a .stage) middle d) (r : StreamReady s) where
-    pub finish-ready : AreasReady s a → FinishReady s d (areas (a .input) middle (a .output) [])
-    finish-ready fit =
+  module _ (r : StreamReady s) (fit : FillReady s a) where
+    taken-ready : StateReady (t .state)
+    unfolding stateOf t
+    taken-ready =
+        let k = keeps .settings in
+        let o = r .state in
         record {
-          used = used-ready s d a f r fit middle (f .behind .long);
-          other = other;
-          staged-fits = rw (f .behind .long) (f .behind .fits);
-          waiting-fits = fit .waiting;
+          limits = rw (k .rate, k .channels) (o .limits);
+          volume-low = rw volume-is (o .volume-low);
+          volume-high = rw volume-is (o .volume-high);
+          position = rw (k .rate, k .pitch, keeps .at) (o .position);
+          prev = rw (k .rate) (f .prev-in);
         }
 
-    pub staged-done : (b : Areas) (w : Work)
-        → FinishEnsures s d (areas (a .input) middle (a .output) []) (areas (b .input) (b .stage) (b .output) []) w → WorkEnsures s a b w
-    unfolding stateOf t
-    staged-done b w h =
-        let front = behind-front (f .behind) in
-        work-done s d a f _ (settled s d a f _ _ (sym front) (sym (f .behind .made))) middle front
-        (rw (needed-joining s (length (t s d a f .frames)) other, staged-is s d a f) (f .behind .fits)) r b w h
+    stream-ready : (w : ℕ) → StreamReady (streamOf (finished t c .state) w)
+    unfolding finished counting
+    stream-ready w =
+        let u = t .state in
+        let at = rw conversion-is at (adjustRate-order (u .rate) (u .pitch) (u .at) (u .tail) (t .frames) (taken-ready .position)) in
+        ready-stream (ready-balance (ready-tail taken-ready (c .rest) (c .at) at) _) w
 
-  -- no room in the stage
-  pub staged-full : (a b : Areas) → b .input ≡ a .input → b .output ≡ a .output
-      → take (s .tail .0 * s .channels) (b .stage) ≡ take (s .tail .0 * s .channels) (a .stage)
-      → length (a .stage) < (s .tail .0 + length (taken (stateOf s (a .input) (a .stage)) .frames)) * s .channels → WorkEnsures s a b Work.StageFull
-  unfolding process finished
-  staged-full a b input output kept over = (
-    record {
-      held = ap (framesOf (s .channels) (s .held .0)) input;
-      tail = framesOf-cong (s .channels) (s .tail .0) (b .stage) (a .stage) kept;
-      waiting = ap (framesOf (s .channels) (s .waiting .0)) output;
-    },
-    rw (needed-joining s (length (taken (stateOf s (a .input) (a .stage)) .frames)) other) over,
-  )
+    stage-fits : stageNeeded s (length (t .frames)) * s .channels ≤ length (a .stage)
+    unfolding t
+    stage-fits = fits-by (straight s) refl (ready-limits r .channels-low) (fit .fit .tail) (f .within)
 
--- the output can be filled
-pub straight-fill : (s : SonicStream) (a : Areas) → AreasReady s a → FillReady s (s .waiting .0) (a .input) (a .output) (a .scratch)
-straight-fill s a fit =
-    let f = fit .fill in
-    record {
-      fit = record { held = f .fit .held; kept-fit = fit .waiting; input-short = f .fit .input-short; area-short = fit .output-short };
-      scratch-fits = f .scratch-fits;
-    }
+    -- ---- the whole; the areas are e at the end
+
+    module _ (e : Areas) where
+      abbrev before : Areas
+      before = areas (a .input) (b .stage) (b .output) []
+
+      abbrev after : Areas
+      after = areas (e .input) (e .stage) (e .output) []
+
+      waiting-kept : framesOf (s .channels) (s .waiting .0) (b .output) ≡ framesOf (s .channels) (s .waiting .0) (a .output)
+      waiting-kept = framesOf-cong (s .channels) (s .waiting .0) (b .output) (a .output) (kept .waiting)
+
+      worked : (o : Told) (x : SonicStream) → FinishedAs s d c before after o x → WorkedAs s (finished t c) a e o x
+      unfolding finished counting t
+      worked o x h =
+          record {
+            told = h .told ∙ f .told;
+            stream = stream-is x (h .stream);
+            ready = rw (stream-is x (h .stream)) (stream-ready (s .waiting .0 + length (finished t c .frames)));
+            stage-fits = stage-fits;
+            output-fits = rw (scaled-length, ← longs .1) (h .behind .fits);
+            totals-fit = ap past (sym totals-are) ∙ h .within;
+            held = rw rest-length (h .rest ∙ f .rest);
+            tail = h .tail;
+            waiting = rw (scaled-length, volume-is, ← waiting-kept) (behind-whole (h .behind));
+          }
+
+      -- refused after the finish: the input and the stage are as they were before it
+      unchanged : e .input ≡ a .input → e .stage ≡ b .stage
+          → take (s .waiting .0 * s .channels) (e .output) ≡ take (s .waiting .0 * s .channels) (b .output) → Unchanged s a e
+      unchanged input stage output =
+          record {
+            held = ap (framesOf (s .channels) (s .held .0)) input;
+            tail = ap (framesOf (s .channels) (s .tail .0)) stage ∙ framesOf-cong (s .channels) (s .tail .0) (b .stage) (a .stage) (kept .tail);
+            waiting = framesOf-cong (s .channels) (s .waiting .0) (e .output) (a .output) (output ∙ kept .waiting);
+          }
+
+      worked-by : (w : Work) → FinishedBy s d c before after w → WorkedBy s (finished t c) a e w
+      unfolding finished
+      worked-by Work.StageFull h = absurd h
+      worked-by Work.OutputFull h = (unchanged (h .0) (h .1) (h .2 .kept), stage-fits, rw (scaled-length, ← longs .1) (h .2 .over))
+      worked-by Work.TotalFull h =
+          (unchanged (h .input) (h .stage) (h .kept), stage-fits, rw (scaled-length, ← longs .1) (h .fits), ap past (sym totals-are) ∙ h .passed)
+      worked-by (Work.Done o x) h = worked o x h
+
+      pub work-done : (w : Work) → FinishEnsures s d (areas (a .input) (b .stage) (b .output) []) (areas (e .input) (e .stage) (e .output) []) w
+          → WorkEnsures s a e w
+      unfolding c
+      work-done w h = subst (λ (m : Made). WorkedBy s m a e w) (sym process-is) (worked-by w h)
+
+-- ---- a call that is refused before the finish: the areas go from a to b
 
 made-straight : (rate : ℕ) (pitch : Float) (at : Position) (tail fs : List Frame) → eq pitch one ≡ true → adjustRate rate pitch at tail fs .made ≡ fs
 unfolding adjustRate
 made-straight rate pitch at tail fs e = rw e
 
--- ---- straight out, at pitch 1.0; the output is `middle` after it was filled
+module _ (s : SonicStream) (a b : Areas) (r : StreamReady s) (fit : FillReady s a) (input : b .input ≡ a .input) (other : otherArea s b ≡ otherArea s a) where
+  abbrev state : State
+  state = stateOf s (a .input) (a .stage)
 
-module _ (s : SonicStream) (at-one : eq (s .pitch) one ≡ true) where
-  -- no conversion: the frames go on, and the tail stays
-  abbrev straight : List Frame → List Frame → Conversion
-  straight tail fs = record { made = fs; rest = tail; at = record { old = s .«old_rate_position»; new = s .«new_rate_position» } }
+  abbrev frames : List Frame
+  frames = taken (stateOf s (a .input) (a .stage)) .frames
 
-  straight-is : (tail fs : List Frame)
-      → adjustRate (s .rate) (s .pitch) (record { old = s .«old_rate_position»; new = s .«new_rate_position» }) tail fs ≡ straight tail fs
-  unfolding adjustRate
-  straight-is tail fs = rw at-one
+  some : 0 < s .channels
+  some = ready-limits r .channels-low
 
-  -- in the words of a conversion's answer
-  abbrev pub straightOut : Filled → Adjusted
-  straightOut d =
+  as-it-came : take (destinationIn s a .kept .0 * s .channels) (filledArea s b) ≡ take (destinationIn s a .kept .0 * s .channels) (filledArea s a)
+      → Unchanged s a b
+  as-it-came h =
+      let k = spared s a b h other in
       record {
-        made = d .frames;
-        from = record { 0 = 0 };
-        left = s .tail;
-        at = record { old = s .«old_rate_position»; new = s .«new_rate_position» };
+        held = ap (framesOf (s .channels) (s .held .0)) input;
+        tail = framesOf-cong (s .channels) (s .tail .0) (b .stage) (a .stage) (k .tail);
+        waiting = framesOf-cong (s .channels) (s .waiting .0) (b .output) (a .output) (k .waiting);
       }
 
-  module _ (a : Areas) (fit : AreasReady s a) (r : StreamReady s) where
-    abbrev filled : Taken
-    filled = taken (stateOf s (a .input) (a .stage))
+  -- too many frames for the stage
+  over-by : (x : Bool) → straight s ≡ x → destinationIn s a .most .0 < length frames → length (a .stage) < stageNeeded s (length frames) * s .channels
+  over-by true e h =
+      let over : length (a .stage) / s .channels < length frames = rw e at h in
+      rw (needed-straight s (length frames) e) (samples-over (s .channels) (length frames) (length (a .stage)) some over)
+  over-by false e h =
+      let over : length (a .stage) / s .channels - s .tail .0 < length frames = rw e at h in
+      rw (needed-joining s (length frames) e) (room-over (s .channels) (s .tail .0) (length frames) (length (a .stage)) some over)
 
-    some : 0 < s .channels
-    some = ready-limits r .channels-low
+  pub work-over : take (destinationIn s a .kept .0 * s .channels) (filledArea s b) ≡ take (destinationIn s a .kept .0 * s .channels) (filledArea s a)
+      → destinationIn s a .most .0 < length (taken (stateOf s (a .input) (a .stage)) .frames) → WorkEnsures s a b Work.StageFull
+  unfolding process finished
+  work-over h over = (as-it-came h, over-by (straight s) refl over)
 
-    module _ (d : Filled) (middle : List ℤ) (f : FilledAs s (s .waiting .0) (length (a .stage) / s .channels)
-        (taken (stateOf s (a .input) (a .stage))) (a .input) (a .output) middle d) where
-      conversion : Conversion
-      conversion = straight (framesOf (s .channels) (s .tail .0) (a .stage)) (filled .frames)
+  -- no room in the output: only at pitch 1.0, where frames go there
+  abbrev NoRoomLeft : Type 0
+  NoRoomLeft =
+      (stageNeeded s (length frames) * s .channels ≤ length (a .stage))
+      × (length (a .output) < (s .waiting .0 + length (process state .frames)) * s .channels)
 
-      straight-adjusted : AdjustedAs (s .channels) (s .waiting .0) (s .tail .0) conversion (a .stage) (a .output) middle (straightOut d)
-      unfolding conversion
-      straight-adjusted =
-          record {
-            behind = f .behind;
-            rest = ap (λ (i : ℕ). framesOf (s .channels) (s .tail .0) (drop i (a .stage))) (zero-mul (s .channels));
-            at = refl;
-            within = omega arith;
-          }
+  full-by : (x : Bool) → straight s ≡ x → length frames ≤ destinationIn s a .most .0
+      → length (filledArea s a) < (destinationIn s a .kept .0 + length frames) * s .channels → NoRoomLeft
+  unfolding process finished stateOf
+  full-by true e few over =
+      let u = taken state .state in
+      let c : Conversion = adjustRate (u .rate) (u .pitch) (u .at) (u .tail) frames in
+      let same : eq (u .pitch) one ≡ true = rw (taken-keeps state .settings .pitch) e in
+      let made = length-map (c .made) (map (scaled (u .volume))) ∙ ap length (made-straight (u .rate) (u .pitch) (u .at) (u .tail) frames same) in
+      let within : length frames ≤ length (a .stage) / s .channels = rw e at few in
+      let output : length (a .output) < (s .waiting .0 + length frames) * s .channels = rw e at over in
+      (rw (needed-straight s (length frames) e) (samples-le (s .channels) (length frames) (length (a .stage)) some within), rw made output)
+  full-by false e few over =
+      let within : length frames ≤ length (a .stage) / s .channels - s .tail .0 = rw e at few in
+      let stage : length (a .stage) < (s .tail .0 + length frames) * s .channels = rw e at over in
+      absurd (not-le-of-lt stage (room-under (s .channels) (s .tail .0) (length frames) (length (a .stage)) some (fit .fit .tail) within))
 
-      pub straight-ready : CommitReady s d (straightOut d) (areas (a .input) (a .stage) middle [])
-      straight-ready =
-          commit-ready s d conversion (areas (a .input) (a .stage) (a .output) []) middle straight-adjusted
-          (used-ready s d a f r fit (a .stage) refl) (fit .fill .fit .kept-fit)
-
-      pub straight-done : (b : Areas) (w : Work)
-          → CommitEnsures s d (straightOut d) (areas (a .input) (a .stage) middle []) (areas (b .input) (b .stage) (b .output) []) w
-          → WorkEnsures s a b w
-      unfolding conversion t
-      straight-done b w h =
-          let tail = framesOf (s .channels) (s .tail .0) (a .stage) in
-          let is = settled s d a f tail (filled .frames) refl refl ∙ straight-is tail (filled .frames) in
-          let fits = samples-le (s .channels) (length (filled .frames)) (length (a .stage)) some (f .within) in
-          work-done s d a f conversion is (a .stage) refl (rw (needed-straight s (length (filled .frames)) at-one) fits) r b w
-          (finish-done s d conversion (areas (a .input) (a .stage) (a .output) []) middle straight-adjusted (areas (b .input) (b .stage) (b .output) []) w h)
-
-    -- too many frames for the stage, or no room in the output
-    module _ (b : Areas) (input : b .input ≡ a .input) (stage : b .stage ≡ a .stage)
-        (kept : take (s .waiting .0 * s .channels) (b .output) ≡ take (s .waiting .0 * s .channels) (a .output)) where
-      unchanged : Unchanged s a b
-      unchanged =
-          record {
-            held = ap (framesOf (s .channels) (s .held .0)) input;
-            tail = ap (framesOf (s .channels) (s .tail .0)) stage;
-            waiting = framesOf-cong (s .channels) (s .waiting .0) (b .output) (a .output) kept;
-          }
-
-      pub straight-over : length (a .stage) / s .channels < length (taken (stateOf s (a .input) (a .stage)) .frames) → WorkEnsures s a b Work.StageFull
-      unfolding process finished
-      straight-over over =
-          (unchanged, rw (needed-straight s (length (filled .frames)) at-one) (samples-over (s .channels) (length (filled .frames)) (length (a .stage)) some over))
-
-      made-all : length (process (stateOf s (a .input) (a .stage)) .frames) ≡ length (filled .frames)
-      unfolding process finished stateOf
-      made-all =
-          let u = filled .state in
-          let c : Conversion = adjustRate (u .rate) (u .pitch) (u .at) (u .tail) (filled .frames) in
-          let same : eq (u .pitch) one ≡ true = rw (taken-keeps (stateOf s (a .input) (a .stage)) .settings .pitch) at-one in
-          length-map (c .made) (map (scaled (u .volume))) ∙ ap length (made-straight (u .rate) (u .pitch) (u .at) (u .tail) (filled .frames) same)
-
-      pub straight-full : length (taken (stateOf s (a .input) (a .stage)) .frames) ≤ length (a .stage) / s .channels
-          → length (a .output) < (s .waiting .0 + length (taken (stateOf s (a .input) (a .stage)) .frames)) * s .channels
-          → WorkEnsures s a b Work.OutputFull
-      unfolding process finished
-      straight-full few over =
-          let fits = samples-le (s .channels) (length (filled .frames)) (length (a .stage)) some few in
-          (unchanged, rw (needed-straight s (length (filled .frames)) at-one) fits, rw made-all over)
+  pub work-full : NoRoom (s .channels) (destinationIn s a .kept .0) (filledArea s a) (filledArea s b) (taken (stateOf s (a .input) (a .stage)) .frames)
+      → length (taken (stateOf s (a .input) (a .stage)) .frames) ≤ destinationIn s a .most .0 → WorkEnsures s a b Work.OutputFull
+  unfolding process finished
+  work-full h few = let n = full-by (straight s) refl few (h .over) in (as-it-came (h .kept), n .0, n .1)

@@ -1,28 +1,29 @@
 -- What the functions of `finish` require and ensure. s is the stream at the call's start, d what filled the stage or the
 -- output; the areas go from a to b. Definitions only. Assumes nothing.
 use mathlib.Core.Path.{_≡_}
-use mathlib.Core.Bool.{true, false}
-use mathlib.Core.List.{map}
+use mathlib.Core.Bool.{true, false, cond}
+use mathlib.Core.List.{List, map}
 use Prim.Native.Nat.{ℕ, _+_, _-_, _*_, _^_, _≤_}
-use lib.Ieee.{eq}
+use lib.IntN.{ℤ}
 use lib.ListN.{length, take, drop}
 use Rattle.frames.specs.Areas.{Areas}
 use Rattle.frames.specs.Framing.{framesOf, Behind, NoRoom}
-use Rattle.floats.specs.Numbers.{one}
 use Rattle.floats.specs.Settings.{samplePeriod}
 use Rattle.volume.specs.Volume.{scaled}
 use Rattle.rate.specs.declared.Adjusted.{Adjusted}
+use Rattle.rate.specs.declared.Adjustment.{Adjustment}
 use Rattle.rate.specs.Conversion.{Conversion, adjustRate}
-use Rattle.rate.specs.Adjusting.{newFrames}
+use Rattle.rate.specs.Adjusting.{AdjustedBy, newFrames}
 use Rattle.stream.specs.declared.SonicStream.{SonicStream}
 use Rattle.stream.specs.declared.balance.Balance.{Balance}
 use Rattle.stream.specs.Balance.{booked, past}
 use Rattle.stream.specs.State.{State, withTail, withBalance}
-use Rattle.stream.specs.Stream.{stateOf, ChangedBy}
+use Rattle.stream.specs.Stream.{ChangedBy}
 use Rattle.stream.specs.Order.{StreamReady}
 use Rattle.fill.specs.declared.Told.{Told}
 use Rattle.process.specs.declared.Work.{Work}
 use Rattle.fill.specs.declared.Filled.{Filled}
+use Rattle.fill.specs.Filling.{straight, destinationIn, filledArea}
 
 -- ---- required
 
@@ -37,12 +38,17 @@ pub record UsedReady (s : SonicStream) (d : Filled) (a : Areas) : Type 0 where
   pub stage-short : length (a .stage) ≤ 2 ^ 24
   pub output-short : length (a .output) ≤ 2 ^ 24
 
--- they stand in the stage behind the tail, at another pitch than 1.0
+-- `new` frames stand where a call's frames go
+pub record ConvertReady (s : SonicStream) (new : ℕ) (a : Areas) : Type 0 where
+  pub ready : StreamReady s
+  pub placed : (destinationIn s a .kept .0 + new) * s .channels ≤ length (filledArea s a)
+  pub tail-fits : s .tail .0 * s .channels ≤ length (a .stage)
+  pub waiting-fits : s .waiting .0 * s .channels ≤ length (a .output)
+
+-- both
 pub record FinishReady (s : SonicStream) (d : Filled) (a : Areas) : Type 0 where
   pub used : UsedReady s d a
-  pub other : eq (s .pitch) one ≡ false
-  pub staged-fits : (s .tail .0 + d .frames .0) * s .channels ≤ length (a .stage)
-  pub waiting-fits : s .waiting .0 * s .channels ≤ length (a .output)
+  pub convert : ConvertReady s (d .frames .0) a
 
 -- the conversion c is done: what it left of the tail lies in the stage, what it made in the output
 pub record CommitReady (s : SonicStream) (d : Filled) (c : Adjusted) (a : Areas) : Type 0 where
@@ -90,11 +96,19 @@ FinishedBy s d c a b Work.OutputFull =
 FinishedBy s d c a b Work.TotalFull = TotalPassed s d c a b
 FinishedBy s d c a b (Work.Done o t) = FinishedAs s d c a b o t
 
--- the conversion of the stage's frames, `new` behind the tail
+-- the conversion of `new` frames that stand where a call's frames go
 abbrev pub conversionOf : SonicStream → ℕ → Areas → Conversion
 conversionOf s new a =
-    let x : State = stateOf s (a .input) (a .stage) in
-    adjustRate (x .rate) (x .pitch) (x .at) (x .tail) (newFrames (s .channels) (s .tail .0) new (a .stage))
+    adjustRate (s .rate) (s .pitch) (record { old = s .«old_rate_position»; new = s .«new_rate_position» })
+    (framesOf (s .channels) (s .tail .0) (a .stage))
+    (newFrames (s .channels) (destinationIn s a .kept .0) new (filledArea s a))
+
+-- it is done; what it leaves of the tail lies in the stage, within the tail and, at another pitch than 1.0, the new
+-- frames behind it
+abbrev pub ConvertEnsures : SonicStream → ℕ → Areas → List ℤ → Adjustment → Type 0
+ConvertEnsures s new a exit r =
+    AdjustedBy (s .channels) (s .waiting .0) (cond (straight s) (s .tail .0) (s .tail .0 + new)) (conversionOf s new a)
+    (a .stage) (a .output) exit r
 
 abbrev pub FinishEnsures : SonicStream → Filled → Areas → Areas → Work → Type 0
 FinishEnsures s d a b r = FinishedBy s d (conversionOf s (d .frames .0) a) a b r

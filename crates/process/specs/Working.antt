@@ -1,9 +1,8 @@
--- What `process_stream_input` requires and ensures of a stream s; its areas go from a to b. Definitions only. Assumes
--- nothing.
+-- What `process_stream_input` ensures of a stream s; its areas go from a to b. Definitions only. Assumes nothing.
 use mathlib.Core.Path.{_≡_}
 use mathlib.Core.Bool.{true, false}
 use mathlib.Core.List.{_++_}
-use Prim.Native.Nat.{_+_, _*_, _^_, _≤_, _<_}
+use Prim.Native.Nat.{_+_, _*_, _≤_, _<_}
 use lib.ListN.{length}
 use Rattle.frames.specs.Areas.{Areas}
 use Rattle.frames.specs.Framing.{framesOf}
@@ -15,17 +14,6 @@ use Rattle.stream.specs.Refusals.{stageNeeded}
 use Rattle.fill.specs.declared.Told.{Told}
 use Rattle.process.specs.declared.Work.{Work}
 use Rattle.process.specs.Process.{Made, process}
-use Rattle.fill.specs.Filling.{FillReady}
-
--- ---- required
-
--- what the stream holds lies in its areas
-pub record AreasReady (s : SonicStream) (a : Areas) : Type 0 where
-  pub fill : FillReady s (s .tail .0) (a .input) (a .stage) (a .scratch)
-  pub waiting : s .waiting .0 * s .channels ≤ length (a .output)
-  pub output-short : length (a .output) ≤ 2 ^ 24
-
--- ---- ensured
 
 -- the kept parts as they came
 pub record Unchanged (s : SonicStream) (a b : Areas) : Type 0 where

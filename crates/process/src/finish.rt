@@ -16,7 +16,8 @@ ghost use Rattle.frames.specs.Framing.{Behind};
 ghost use Rattle.volume.specs.Volume.{scaled};
 ghost use Rattle.rate.specs.Adjusting.{newFrames};
 ghost use Rattle.stream.specs.Order.{StreamReady};
-ghost use Rattle.process.specs.Finishing.{FinishReady, CommitReady, CommitEnsures, FinishEnsures};
+ghost use Rattle.process.specs.Finishing.{ConvertReady, FinishReady, CommitReady};
+ghost use Rattle.process.specs.Finishing.{ConvertEnsures, CommitEnsures, FinishEnsures};
 
 // The frames made by this call, at the volume.
 fn scale_made(stream: SonicStream, made: Frames, output: &mut [i16])
@@ -38,7 +39,7 @@ fn scale_made(stream: SonicStream, made: Frames, output: &mut [i16])
 
 // The conversion is done, or at pitch 1.0 none was due. Unless a total passes 64 bits: volume, and what was used leaves
 // input and tail.
-pub(crate) fn commit(
+fn commit(
     stream: SonicStream,
     filled: Filled,
     adjusted: Adjusted,
@@ -76,7 +77,41 @@ pub(crate) fn commit(
     Work::Done(told, after)
 }
 
-// The new frames of the stage at a pitch other than 1.0 and at the volume, into the output behind the frames waiting.
+// The new frames at the pitch, behind the frames waiting in the output. At pitch 1.0 they stand there already, and the
+// tail stays.
+fn convert(stream: SonicStream, new: Frames, stage: &[i16], output: &mut [i16]) -> Adjustment
+    requires { ⌜ ConvertReady stream (new .0) (areas [] (now stage) (now output) []) ⌝ }
+    ensures { λ r. ⌜ ConvertEnsures stream (new .0) (areas [] (now (stage .entry)) (now (output .entry)) [])
+        (now (output .exit)) r ⌝ }
+{
+    let tail = stream.tail;
+    let waiting = stream.waiting;
+    let at = Position {
+        old: stream.old_rate_position,
+        new: stream.new_rate_position,
+    };
+    if stream.pitch == 1.0 {
+        return Adjustment::Done(Adjusted {
+            made: new,
+            from: Frames(0),
+            left: tail,
+            at,
+        });
+    }
+    rate::adjust_rate(
+        stage,
+        tail,
+        new,
+        stream.channels as usize,
+        stream.rate,
+        stream.pitch,
+        at,
+        output,
+        waiting,
+    )
+}
+
+// The new frames at the pitch and the volume, behind the frames waiting in the output.
 pub(crate) fn finish(
     stream: SonicStream,
     filled: Filled,
@@ -89,24 +124,8 @@ pub(crate) fn finish(
         (areas (now (input .entry)) (now (stage .entry)) (now (output .entry)) [])
         (areas (now (input .exit)) (now (stage .exit)) (now (output .exit)) []) r ⌝ }
 {
-    let tail = stream.tail;
-    let waiting = stream.waiting;
     let new = filled.frames;
-    let at = Position {
-        old: stream.old_rate_position,
-        new: stream.new_rate_position,
-    };
-    match rate::adjust_rate(
-        stage,
-        tail,
-        new,
-        stream.channels as usize,
-        stream.rate,
-        stream.pitch,
-        at,
-        output,
-        waiting,
-    ) {
+    match convert(stream, new, stage, output) {
         Adjustment::Full => Work::OutputFull,
         Adjustment::Done(adjusted) => commit(stream, filled, adjusted, input, stage, output),
     }

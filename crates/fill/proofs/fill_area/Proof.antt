@@ -1,14 +1,17 @@
 -- `fill::fill_area` meets its contract: places, what the code tests, the needs that it answers, what is closed by search.
 -- Assumes nothing.
 use borrow.Author.Needs.{needs}
-use mathlib.Core.Path.{_≡_, sym, ap, _∙_}
+use mathlib.Core.Path.{_≡_, refl, sym, ap, _∙_}
 use mathlib.Core.Bool.{true}
+use mathlib.Core.List.{[]}
 use Prim.Native.Nat.{_≤_}
 use native.Mathlib.Omega.{arith}
 use lib.Ieee.{Float}
 use Rattle.floats.specs.Write.{localSpeed, speedChanges}
 use Rattle.period.specs.Rates.{maxRequired}
-use Rattle.fill.specs.Filling.{speedOf}
+use Rattle.frames.specs.Areas.{Areas, areas}
+use Rattle.fill.specs.Filling.{speedOf, destinationIn, filledArea, AreasFit}
+use Rattle.fill.proofs.Destinations.{fits}
 use Rattle.fill.proofs.Filling.{held-few, empty-filled, waiting-filled}
 use Rattle.fill.proofs.fill_area.Statement.{statement}
 use Rattle.fill.proofs.fill_area.Tie as tie
@@ -34,17 +37,24 @@ changes-is c = c .speed-changes .ensures ∙ ap speedChanges (speed-is (c .befor
 some : (c : tie.After-local-speed) → 1 ≤ start c .args .stream .held .0
 some c = omega (arith, c .before .if1 .left)
 
+abbrev lent : tie.Start → Areas
+lent s = areas (s .args .input .now) (s .args .stage .now) (s .args .output .now) (s .args .scratch .now)
+
 -- ---- answered here
 
 returns : tie.Need-returns
 returns c =
     let s = c .before .before .before in
-    let a = s .args in
-    rw (c .nothing .ensures)
-    (empty-filled (a .stream) (a .kept .0) (a .most .0) (s .pre .0) (a .input .now) (a .area .now) (s .pre .1 .fit) (c .before .if1 .taken))
+    let x = s .args .stream in
+    let to = destinationIn x (lent s) in
+    rw (c .nothing .ensures) (
+      empty-filled x (to .kept .0) (to .most .0) (s .pre .0) (lent s .input) (filledArea x (lent s)) (fits x (lent s) (s .pre .1 .fit)) (c .before .if1 .taken)
+          (lent s .stage),
+      refl,
+    )
 
 local-speed-requires : tie.Need-local-speed-requires
-local-speed-requires c κs = let r = c .before .before .pre in held-few (r .0) (r .1 .fit)
+local-speed-requires c κs = let s = c .before .before in held-few (s .pre .0) (fits (s .args .stream) (lent s) (s .pre .1 .fit))
 
 returns-2 : tie.Need-returns-2
 returns-2 c =
@@ -52,15 +62,18 @@ returns-2 c =
     let required = few .before .before in
     let test = tested required .before in
     let s = start (test .before) in
-    let a = s .args in
-    let far : speedChanges (speedOf (a .stream)) ≡ true = sym (changes-is test) ∙ tested required .if2 .taken in
-    rw (c .nothing2 .ensures)
-    (waiting-filled (a .stream) (a .kept .0) (a .most .0) (s .pre .0) (a .input .now) (a .area .now) (s .pre .1 .fit) (some (test .before)) far
-    (omega (arith, few .if3 .taken, required .max-required .ensures)))
+    let x = s .args .stream in
+    let to = destinationIn x (lent s) in
+    let far : speedChanges (speedOf x) ≡ true = sym (changes-is test) ∙ tested required .if2 .taken in
+    rw (c .nothing2 .ensures) (
+      waiting-filled x (to .kept .0) (to .most .0) (s .pre .0) (lent s .input) (filledArea x (lent s)) (fits x (lent s) (s .pre .1 .fit)) (some (test .before)) far
+          (omega (arith, few .if3 .taken, required .max-required .ensures)) (lent s .stage),
+      refl,
+    )
 
 stretch-input-requires : tie.Need-stretch-input-requires
 stretch-input-requires c κs =
-    let enough = c .before .before in
+    let enough = c .before .before .before in
     let required = enough .before .before in
     let test = tested required .before in
     let s = start (test .before) in
@@ -69,10 +82,19 @@ stretch-input-requires c κs =
 
 copy-input-requires : tie.Need-copy-input-requires
 copy-input-requires c κs =
-    let near = c .before in
+    let near = c .before .before in
     let test = near .before in
     let s = start (test .before) in
-    ((s .pre .0, s .pre .1 .fit), (some (test .before), sym (changes-is test) ∙ near .if2 .left))
+    let fit = s .pre .1 .fit in
+    let same : AreasFit (s .args .stream) (areas (lent s .input) (lent s .stage) (lent s .output) []) = record {
+      held = fit .held;
+      tail = fit .tail;
+      waiting = fit .waiting;
+      input-short = fit .input-short;
+      stage-short = fit .stage-short;
+      output-short = fit .output-short;
+    } in
+    ((s .pre .0, same), (some (test .before), sym (changes-is test) ∙ near .if2 .left))
 
 -- ---- closed by search
 
@@ -97,11 +119,17 @@ same-length c = search needs
 same-length-2 : tie.Need-same-length-2
 same-length-2 c = search needs
 
-returns-3 : tie.Need-returns-3
-returns-3 c = search needs
-
 same-length-3 : tie.Need-same-length-3
 same-length-3 c = search needs
+
+same-length-4 : tie.Need-same-length-4
+same-length-4 c = search needs
+
+same-length-5 : tie.Need-same-length-5
+same-length-5 c = search needs
+
+returns-3 : tie.Need-returns-3
+returns-3 c = search needs
 
 returns-4 : tie.Need-returns-4
 returns-4 c = search needs
@@ -110,4 +138,4 @@ pub fill-area-spec : {M : Type 1} → statement M
 fill-area-spec =
     tie.close
     (tie.spec nothing-requires returns local-speed-requires speed-changes-requires cast-max-required max-required-requires nothing-requires-2
-    returns-2 stretch-input-requires same-length same-length-2 returns-3 copy-input-requires same-length-3 returns-4)
+    returns-2 stretch-input-requires same-length same-length-2 same-length-3 returns-3 copy-input-requires same-length-4 same-length-5 returns-4)
