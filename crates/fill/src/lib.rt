@@ -1,5 +1,5 @@
-// The first half of a call's work: copied or stretched frames, at pitch 1.0 into the output behind the frames waiting, at
-// another into the stage behind the tail. The input stays.
+// The first half of a call's work: copied or stretched frames, at pitch 1.0 into the output behind the frames waiting,
+// at another into the stage behind the tail. The input stays.
 mod copies;
 mod destination;
 mod stretches;

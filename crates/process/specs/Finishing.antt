@@ -1,5 +1,5 @@
--- What the functions of `finish` require and ensure. s is the stream at the call's start, d what filled the stage or the
--- output; the areas go from a to b. Definitions only. Assumes nothing.
+-- What the functions of `finish` require and ensure. s is the stream at the call's start, d what filled the stage or
+-- the output; the areas go from a to b. Definitions only. Assumes nothing.
 use mathlib.Core.Path.{_≡_}
 use mathlib.Core.Bool.{true, false, cond}
 use mathlib.Core.List.{List, map}

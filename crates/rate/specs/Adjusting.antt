@@ -30,8 +30,8 @@ pub record Placed (r : Rates) (s : Position) : Type 0 where
   pub old-most : r .old ≤ maxHalvedRate
   pub order : PositionInOrder r s
 
--- a call of `adjust_rate`: an f32 holds the rate exactly, the pitch is another than 1.0, the positions are in order, and
--- `new` frames stand behind the tail
+-- a call of `adjust_rate`: an f32 holds the rate exactly, the pitch is another than 1.0, the positions are in order,
+-- and `new` frames stand behind the tail
 pub record AdjustReady (ch rate : ℕ) (pitch : Float) (at : Position) (tail new w : ℕ) (stage output : List ℤ)
     : Type 0 where
   pub exact : rate ≤ 2 ^ 24
