@@ -26,8 +26,8 @@ at 44,100 Hz, speech ten minutes of several voices, noise and pauses at 8,000 Hz
 each followed by a read that takes all, unless it is said: skim is speed 20 and pitch 0.5, short is writes and reads of 160 frames at speed
 2, step-over is skim on speech, beside the original without its `return` at a step that gave no frame. copy, read-all, read-160 and
 long-write are at speed and pitch 1: read-all is writes of 160 frames, each followed by a read that takes all; in read-160 each write, and in
-long-write the one write of a minute, is followed by reads of 160 frames. To reach: skim and speed-2 0.70, speed-0.5 and pitch-0.5 0.80, copy
-0.85, short, read-all, read-160 and long-write 1.0, step-over 0.55.
+long-write the one write of a minute, is followed by reads of 160 frames. To reach: skim and speed-2 0.70, speed-0.5, pitch-0.5 and copy
+0.80, short, read-all, read-160 and long-write 1.0, step-over 0.55.
 
 The line of the tool: its time over the library's on the same reel, from start to end, with its reads and writes (least of the rounds).
 Instructions are counted by valgrind; the last column shows that cost grows in proportion to the reel's length. Not so for long-write, as in

@@ -1,5 +1,5 @@
 -- Where a call's frames go, by the areas. Here:
---   room-is, fits, few, short, kept-there, room-there     counts there
+--   room-is, fits, few, short, room-there     counts there
 --   copied-straight, copied-staged, put-straight, put-staged     what a copy and a stretch do there
 -- Assumes nothing.
 use mathlib.Core.Path.{_≡_, refl, subst}
@@ -18,27 +18,15 @@ use Rattle.stretch.specs.declared.Stretched.{Stretched}
 use Rattle.stretch.specs.Speed.{changeSpeed, AreaAfter}
 use Rattle.stream.specs.declared.SonicStream.{SonicStream}
 use Rattle.fill.specs.declared.destination.Destination.{Destination}
-use Rattle.fill.specs.Filling.{straight, destinationIn, filledArea, otherArea, placeFor, AreasFit, CopyEnsures, StretchEnsures}
+use Rattle.fill.specs.Filling.{straight, destinationBy, destinationIn, filledArea, otherArea, placeFor, AreasFit, CopyEnsures, StretchEnsures}
 use Rattle.fill.proofs.Filling.{AreaFits}
 
 module _ (s : SonicStream) (a : Areas) where
   -- by whether they go straight out
-  destination : Bool → Destination
-  destination b =
-      cond b
-      (record {
-        kept = s .waiting;
-        room = record { 0 = length (a .output) / s .channels - s .waiting .0 };
-        most = record { 0 = length (a .stage) / s .channels };
-      })
-      (record {
-        kept = s .tail;
-        room = record { 0 = length (a .stage) / s .channels - s .tail .0 };
-        most = record { 0 = length (a .stage) / s .channels - s .tail .0 };
-      })
+  abbrev destination : Bool → Destination
+  destination b = destinationBy b s (length (a .stage)) (length (a .output))
 
   pub room-is : destinationIn s a .room .0 ≡ length (filledArea s a) / s .channels - destinationIn s a .kept .0
-  unfolding destination
   room-is = go (straight s)
     where
       go : (b : Bool) → destination b .room .0 ≡ length (cond b (a .output) (a .stage)) / s .channels - destination b .kept .0
@@ -47,7 +35,6 @@ module _ (s : SonicStream) (a : Areas) where
 
   module _ (fit : AreasFit s a) where
     pub fits : AreaFits s (destinationIn s a .kept .0) (a .input) (filledArea s a)
-    unfolding destination
     fits = go (straight s)
       where
         go : (b : Bool) → AreaFits s (destination b .kept .0) (a .input) (cond b (a .output) (a .stage))
@@ -55,7 +42,6 @@ module _ (s : SonicStream) (a : Areas) where
         go false = record { held = fit .held; kept-fit = fit .tail; input-short = fit .input-short }
 
     pub few : destinationIn s a .most .0 ≤ 2 ^ 24
-    unfolding destination
     few = go (straight s)
       where
         all : length (a .stage) / s .channels ≤ length (a .stage)

@@ -27,7 +27,7 @@ use Rattle.stretch.specs.declared.Stretch.{Stretch}
 use Rattle.stretch.specs.declared.Stretched as S
 use Rattle.stretch.specs.Steps.{StretchReady}
 use Rattle.stretch.specs.Tally.{Tally, tally}
-use Rattle.stretch.specs.Speed.{steps, framesMade, samplesOf, lastPlace, stalled, begun, answerFor, changeSpeed, stretchedFrames, AreaAfter}
+use Rattle.stretch.specs.Speed.{steps, framesMade, samplesOf, lastPlace, stalled, answerFor, changeSpeed, stretchedFrames, AreaAfter}
 use Rattle.stretch.proofs.Balance.{position-used, steps-surplus}
 use Rattle.stretch.proofs.Claims.{used-held}
 use Rattle.stretch.proofs.Framed.{area-behind, area-full}

@@ -1,7 +1,7 @@
 -- What the functions of `fill` require and ensure of a stream s; its areas go from a to b. Definitions only. Assumes
 -- nothing.
 use mathlib.Core.Path.{_≡_}
-use mathlib.Core.Bool.{Bool, cond}
+use mathlib.Core.Bool.{Bool, true, false, cond}
 use mathlib.Core.List.{List}
 use Prim.Native.Nat.{ℕ, _-_, _*_, _/_, _^_, _≤_, _<_}
 use lib.IntN.{ℤ}
@@ -42,19 +42,23 @@ straight s = eq (s .pitch) one
 
 -- at pitch 1.0 straight into the output, behind the frames waiting, as many as the stage holds at the most (C-12); at
 -- another into the stage, behind the tail, as many as there is room for
-abbrev pub destinationOf : SonicStream → ℕ → ℕ → Destination
-destinationOf s stage output =
-    cond (straight s)
-    (record {
+abbrev pub destinationBy : Bool → SonicStream → ℕ → ℕ → Destination
+destinationBy true s stage output =
+    record {
       kept = s .waiting;
       room = record { 0 = output / s .channels - s .waiting .0 };
       most = record { 0 = stage / s .channels };
-    })
-    (record {
+    }
+destinationBy false s stage output =
+    record {
       kept = s .tail;
       room = record { 0 = stage / s .channels - s .tail .0 };
       most = record { 0 = stage / s .channels - s .tail .0 };
-    })
+    }
+
+-- by the lengths of stage and output
+abbrev pub destinationOf : SonicStream → ℕ → ℕ → Destination
+destinationOf s stage output = destinationBy (straight s) s stage output
 
 abbrev pub destinationIn : SonicStream → Areas → Destination
 destinationIn s a = destinationOf s (length (a .stage)) (length (a .output))

@@ -1,4 +1,4 @@
-// Where a call's frames go. `specs/Filling.antt` says it, `destinationOf`.
+// Which of the two areas a call fills, and how far: `destinationOf`, `specs/Filling.antt`.
 use frames::Frames;
 use frames::Samples;
 use stream::SonicStream;

@@ -4,7 +4,6 @@ use mathlib.Core.Bool.{Bool, true, false, cond}
 use mathlib.Core.List.{List, [], map}
 use Prim.Native.Nat.{ℕ, _+_, _-_, _*_, _/_, _≤_, _<_}
 use native.Mathlib.Nat.{not-le-of-lt}
-use lib.IntN.{ℤ}
 use lib.Ieee.{Float, eq}
 use lib.ListN.{length, take, length-drop, length-map}
 use Rattle.frames.specs.Areas.{Areas, areas}

@@ -16,7 +16,7 @@ use Rattle.rate.specs.declared.Rates.{Rates}
 use Rattle.rate.specs.declared.Position.{Position}
 use Rattle.rate.specs.Halving.{ratesOf}
 use Rattle.rate.specs.Tail.{consumable}
-use Rattle.rate.specs.Conversion.{Conversion, convert, joinTail, adjustRate}
+use Rattle.rate.specs.Conversion.{convert, joinTail, adjustRate}
 use Rattle.period.specs.Rates.{maxRequired}
 use Rattle.stretch.specs.declared.Stretch.{Stretch}
 use Rattle.stretch.specs.Speed.{answerFor}

@@ -9,7 +9,6 @@ use lib.IntN.{ℤ}
 use lib.ListN.{length, take, length-append}
 use lib.Seq.{paste, paste-zero}
 use Rattle.frames.specs.declared.Frames.{Frames}
-use Rattle.frames.proofs.Pasted.{paste-front}
 use Rattle.period.specs.Rates.{maxRequired}
 use Rattle.period.specs.Pitch.{PrevInOrder}
 use Rattle.stretch.specs.declared.StretchCall.{StretchCall}

@@ -1,7 +1,6 @@
 -- `fill::destination::destination_of` meets its contract. Assumes nothing.
 use borrow.Author.Needs.{needs}
 use Prim.Native.Nat.{_-_}
-use native.Mathlib.Omega.{arith}
 use lib.Ieee.{ofBits}
 use Rattle.fill.proofs.destination.destination_of.Statement.{statement}
 use Rattle.fill.proofs.destination.destination_of.Tie as tie

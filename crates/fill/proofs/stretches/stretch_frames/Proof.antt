@@ -15,7 +15,7 @@ use Rattle.stretch.specs.Steps.{StretchReady}
 use Rattle.stretch.specs.Speed.{AreaAfter}
 use Rattle.stream.specs.Stream.{stateOf}
 use Rattle.fill.specs.declared.destination.Destination.{Destination}
-use Rattle.fill.specs.Filling.{straight, destinationIn, filledArea, placeFor}
+use Rattle.fill.specs.Filling.{straight, filledArea, placeFor}
 use Rattle.fill.proofs.Filling.{ready-limits}
 use Rattle.fill.proofs.Destinations.{few, short, room-there, put-straight, put-staged}
 use Rattle.fill.proofs.stretches.stretch_frames.Statement.{statement}

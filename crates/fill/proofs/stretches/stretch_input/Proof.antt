@@ -3,7 +3,7 @@
 use borrow.Author.Needs.{needs}
 use mathlib.Core.Path.{_≡_, refl, sym, ap, _∙_, subst}
 use mathlib.Core.List.{List}
-use Prim.Native.Nat.{ℕ, _-_, _*_, _/_, _≤_}
+use Prim.Native.Nat.{ℕ, _-_, _*_, _≤_}
 use native.Mathlib.Omega.{arith}
 use lib.IntN.{ℤ}
 use lib.ListN.{length, take, length-take}
@@ -12,7 +12,7 @@ use Rattle.frames.proofs.Room.{frames-le}
 use Rattle.stretch.specs.declared.Stretched as S
 use Rattle.stretch.specs.Speed.{changeSpeed, AreaAfter}
 use Rattle.fill.specs.declared.destination.Destination.{Destination}
-use Rattle.fill.specs.Filling.{destinationIn, filledArea, placeFor, AreasFit}
+use Rattle.fill.specs.Filling.{destinationIn, filledArea, placeFor}
 use Rattle.fill.proofs.Filling.{ready-limits}
 use Rattle.fill.proofs.Stretching.{StretchDue, StretchAnswered, callOf, roomIn, call-ready, lent-long}
 use Rattle.fill.proofs.Stretching.{stretched-over, stretched-used, stretched-full, stretched-filled}

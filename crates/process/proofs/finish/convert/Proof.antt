@@ -1,6 +1,5 @@
 -- `process::finish::convert` meets its contract. Assumes nothing.
 use borrow.Author.Needs.{needs}
-use mathlib.Core.Bool.{false}
 use mathlib.Core.List.{[]}
 use native.Mathlib.Omega.{arith}
 use lib.Ieee.{ofBits}

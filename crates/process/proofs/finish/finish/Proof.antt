@@ -7,7 +7,7 @@ use lib.IntN.{ℤ}
 use Rattle.frames.specs.Areas.{Areas, areas}
 use Rattle.rate.specs.declared.Adjustment.{Adjustment}
 use Rattle.rate.specs.Conversion.{Conversion}
-use Rattle.process.specs.Finishing.{conversionOf, ConvertReady, ConvertEnsures}
+use Rattle.process.specs.Finishing.{conversionOf, ConvertEnsures}
 use Rattle.process.proofs.Finishing.{staged-fits, commit-ready, finish-done}
 use Rattle.process.proofs.finish.finish.Statement.{statement}
 use Rattle.process.proofs.finish.finish.Tie as tie

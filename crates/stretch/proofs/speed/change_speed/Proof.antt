@@ -9,7 +9,7 @@ use Rattle.period.specs.Rates.{maxRequired}
 use Rattle.stretch.specs.declared.Stretched.the-variants.{Made}
 use Rattle.stretch.specs.declared.Turn.{Turn}
 use Rattle.stretch.specs.declared.Turn.the-variants.{TooMany, Went}
-use Rattle.stretch.specs.Steps.{nextStep, turnFor, areaFor}
+use Rattle.stretch.specs.Steps.{nextStep, turnFor}
 use Rattle.stretch.specs.Speed.{begun}
 use Rattle.stretch.proofs.Progress.{required-some}
 use Rattle.stretch.proofs.Between.{StretchLent, Going, going-start, going-kept, going-end, going-over}
