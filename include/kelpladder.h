@@ -51,6 +51,12 @@ enum kelpladder_outcome {
     KELPLADDER_STALLED = 4    /* a step gave no frame and ended the call: the frames made before it went on, nothing left the input */
 };
 
+/* Of several periods with the same least mean of differences, the one that a search finds. */
+enum kelpladder_ties {
+    KELPLADDER_SMALLEST = 0,
+    KELPLADDER_LARGEST = 1
+};
+
 /* Totals over all accepted writes and flushes that did not stall. Over these calls, frames out of the stretch or copy, before the rate
  * conversion, plus skipped equals frames used plus inserted; frames that a flush clears are not used. */
 typedef struct kelpladder_balance {
@@ -77,6 +83,7 @@ typedef struct kelpladder_stream {
     size_t waiting;           /* frames in the output area */
     kelpladder_balance balance;
     uint32_t step_over;       /* 0: off; any other value: on */
+    uint32_t ties;            /* of equal means 0: the smallest period; any other value: the largest. Fixed at the opening */
 } kelpladder_stream;
 
 /* An opening: refused, `given` is the rate or the channels given, and every field of the stream is 0. */
@@ -103,6 +110,7 @@ typedef struct kelpladder_available {
 typedef struct kelpladder_told {
     uint32_t outcome;
     size_t passed;            /* periods passed over in this call, those of a flush's own silence among them */
+    size_t sum;               /* sum of differences of the period that the last search of this call found; 0 if it made none */
 } kelpladder_told;
 
 /* A write or a flush. */
@@ -119,8 +127,12 @@ typedef struct kelpladder_gave {
     kelpladder_stream stream;
 } kelpladder_gave;
 
-/* Opens a stream; refusals 1 and 2. */
+/* Opens a stream; refusals 1 and 2. Its searches find the smallest of several periods with the same mean. */
 kelpladder_opened kelpladder_open(uint32_t rate, uint32_t channels);
+
+/* The same, with the period that searches find of several with the same mean: 0 the smallest, any other number the largest. A refused
+ * opening's stream has 0. */
+kelpladder_opened kelpladder_open_with_ties(uint32_t rate, uint32_t channels, uint32_t ties);
 
 /* Set the speed or the pitch (0.05..=20) or the volume (0.01..=100), each held to its range, a NaN to its lower end; refusal 3. */
 kelpladder_changed kelpladder_set_speed(kelpladder_stream stream, float speed);
