@@ -67,7 +67,7 @@ speed-same s input stage =
 
 -- all frames held were copied, and the stream t has none of them
 abbrev pub allFilled : SonicStream → SonicStream → Fill
-allFilled s t = Fill.Done (record { frames = s .held; used = s .held; balance = none; stream = t; told = record { outcome = Copied; passed = 0 } })
+allFilled s t = Fill.Done (record { frames = s .held; used = s .held; balance = none; stream = t; told = record { outcome = Copied; passed = 0; sum = 0 } })
 
 module _ (s : SonicStream) (kept most : ℕ) (r : StreamReady s) (input area : List ℤ) (fit : AreaFits s kept input area) where
   abbrev state : List ℤ → State

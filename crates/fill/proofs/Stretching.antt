@@ -19,6 +19,7 @@ use Rattle.frames.proofs.Framing.{length-framesOf, flat-framesOf}
 use Rattle.frames.proofs.Room.{room-under}
 use Rattle.floats.specs.Settings.{samplePeriod}
 use Rattle.floats.specs.Write.{speedChanges}
+use Rattle.search.specs.Ties.{tiesOf}
 use Rattle.period.specs.declared.PeriodRecord.{PeriodRecord}
 use Rattle.period.specs.Rates.{maxRequired}
 use Rattle.stretch.specs.declared.StretchCall.{StretchCall}
@@ -58,6 +59,7 @@ callOf s x =
       «input_play_time» = s .«input_play_time»;
       held = s .held;
       «step_over» = stepsOver (s .«step_over»);
+      ties = tiesOf (s .ties);
     }
 
 abbrev pub lentOf : SonicStream → List ℤ → List ℤ
@@ -112,6 +114,7 @@ module _ {s : SonicStream} {x : Float} {kept : ℕ} {input area : List ℤ} (d :
     «input_play_time» = s .«input_play_time»;
     held = record { 0 = sym (length-framesOf (s .channels) (s .held .0) input) i };
     «step_over» = stepsOver (s .«step_over»);
+    ties = tiesOf (s .ties);
   }
 
   lent-is : lentOf s input ≡ flat (state .input)

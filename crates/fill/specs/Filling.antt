@@ -102,7 +102,8 @@ pub record SteppedAs (s : SonicStream) (a : Stretch) (d : Filled) : Type 0 where
   pub used : d .used .0 ≡ cond (a .stalled) 0 (a .used .0)
   pub balance : d .balance ≡ cond (a .stalled) none (surplus (a .made .0) (a .used .0))
   pub stream : ChangedBy (stepped a) s (s .waiting .0) (d .stream)
-  pub told : d .told ≡ record { outcome = cond (a .stalled) Outcomes.Stalled Outcomes.Stretched; passed = a .passed }
+  pub told : d .told
+      ≡ record { outcome = cond (a .stalled) Outcomes.Stalled Outcomes.Stretched; passed = a .passed; sum = a .sum }
 
 -- no frames
 abbrev pub nothingFilled : SonicStream → Outcome → Fill
@@ -113,7 +114,7 @@ nothingFilled s outcome =
       used = record { 0 = 0 };
       balance = none;
       stream = s;
-      told = record { outcome = outcome; passed = 0 };
+      told = record { outcome = outcome; passed = 0; sum = 0 };
     })
 
 -- an area was filled behind its first `kept` frames as t says, with at most `most` frames; it goes from `entry` to

@@ -1,6 +1,6 @@
 -- docs/RULES.md, "A write" and "Stretch steps": copied or stretched frames, before rate and volume, with no limit of
--- room; what they add to the totals (C-16), and the periods passed over (C-18). Definitions only.
--- Assumes nothing.
+-- room; what they add to the totals (C-16), the periods passed over (C-18), and the sum of the last search (C-17).
+-- Definitions only. Assumes nothing.
 use mathlib.Core.Bool.{cond}
 use mathlib.Core.List.{List, [], _∷_}
 use Prim.Native.Nat.{ℕ, _-_}
@@ -10,6 +10,7 @@ use lib.ListN.{length, drop}
 use Rattle.frames.specs.Framing.{Frame, flat}
 use Rattle.floats.specs.Settings.{samplePeriod}
 use Rattle.floats.specs.Write.{playTimeLeft, localSpeed, speedChanges}
+use Rattle.search.specs.Ties.{tiesOf}
 use Rattle.period.specs.Rates.{maxRequired}
 use Rattle.stretch.specs.declared.StretchCall.{StretchCall}
 use Rattle.stretch.specs.declared.Place.{Place}
@@ -17,7 +18,7 @@ use Rattle.stretch.specs.declared.Step.{Step}
 use Rattle.stretch.specs.declared.Stretch.{Stretch}
 use Rattle.stretch.specs.Tally.{tally}
 use Rattle.stretch.specs.Speed as Speed
-use Rattle.stretch.specs.Speed.{begun, stalled, answerFor, stretchedFrames}
+use Rattle.stretch.specs.Speed.{begun, lastPlace, stalled, answerFor, stretchedFrames}
 use Rattle.stream.specs.declared.balance.Balance.{Balance}
 use Rattle.stream.specs.Balance.{none}
 use Rattle.stream.specs.State.{State, withInput, stepsOver}
@@ -41,7 +42,8 @@ pub record Taken : Type 0 where
 
 -- no frames
 unfoldable pub nothing : Outcome → State → Taken
-nothing outcome s = record { frames = []; steps = []; state = s; told = record { outcome = outcome; passed = 0 } }
+nothing outcome s =
+    record { frames = []; steps = []; state = s; told = record { outcome = outcome; passed = 0; sum = 0 } }
 
 -- all frames of the input, in one copying step
 unfoldable pub copied : State → Taken
@@ -50,7 +52,7 @@ copied s =
       frames = s .input;
       steps = Step.Copied (record { 0 = length (s .input) }) ∷ [];
       state = removed (length (s .input)) s;
-      told = record { outcome = Copied; passed = 0 };
+      told = record { outcome = Copied; passed = 0; sum = 0 };
     }
 
 -- the stretch's call at local speed x, the place where it begins, and its steps
@@ -64,6 +66,7 @@ callAt x s =
       «input_play_time» = s .«input_play_time»;
       held = record { 0 = length (s .input) };
       «step_over» = stepsOver (s .«step_over»);
+      ties = tiesOf (s .ties);
     }
 
 abbrev pub placeOf : State → Place
@@ -88,6 +91,7 @@ stretched x s =
       told = record {
         outcome = cond (stalled (stepsAt x s)) Stalled Stretched;
         passed = tally (stepsAt x s) .passed;
+        sum = lastPlace (callAt x s) (flat (s .input)) (placeOf s) (stepsAt x s) .sum;
       };
     }
 

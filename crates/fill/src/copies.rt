@@ -76,6 +76,7 @@ pub(crate) fn copy_input(
         told: Told {
             outcome: Outcome::Copied,
             passed: 0,
+            sum: 0,
         },
     })
 }

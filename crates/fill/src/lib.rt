@@ -27,10 +27,12 @@ pub enum Outcome {
     Stalled,
 }
 
-// What is told of an accepted write or flush: its outcome, and the periods that it passed over.
+// What is told of an accepted write or flush: its outcome, the periods that it passed over, and the sum of differences
+// of the period that its last search found, 0 if it made none.
 pub struct Told {
     pub outcome: Outcome,
     pub passed: usize,
+    pub sum: usize,
 }
 
 // New frames in the area, frames of the input to be removed, what the call adds to the totals, the stream without
@@ -93,7 +95,11 @@ fn nothing(stream: SonicStream, outcome: Outcome) -> Fill
         used: Frames(0),
         balance: Balance::NONE,
         stream,
-        told: Told { outcome, passed: 0 },
+        told: Told {
+            outcome,
+            passed: 0,
+            sum: 0,
+        },
     })
 }
 

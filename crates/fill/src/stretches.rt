@@ -49,6 +49,7 @@ fn stepped(mut stream: SonicStream, stretch: Stretch) -> Filled
             told: Told {
                 outcome: Outcome::Stalled,
                 passed: stretch.passed,
+                sum: stretch.sum,
             },
         };
     }
@@ -60,6 +61,7 @@ fn stepped(mut stream: SonicStream, stretch: Stretch) -> Filled
         told: Told {
             outcome: Outcome::Stretched,
             passed: stretch.passed,
+            sum: stretch.sum,
         },
     }
 }
@@ -146,6 +148,7 @@ pub(crate) fn stretch_input(
         input_play_time: stream.input_play_time,
         held,
         step_over: stream.step_over > 0,
+        ties: search::ties_of(stream.ties),
     };
     let count = held.samples(channels).0;
     let to = destination_of(stream, Samples(stage.len()), Samples(output.len()));

@@ -88,13 +88,14 @@ fn default(options: Options) -> Job
         pitch: 0.5,
         volume: 1.0,
         step_over: !options.as_original,
+        ties: stream::ties_of(options.longest_period as u32),
         map: options.map,
     }
 }
 
 // The job of the four or five numbers behind the options.
 fn numbers(options: Options, with_volume: bool) -> Asked
-    requires { ⌜ options .before ≤ 5 ⌝ }
+    requires { ⌜ options .before ≤ 7 ⌝ }
     ensures { λ r. ⌜ AskedInRange r ⌝ }
 {
     let before = options.before;
@@ -106,6 +107,7 @@ fn numbers(options: Options, with_volume: bool) -> Asked
         pitch: value(before + 4),
         volume,
         step_over: !options.as_original,
+        ties: stream::ties_of(options.longest_period as u32),
         map: options.map,
     })
 }

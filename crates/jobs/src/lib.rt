@@ -7,9 +7,11 @@ mod settling;
 pub use arguments::read;
 pub use arguments::wants_status;
 pub use options::open_map;
+pub use settling::open;
 pub use settling::settle;
+use stream::Ties;
 
-// What a run is to do: the settings of its stream, and the place of the argument that names the map's file, 0 if none
+// What a run is to do: the opening and the settings of its stream, and the place of the argument that names the map's file, 0 if none
 // is wanted.
 pub struct Job {
     pub rate: u32,
@@ -18,6 +20,7 @@ pub struct Job {
     pub pitch: f32,
     pub volume: f32,
     pub step_over: bool,
+    pub ties: Ties,
     pub map: usize,
 }
 

@@ -1,49 +1,52 @@
-// The options, which stand before the numbers: `--as-original` and `--map FILE`, in either order, each once or not at
-// all.
+// The options, which stand before the numbers: `--as-original`, `--longest-period` and `--map FILE`, in any order, each
+// once or not at all.
 use crate::arguments::is_word;
 ghost use Prim.Native.Nat.{_+_, _≤_};
 
-// What was found so far: whether to stop as the original does, the place of the map's name, 0 if there is none, and the
-// arguments that stand before the next one, without the program's name.
+// What was found so far: whether to stop as the original does, whether to find the longest of several periods with the
+// same mean, the place of the map's name, 0 if there is none, and the arguments that stand before the next one, without
+// the program's name.
 pub struct Options {
     pub as_original: bool,
+    pub longest_period: bool,
     pub map: usize,
     pub before: usize,
 }
 
 // One option more, if the next argument is one that was not given yet.
-fn one_more(found: Options) -> Options
+fn one_more(mut found: Options) -> Options
     requires { ⌜ found .before ≤ 8 ⌝ }
     ensures { λ r. ⌜ r .before ≤ found .before + 2 ⌝ }
 {
     let next = found.before + 1;
     if !found.as_original && is_word(next, b"--as-original") {
-        return Options {
-            as_original: true,
-            map: found.map,
-            before: next,
-        };
+        found.as_original = true;
+        found.before = next;
+        return found;
+    }
+    if !found.longest_period && is_word(next, b"--longest-period") {
+        found.longest_period = true;
+        found.before = next;
+        return found;
     }
     if found.map == 0 && is_word(next, b"--map") {
-        return Options {
-            as_original: found.as_original,
-            map: next + 1,
-            before: next + 1,
-        };
+        found.map = next + 1;
+        found.before = next + 1;
     }
     found
 }
 
 // The options, behind `--status` if that is the first argument.
 pub(crate) fn given(with_status: bool) -> Options
-    ensures { λ r. ⌜ r .before ≤ 5 ⌝ }
+    ensures { λ r. ⌜ r .before ≤ 7 ⌝ }
 {
     let none = Options {
         as_original: false,
+        longest_period: false,
         map: 0,
         before: if with_status { 1 } else { 0 },
     };
-    one_more(one_more(none))
+    one_more(one_more(one_more(none)))
 }
 
 // Whether an argument begins as options do.

@@ -1,12 +1,21 @@
 // The stream of a job.
 use crate::Job;
 use stream::Changed;
+use stream::Opened;
 use stream::Setting;
 use stream::SonicStream;
 ghost use mathlib.Core.Path.{_≡_};
 ghost use mathlib.Core.Bool.{true};
 ghost use Rattle.stream.specs.Refusals.{inOrder};
+ghost use Rattle.stream.specs.Settings.{openCall};
 ghost use Rattle.jobs.specs.Settings.{withOne, settled};
+
+// Opens the stream of a job.
+pub fn open(job: Job) -> Opened
+    ensures { λ r. ⌜ r ≡ openCall (job .rate) (job .channels) (job .ties) ⌝ }
+{
+    SonicStream::with_ties(job.rate, job.channels, job.ties)
+}
 
 // A stream with one setting changed.
 fn set(stream: SonicStream, setting: Setting) -> SonicStream

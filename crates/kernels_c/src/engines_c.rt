@@ -11,6 +11,7 @@ ghost use lib.Seq.{paste};
 ghost use Rattle.floats.specs.Settings.{minVolume, maxVolume};
 ghost use Rattle.floats.specs.Write.{sampleIn, sampleOut};
 ghost use Rattle.averages.specs.Averages.{downSampleInput, Averageable};
+ghost use Rattle.search.specs.Ties.{tiesOf};
 ghost use Rattle.search.specs.Search.{findPitchPeriodInRange, longestPeriod, Searchable};
 ghost use Rattle.sinc.specs.Sinc.{interpolateFrame};
 ghost use Rattle.sinc.specs.SincTable.{sincTable};
@@ -23,6 +24,7 @@ pub struct Search {
     pub period: usize,
     pub min_diff: usize,
     pub max_diff: usize,
+    pub sum: usize,
 }
 
 #[no_mangle]
@@ -48,17 +50,20 @@ pub extern "C" fn kernel_find_pitch_period_in_range(
     samples: &[i16],
     low: usize,
     high: usize,
+    ties: u32,
 ) -> Search
     requires { ⌜ Searchable (length (now samples)) low high ⌝ }
-    ensures { λ r. ⌜ (r .period ≡ findPitchPeriodInRange (now (samples .entry)) low high .period)
-        × (r .«min_diff» ≡ findPitchPeriodInRange (now (samples .entry)) low high .«min_diff»)
-        × (r .«max_diff» ≡ findPitchPeriodInRange (now (samples .entry)) low high .«max_diff») ⌝ }
+    ensures { λ r. ⌜ (r .period ≡ findPitchPeriodInRange (tiesOf ties) (now (samples .entry)) low high .period)
+        × (r .«min_diff» ≡ findPitchPeriodInRange (tiesOf ties) (now (samples .entry)) low high .«min_diff»)
+        × (r .«max_diff» ≡ findPitchPeriodInRange (tiesOf ties) (now (samples .entry)) low high .«max_diff»)
+        × (r .sum ≡ findPitchPeriodInRange (tiesOf ties) (now (samples .entry)) low high .sum) ⌝ }
 {
-    let found = search::find_pitch_period_in_range(samples, low, high);
+    let found = search::find_pitch_period_in_range(samples, low, high, search::ties_of(ties));
     Search {
         period: found.period,
         min_diff: found.min_diff,
         max_diff: found.max_diff,
+        sum: found.sum,
     }
 }
 

@@ -9,6 +9,7 @@ use borrow.Author.Tests.{ltb-true, eqb-true}
 use lib.Dec.{ltb, eqb}
 use lib.IntN.{ℤ}
 use Rattle.period.specs.Rates.{minPeriod, maxPeriod, maxRequired, amdfFreq, skip, InLimits}
+use Rattle.search.specs.declared.Ties.{Ties}
 use Rattle.search.specs.Search.{Searchable}
 use Rattle.averages.specs.Averages.{Averageable}
 use Rattle.period.specs.Pitch.{valuesOf, coarse, fine, found, InRange}
@@ -76,15 +77,15 @@ fine-searchable o near-high near-low low-is high-is n-is =
     record { some = omega (arith, o .rate-low); order = omega arith; short = omega (arith, o .rate-high); enough = omega arith }
 
 -- ---- the period found lies in the range
-module _ (x : List ℤ) {R channels : ℕ} (o : InLimits R channels) where
-  coarse-in : (minPeriod R / skip R ≤ coarse x channels R .period) × (coarse x channels R .period ≤ maxPeriod R / skip R)
+module _ (ties : Ties) (x : List ℤ) {R channels : ℕ} (o : InLimits R channels) where
+  coarse-in : (minPeriod R / skip R ≤ coarse ties x channels R .period) × (coarse ties x channels R .period ≤ maxPeriod R / skip R)
   unfolding coarse
   coarse-in =
       let r = coarse-searchable o refl refl refl refl in
-      search-rule _ _ _ (r .some) (r .order) .in-range
+      search-rule ties _ _ _ (r .some) (r .order) .in-range
 
   abbrev near : ℕ
-  near = coarse x channels R .period * skip R
+  near = coarse ties x channels R .period * skip R
 
   pub near-high : near ≤ maxPeriod R
   near-high = le-trans (mul-le-mul-right (skip R) (coarse-in .1)) (div-mul-le-self (maxPeriod R) (skip R))
@@ -92,23 +93,23 @@ module _ (x : List ℤ) {R channels : ℕ} (o : InLimits R channels) where
   pub near-low : minPeriod R < near + skip R
   near-low = omega (arith, lt-div-mul-add {a = minPeriod R} {b = skip R} (skip-in o refl .some), mul-le-mul-right (skip R) (coarse-in .0))
 
-  fine-in : InRange R (fine x channels R near .period)
+  fine-in : InRange R (fine ties x channels R near .period)
   unfolding fine
   fine-in =
       let s = fine-searchable o near-high near-low refl refl refl in
-      let r = search-rule (valuesOf x (maxRequired R) channels) _ _ (s .some) (s .order) .in-range in
+      let r = search-rule ties (valuesOf x (maxRequired R) channels) _ _ (s .some) (s .order) .in-range in
       record { low = omega (arith, r .0); high = omega (arith, r .1) }
 
-  coarse-whole : skip R ≡ 1 → InRange R (coarse x channels R .period)
+  coarse-whole : skip R ≡ 1 → InRange R (coarse ties x channels R .period)
   coarse-whole e =
       let l : minPeriod R / skip R ≡ minPeriod R = ap (λ (n : ℕ). minPeriod R / n) e ∙ div-one (minPeriod R) in
       let h : maxPeriod R / skip R ≡ maxPeriod R = ap (λ (n : ℕ). maxPeriod R / n) e ∙ div-one (maxPeriod R) in
       record { low = omega (arith, coarse-in .0); high = omega (arith, coarse-in .1) }
 
-  found-cases : (t : Bool) → eqb (skip R) 1 ≡ t → InRange R (cond t (coarse x channels R) (fine x channels R near) .period)
+  found-cases : (t : Bool) → eqb (skip R) 1 ≡ t → InRange R (cond t (coarse ties x channels R) (fine ties x channels R near) .period)
   found-cases true e = coarse-whole (eqb-true (skip R) 1 e)
   found-cases false e = fine-in
 
-  pub found-in : InRange R (found x channels R .period)
+  pub found-in : InRange R (found ties x channels R .period)
   unfolding found
   found-in = found-cases (eqb (skip R) 1) refl

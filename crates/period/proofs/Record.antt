@@ -7,6 +7,7 @@ use Prim.Native.Nat.{ℕ}
 use borrow.Author.Tests.{eq-eqb, not-true}
 use lib.Dec.{eqb}
 use lib.IntN.{ℤ}
+use Rattle.search.specs.declared.Ties.{Ties}
 use Rattle.search.specs.declared.Found.{Found}
 use Rattle.period.specs.declared.PeriodRecord.{PeriodRecord}
 use Rattle.period.specs.Rates.{InLimits}
@@ -31,11 +32,11 @@ used-cases : {R : ℕ} (t : Bool) (prev : PeriodRecord) (f : Found) → PeriodIn
 used-cases true prev f p i e = prev-in prev f p e
 used-cases false prev f p i e = i
 
-module _ (x : List ℤ) {R channels : ℕ} (prev : PeriodRecord) (o : InLimits R channels) (p : PeriodIn R prev) where
-  pub findPitchPeriod-in : InRange R (findPitchPeriod x channels R prev .period .0)
+module _ (ties : Ties) (x : List ℤ) {R channels : ℕ} (prev : PeriodRecord) (o : InLimits R channels) (p : PeriodIn R prev) where
+  pub findPitchPeriod-in : InRange R (findPitchPeriod ties x channels R prev .period .0)
   unfolding findPitchPeriod chosen
-  findPitchPeriod-in = used-cases (prevPeriodBetter prev (found x channels R)) prev (found x channels R) p (found-in x o) refl
+  findPitchPeriod-in = used-cases (prevPeriodBetter prev (found ties x channels R)) prev (found ties x channels R) p (found-in ties x o) refl
 
-  pub findPitchPeriod-record-in : PeriodIn R (findPitchPeriod x channels R prev .prev)
+  pub findPitchPeriod-record-in : PeriodIn R (findPitchPeriod ties x channels R prev .prev)
   unfolding findPitchPeriod chosen
-  findPitchPeriod-record-in = inr (found-in x o)
+  findPitchPeriod-record-in = inr (found-in ties x o)

@@ -15,8 +15,9 @@ pub struct PeriodRecord {
     pub min_diff: usize,
 }
 
-// The period that a step uses, and the record after its search.
+// The period that a step uses, the record after its search, and the sum of differences of the period found.
 pub struct Chosen {
     pub period: Frames,
     pub prev: PeriodRecord,
+    pub sum: usize,
 }

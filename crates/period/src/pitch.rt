@@ -5,6 +5,7 @@ use crate::PeriodRecord;
 use frames::Frames;
 use frames::Samples;
 use search::Found;
+use search::Ties;
 ghost use mathlib.Core.Path.{_≡_};
 ghost use Prim.Native.Nat.{_+_, _-_, _*_, _^_, _≤_, _<_, min, max};
 ghost use lib.ListN.{length};
@@ -44,27 +45,34 @@ fn search_values(
     per_value: Samples,
     low: usize,
     high: usize,
+    ties: Ties,
     scratch: &mut [i16],
 ) -> Found
     requires { ⌜ Averageable (length (now samples)) (length (now scratch)) «num_values» («per_value» .0) ⌝ }
     requires { ⌜ Searchable «num_values» low high ⌝ }
     ensures { λ r. ⌜
-        (r ≡ findPitchPeriodInRange (valuesOf (now (samples .entry)) «num_values» («per_value» .0)) low high)
+        (r ≡ findPitchPeriodInRange ties (valuesOf (now (samples .entry)) «num_values» («per_value» .0)) low high)
         × (r .«min_diff» ≤ widestGap) ⌝ }
 {
     let n = per_value.0;
     if n == 1 {
-        return search::find_pitch_period_in_range(samples, low, high);
+        return search::find_pitch_period_in_range(samples, low, high, ties);
     }
     averages::down_sample_input(samples, scratch, num_values, per_value);
-    search::find_pitch_period_in_range(&scratch[..num_values], low, high)
+    search::find_pitch_period_in_range(&scratch[..num_values], low, high, ties)
 }
 
 // The first search, over averages of `skip` frames each.
-fn coarse_search(samples: &[i16], channels: usize, rate: usize, scratch: &mut [i16]) -> Found
+fn coarse_search(
+    samples: &[i16],
+    channels: usize,
+    rate: usize,
+    ties: Ties,
+    scratch: &mut [i16],
+) -> Found
     requires { ⌜ InLimits rate channels ⌝ }
     requires { ⌜ (maxRequired rate * channels ≤ length (now samples)) × (maxRequired rate ≤ length (now scratch)) ⌝ }
-    ensures { λ r. ⌜ (r ≡ coarse (now (samples .entry)) channels rate) × (r .«min_diff» ≤ widestGap) ⌝ }
+    ensures { λ r. ⌜ (r ≡ coarse ties (now (samples .entry)) channels rate) × (r .«min_diff» ≤ widestGap) ⌝ }
 {
     let skip = crate::rates::skip(rate);
     let low = crate::rates::min_period(rate);
@@ -78,6 +86,7 @@ fn coarse_search(samples: &[i16], channels: usize, rate: usize, scratch: &mut [i
         per_value,
         low / skip,
         high / skip,
+        ties,
         scratch,
     )
 }
@@ -88,12 +97,13 @@ fn fine_search(
     channels: usize,
     rate: usize,
     near: usize,
+    ties: Ties,
     scratch: &mut [i16],
 ) -> Found
     requires { ⌜ InLimits rate channels ⌝ }
     requires { ⌜ (near ≤ maxPeriod rate) × (minPeriod rate < near + skip rate) ⌝ }
     requires { ⌜ (maxRequired rate * channels ≤ length (now samples)) × (maxRequired rate ≤ length (now scratch)) ⌝ }
-    ensures { λ r. ⌜ (r ≡ fine (now (samples .entry)) channels rate near) × (r .«min_diff» ≤ widestGap) ⌝ }
+    ensures { λ r. ⌜ (r ≡ fine ties (now (samples .entry)) channels rate near) × (r .«min_diff» ≤ widestGap) ⌝ }
 {
     let reach = 4 * crate::rates::skip(rate);
     let low = lowered(near, reach, crate::rates::min_period(rate));
@@ -101,21 +111,21 @@ fn fine_search(
     let required = crate::rates::max_required(rate);
     let num_values = required.0;
     let per_value = Frames(1).samples(channels);
-    search_values(samples, num_values, per_value, low, high, scratch)
+    search_values(samples, num_values, per_value, low, high, ties, scratch)
 }
 
 // The search's answer at the start of the samples: that of the first search, or with a skip above 1 that of the second.
-fn found_at(samples: &[i16], channels: usize, rate: usize, scratch: &mut [i16]) -> Found
+fn found_at(samples: &[i16], channels: usize, rate: usize, ties: Ties, scratch: &mut [i16]) -> Found
     requires { ⌜ InLimits rate channels ⌝ }
     requires { ⌜ (maxRequired rate * channels ≤ length (now samples)) × (maxRequired rate ≤ length (now scratch)) ⌝ }
-    ensures { λ r. ⌜ (r ≡ found (now (samples .entry)) channels rate) × (r .«min_diff» ≤ widestGap) ⌝ }
+    ensures { λ r. ⌜ (r ≡ found ties (now (samples .entry)) channels rate) × (r .«min_diff» ≤ widestGap) ⌝ }
 {
-    let first = coarse_search(samples, channels, rate, scratch);
+    let first = coarse_search(samples, channels, rate, ties, scratch);
     let skip = crate::rates::skip(rate);
     if skip == 1 {
         return first;
     }
-    fine_search(samples, channels, rate, first.period * skip, scratch)
+    fine_search(samples, channels, rate, first.period * skip, ties, scratch)
 }
 
 // Whether the previous period is used instead of the one found.
@@ -135,21 +145,23 @@ fn prev_period_better(prev: PeriodRecord, found: Found) -> bool
     prev.min_diff * 3 < found.min_diff * 2
 }
 
-// The period that a step at the start of the samples uses, in frames, and the record after the search.
+// The period that a step at the start of the samples uses, in frames, with the record after the search, and the sum of
+// differences of the period found.
 pub fn find_pitch_period(
     samples: &[i16],
     channels: usize,
     rate: usize,
     prev: PeriodRecord,
+    ties: Ties,
     scratch: &mut [i16],
 ) -> Chosen
     requires { ⌜ InLimits rate channels ⌝ }
     requires { ⌜ PrevInOrder rate prev ⌝ }
     requires { ⌜ (maxRequired rate * channels ≤ length (now samples)) × (maxRequired rate ≤ length (now scratch)) ⌝ }
-    ensures { λ r. ⌜ (r ≡ findPitchPeriod (now (samples .entry)) channels rate prev) × InRange rate (r .period .0)
+    ensures { λ r. ⌜ (r ≡ findPitchPeriod ties (now (samples .entry)) channels rate prev) × InRange rate (r .period .0)
         × PrevInOrder rate (r .prev) ⌝ }
 {
-    let found = found_at(samples, channels, rate, scratch);
+    let found = found_at(samples, channels, rate, ties, scratch);
     let mut used = found.period;
     if prev_period_better(prev, found) {
         used = prev.period;
@@ -160,5 +172,6 @@ pub fn find_pitch_period(
             period: found.period,
             min_diff: found.min_diff,
         },
+        sum: found.sum,
     }
 }

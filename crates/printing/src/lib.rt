@@ -58,6 +58,7 @@ pub fn print_told(told: Told) {
     let outcome = told.outcome;
     print_outcome(outcome);
     print_count(told.passed as u64);
+    print_count(told.sum as u64);
 }
 
 // Prints what follows from the opening, and speed, pitch and volume.
@@ -108,5 +109,6 @@ pub fn print_stream(stream: SonicStream, input: &[i16], stage: &[i16], output: &
     print_part(waiting, stream.channels, output);
     print_balance(stream.balance);
     print_count(stream.step_over as u64);
+    print_count(stream.ties as u64);
     print(b"\n");
 }

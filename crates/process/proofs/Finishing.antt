@@ -70,6 +70,7 @@ committed x c w b =
       waiting = record { 0 = w };
       balance = b;
       «step_over» = x .«step_over»;
+      ties = x .ties;
     }
 
 -- the counts n and m of samples removed and kept are k and l

@@ -58,7 +58,7 @@ opens = refl
 
 -- what each of its accepted writes and flushes tells
 abbrev copying : Told
-copying = record { outcome = Copied; passed = 0 }
+copying = record { outcome = Copied; passed = 0; sum = 0 }
 
 samples : List Float
 samples = one ∷ zero ∷ []

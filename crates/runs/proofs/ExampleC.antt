@@ -53,14 +53,14 @@ small = areas [] [] [] (replicate 246 (pos 0))
 
 no-room : CEvent
 no-room =
-    c-write-went (one ∷ zero ∷ []) small (record { refusal = inputFull; told = record { outcome = 0; passed = 0 }; stream = streamFor half 0 }) small
+    c-write-went (one ∷ zero ∷ []) small (record { refusal = inputFull; told = record { outcome = 0; passed = 0; sum = 0 }; stream = streamFor half 0 }) small
 
 lent : List ℤ → Areas
 lent output = areas (replicate 2 (pos 9)) (replicate 5 (pos 8)) output (replicate 246 (pos 6))
 
 copies : CEvent
 copies =
-    c-write-went (one ∷ zero ∷ []) (lent (replicate 3 (pos 7))) (record { refusal = 0; told = record { outcome = 1; passed = 0 }; stream = streamFor half 2 })
+    c-write-went (one ∷ zero ∷ []) (lent (replicate 3 (pos 7))) (record { refusal = 0; told = record { outcome = 1; passed = 0; sum = 0 }; stream = streamFor half 2 })
     (lent (pos 16383 ∷ pos 0 ∷ pos 5 ∷ []))
 
 takes-one : CEvent

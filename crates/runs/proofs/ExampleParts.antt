@@ -80,7 +80,7 @@ made = pos 1 ∷ pos 20505 ∷ []
 
 -- what each write and flush tells
 abbrev copying : Told
-copying = record { outcome = Copied; passed = 0 }
+copying = record { outcome = Copied; passed = 0; sum = 0 }
 
 made-of-all : Wrote
 made-of-all = Wrote.Done copying (streamFor half half (replicate 12 []) (record { old = 1; new = 2 }) 2)

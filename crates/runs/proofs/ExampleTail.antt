@@ -56,7 +56,7 @@ lent staged stage room output =
     areas (replicate 9 (pos 9)) (take staged (stage ++ replicate 9 (pos 8))) (take room (output ++ replicate 9 (pos 7))) (replicate 246 (pos 6))
 
 abbrev copying : Told
-copying = record { outcome = Copied; passed = 0 }
+copying = record { outcome = Copied; passed = 0; sum = 0 }
 
 slower : Event
 slower = setting-went (Speed half) (Changed.Done (streamFor half one 0 0))

@@ -5,6 +5,7 @@ use mathlib.Core.Path.{_≡_}
 use mathlib.Core.List.{List, [], _∷_, _++_}
 use Prim.Native.Nat.{ℕ, _+_, _*_}
 use lib.ListN.{length}
+use Rattle.search.specs.declared.Ties.{Ties}
 use Rattle.period.specs.Rates.{maxRequired}
 use Rattle.stretch.specs.declared.Step.{Step}
 use Rattle.stretch.specs.Tally.{Tally, tally}
@@ -52,17 +53,17 @@ clearedFrom l (c ∷ cs) = clearedBy l c + clearedFrom (entry l c) cs
 
 -- ---- of a run: its refused calls and its reads change none of it
 
-module _ {rate channels : ℕ} where
+module _ {rate channels : ℕ} {ties : Ties} where
   -- frames out of the stretch or copy, used, skipped and inserted, added up from its steps
-  abbrev pub tallyOf : RunOf rate channels → Tally
-  tallyOf a = tally (stepsFrom (begun rate channels) (acceptedOf a))
+  abbrev pub tallyOf : RunOf rate channels ties → Tally
+  tallyOf a = tally (stepsFrom (begun rate channels ties) (acceptedOf a))
 
   -- the frames that its flushes cleared
-  abbrev pub clearedIn : RunOf rate channels → ℕ
-  clearedIn a = clearedFrom (begun rate channels) (acceptedOf a)
+  abbrev pub clearedIn : RunOf rate channels ties → ℕ
+  clearedIn a = clearedFrom (begun rate channels ties) (acceptedOf a)
 
   -- the totals of its stream
-  abbrev pub totalsOf : RunOf rate channels → Balance
+  abbrev pub totalsOf : RunOf rate channels ties → Balance
   totalsOf a = last a .stream .balance
 
 -- none of its accepted calls stalled
@@ -77,17 +78,17 @@ NotStalled Stalled = ⊥
 
 -- The totals of the stream are those of the ledger, which has no limit.
 abbrev pub TotalsClaim : Type 0
-TotalsClaim = (rate channels : ℕ) (a : RunOf rate channels) → totalsOf a ≡ ledgerOf a .state .balance
+TotalsClaim = (rate channels : ℕ) (ties : Ties) (a : RunOf rate channels ties) → totalsOf a ≡ ledgerOf a .state .balance
 
 -- Over any list of calls from a fresh stream, none stalled, frames out of the stretch or copy before rate conversion,
 -- plus skipped, equals frames used plus inserted; out and used are added up from the steps, skipped and inserted are
 -- the stream's totals.
 abbrev pub BalanceClaim : Type 0
-BalanceClaim = (rate channels : ℕ) (a : RunOf rate channels) → All NotStalled (last a .outcomes)
+BalanceClaim = (rate channels : ℕ) (ties : Ties) (a : RunOf rate channels ties) → All NotStalled (last a .outcomes)
     → tallyOf a .out + totalsOf a .skipped ≡ tallyOf a .used + totalsOf a .inserted
 
 -- Over the same lists, frames written plus silent frames are frames used plus held plus cleared.
 abbrev pub ReconciledClaim : Type 0
-ReconciledClaim = (rate channels : ℕ) (a : RunOf rate channels) → All NotStalled (last a .outcomes)
+ReconciledClaim = (rate channels : ℕ) (ties : Ties) (a : RunOf rate channels ties) → All NotStalled (last a .outcomes)
     → framesIn channels (acceptedOf a) + silentIn rate (acceptedOf a)
     ≡ tallyOf a .used + last a .stream .held .0 + clearedIn a

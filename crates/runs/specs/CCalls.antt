@@ -8,6 +8,7 @@ use lib.Ieee.{Float}
 use lib.ListN.{length}
 use Rattle.frames.specs.declared.Frames.{Frames}
 use Rattle.frames.specs.Areas.{Areas}
+use Rattle.search.specs.declared.Ties.{Ties}
 use Rattle.stream.specs.declared.SonicStream.{SonicStream}
 use Rattle.stream.specs.declared.Setting.{Setting}
 use Rattle.stream.specs.declared.Opened.{Opened}
@@ -77,7 +78,9 @@ changedIn r = changedBy (r .refusal) (r .stream)
 
 unfoldable pub wroteIn : c-wrote.Wrote → Wrote
 wroteIn r =
-    wroteBy (r .refusal) (record { outcome = outcomeIn (r .told .outcome); passed = r .told .passed }) (r .stream)
+    wroteBy (r .refusal)
+    (record { outcome = outcomeIn (r .told .outcome); passed = r .told .passed; sum = r .told .sum })
+    (r .stream)
 
 unfoldable pub gaveIn : c-gave.Gave → Gave
 gaveIn r = gaveBy (r .refusal) (r .frames) (r .stream)
@@ -96,14 +99,15 @@ CRun m [] = Unit {0}
 CRun m (e ∷ es) = CAllowed m e × CRun (after m (eventIn e)) es
 
 -- from an accepted opening
-pub record CRunOf (rate channels : ℕ) : Type 0 where
+pub record CRunOf (rate channels : ℕ) (ties : Ties) : Type 0 where
   pub opened : c-opened.Opened
-  pub opens : opened ≡ openedOf (openCall rate channels)
+  pub opens : opened ≡ openedOf (openCall rate channels ties)
   pub accepts : opened .refusal ≡ accepted
   pub events : List CEvent
   pub allowed : CRun (opening (opened .stream)) events
 
 -- A list of calls of C from an accepted opening is a run: the one that their structs tell.
 abbrev pub CRunClaim : Type 0
-CRunClaim = (rate channels : ℕ) (a : CRunOf rate channels) → (openCall rate channels ≡ Opened.Done (a .opened .stream))
+CRunClaim = (rate channels : ℕ) (ties : Ties) (a : CRunOf rate channels ties)
+    → (openCall rate channels ties ≡ Opened.Done (a .opened .stream))
     × Run (opening (a .opened .stream)) (map eventIn (a .events))

@@ -1,5 +1,5 @@
--- Demand 3: its four claims, each in the demand's own words, as types; before them what they speak of: a run of a rate
--- and channels, its accepted calls, what is said of each of them, and joined frames. `proofs/Claims.antt` proves the
+-- Demand 3: its four claims, each in the demand's own words, as types; before them what they speak of: a run of a rate,
+-- channels and a choice of ties, its accepted calls, what is said of each of them, and joined frames. `proofs/Claims.antt` proves the
 -- claims. Definitions only. Assumes nothing.
 use mathlib.Core.Path.{_≡_}
 use mathlib.Core.Bool.{false, cond}
@@ -11,6 +11,7 @@ use Rattle.floats.specs.Numbers.{one}
 use Rattle.floats.specs.Settings.{clamped, minPitch, maxPitch}
 use Rattle.rate.specs.Halving.{ratesOf}
 use Rattle.rate.specs.Tail.{ceilDiv}
+use Rattle.search.specs.declared.Ties.{Ties}
 use Rattle.stream.specs.declared.SonicStream.{SonicStream}
 use Rattle.stream.specs.declared.Setting.{Setting}
 use Rattle.stream.specs.declared.Setting.the-variants.{Speed, Pitch, Volume, StepOver}
@@ -22,23 +23,23 @@ use Rattle.process.specs.Process.{wholeFrames}
 use Rattle.runs.specs.Ledger.{Call, setting, write, flush, read, Fed, Ledger, ledger}
 use Rattle.runs.specs.Run.{Event, Moment, opening, Run, end, values, total, fed}
 
--- ---- a run of a rate and channels
+-- ---- a run of a rate, channels and a choice of ties
 
 -- from the stream of an accepted opening
-pub record RunOf (rate channels : ℕ) : Type 0 where
+pub record RunOf (rate channels : ℕ) (ties : Ties) : Type 0 where
   pub stream : SonicStream
-  pub opens : openCall rate channels ≡ Opened.Done stream
+  pub opens : openCall rate channels ties ≡ Opened.Done stream
   pub events : List Event
   pub allowed : Run (opening stream) events
 
-module _ {rate channels : ℕ} where
+module _ {rate channels : ℕ} {ties : Ties} where
   -- after its last call
-  abbrev pub last : RunOf rate channels → Moment
+  abbrev pub last : RunOf rate channels ties → Moment
   last a = end (opening (a .stream)) (a .events)
 
   -- its ledger
-  abbrev pub ledgerOf : RunOf rate channels → Ledger
-  ledgerOf a = ledger rate channels (map fed (a .events))
+  abbrev pub ledgerOf : RunOf rate channels ties → Ledger
+  ledgerOf a = ledger rate channels ties (map fed (a .events))
 
 -- ---- accepted settings, writes and flushes
 
@@ -55,7 +56,7 @@ acceptedIn [] = []
 acceptedIn (f ∷ fs) = cond (f .accepted) (unlessRead (f .call) (acceptedIn fs)) (acceptedIn fs)
 
 -- of a run
-abbrev pub acceptedOf : {rate channels : ℕ} → RunOf rate channels → List Call
+abbrev pub acceptedOf : {rate channels : ℕ} {ties : Ties} → RunOf rate channels ties → List Call
 acceptedOf a = acceptedIn (map fed (a .events))
 
 -- ---- what is said of each
@@ -144,20 +145,20 @@ framesIn channels (read most ∷ cs) = framesIn channels cs
 
 -- After every run, frames read followed by frames waiting, and the outcomes, are exactly those of the ledger.
 abbrev pub LedgerClaim : Type 0
-LedgerClaim = (rate channels : ℕ) (a : RunOf rate channels)
+LedgerClaim = (rate channels : ℕ) (ties : Ties) (a : RunOf rate channels ties)
     → (total (last a) ≡ values (ledgerOf a .made)) × (last a .outcomes ≡ ledgerOf a .outcomes)
 
--- For every run A and run B with one rate and channel count and the same accepted settings, writes and flushes in
--- order, they are the same in both, whatever reads and refused calls either has and wherever these stand.
+-- For every run A and run B with one rate, channel count and choice of ties, and the same accepted settings, writes and
+-- flushes in order, they are the same in both, whatever reads and refused calls either has and wherever these stand.
 abbrev pub SameCallsClaim : Type 0
-SameCallsClaim = (rate channels : ℕ) (a b : RunOf rate channels) → acceptedOf a ≡ acceptedOf b
+SameCallsClaim = (rate channels : ℕ) (ties : Ties) (a b : RunOf rate channels ties) → acceptedOf a ≡ acceptedOf b
     → (total (last a) ≡ total (last b)) × (last a .outcomes ≡ last b .outcomes)
 
 -- Where every accepted write and flush of A and B answers 'copied' or 'empty', the accepted writes may differ as long
 -- as their whole frames, joined between accepted settings and flushes, are the same: frames read followed by frames
 -- waiting are still the same in both.
 abbrev pub SameFramesClaim : Type 0
-SameFramesClaim = (rate channels : ℕ) (a b : RunOf rate channels)
+SameFramesClaim = (rate channels : ℕ) (ties : Ties) (a b : RunOf rate channels ties)
     → All CopiedOrEmpty (last a .outcomes) → All CopiedOrEmpty (last b .outcomes)
     → joinedFrames channels (acceptedOf a) ≡ joinedFrames channels (acceptedOf b)
     → total (last a) ≡ total (last b)
@@ -171,7 +172,7 @@ heldPitch x = clamped x minPitch maxPitch
 -- accepted pitch is x, `before` and `behind` are the accepted calls on its two sides; `-` ends at 0, `.new` is N,
 -- `.old` is O.
 abbrev pub CountClaim : Type 0
-CountClaim = (rate channels : ℕ) (a : RunOf rate channels) → All CopiedOrEmpty (last a .outcomes)
+CountClaim = (rate channels : ℕ) (ties : Ties) (a : RunOf rate channels ties) → All CopiedOrEmpty (last a .outcomes)
     → (before behind : List Call) (x : Float) → acceptedOf a ≡ before ++ setting (Pitch x) ∷ behind
     → All NoWrite before → All NoPitch behind → eq (heldPitch x) one ≡ false → All NoFlush (acceptedOf a)
     → length (total (last a)) ≡ ceilDiv ((framesIn channels (acceptedOf a) - 12) * ratesOf rate (heldPitch x) .new)

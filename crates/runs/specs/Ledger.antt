@@ -6,6 +6,7 @@ use Prim.Native.Nat.{ℕ}
 use lib.Ieee.{Float}
 use lib.ListN.{take}
 use Rattle.frames.specs.Framing.{Frame}
+use Rattle.search.specs.declared.Ties.{Ties}
 use Rattle.stream.specs.declared.Setting.{Setting}
 use Rattle.stream.specs.State.{State}
 use Rattle.stream.specs.Settings.{fresh, withSetting}
@@ -25,15 +26,15 @@ pub record Fed : Type 0 where
   pub accepted : Bool
 
 -- the state (rate, channels, settings, stepping over (C-18) among them, input, tail, p, n, period record, play
--- time, time error, and the totals (C-16), without limit), the frames made and the outcomes
+-- time, time error, the totals (C-16), without limit, and the choice of ties (C-17)), the frames made and the outcomes
 pub record Ledger : Type 0 where
   pub state : State
   pub made : List Frame
   pub outcomes : List Outcome
 
 -- it begins with the fresh values and all else empty
-unfoldable pub begun : ℕ → ℕ → Ledger
-begun rate channels = record { state = fresh rate channels; made = []; outcomes = [] }
+unfoldable pub begun : ℕ → ℕ → Ties → Ledger
+begun rate channels ties = record { state = fresh rate channels ties; made = []; outcomes = [] }
 
 -- an accepted call: a write's frames go behind the frames made, its outcome behind the outcomes; of a flush only the
 -- first e, found first, or all if fewer, and then it clears; a read changes nothing
@@ -60,6 +61,6 @@ unfoldable pub ledgerFrom : Ledger → List Fed → Ledger
 ledgerFrom l [] = l
 ledgerFrom l (f ∷ fs) = ledgerFrom (posted l f) fs
 
--- the ledger of a rate, channels and calls
-unfoldable pub ledger : ℕ → ℕ → List Fed → Ledger
-ledger rate channels fs = ledgerFrom (begun rate channels) fs
+-- the ledger of a rate, channels, a choice of ties and calls
+unfoldable pub ledger : ℕ → ℕ → Ties → List Fed → Ledger
+ledger rate channels ties fs = ledgerFrom (begun rate channels ties) fs

@@ -4,6 +4,7 @@ use mathlib.Core.Path.{_≡_}
 use mathlib.Core.Bool.{true}
 use mathlib.Core.List.{List, _∷_, _++_}
 use Prim.Native.Nat.{ℕ}
+use Rattle.search.specs.declared.Ties.{Ties}
 use Rattle.stream.specs.declared.Setting.{Setting}
 use Rattle.stream.specs.declared.Setting.the-variants.{Speed, Pitch, Volume, StepOver}
 use Rattle.runs.specs.Ledger.{Call, setting, write, flush, read}
@@ -26,6 +27,6 @@ StaysOn (read most) = Unit {0}
 -- Where stepping over is switched on before the first accepted write or flush, and never off behind that, no call
 -- stalls. `before` and `behind` are the accepted calls on its two sides.
 abbrev pub NeverStallsClaim : Type 0
-NeverStallsClaim = (rate channels : ℕ) (a : RunOf rate channels) (before behind : List Call)
+NeverStallsClaim = (rate channels : ℕ) (ties : Ties) (a : RunOf rate channels ties) (before behind : List Call)
     → acceptedOf a ≡ before ++ setting (StepOver true) ∷ behind → All NoWrite before → All NoFlush before
     → All StaysOn behind → All NotStalled (last a .outcomes)

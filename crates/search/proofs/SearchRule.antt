@@ -1,6 +1,6 @@
--- The rule of the search, over every period of the range: the period found has the least D(q)/q and is the smallest of those that have it; the
--- means are the whole parts of the least and of the greatest D(q)/q; and the rule leaves one answer. D(p)/p ≤ D(q)/q is said as
--- D(p)·q ≤ D(q)·p. Sections: fractions, one period more, the rule, one answer. Assumes nothing.
+-- The rule of the search, over every period of the range: the period found has the least D(q)/q and is by choice the smallest or the largest of
+-- those that have it; the means are the whole parts of the least and of the greatest D(q)/q; the sum is D of the period found; and the rule leaves
+-- one answer. D(p)/p ≤ D(q)/q is said as D(p)·q ≤ D(q)·p. Sections: fractions, the choice, one period more, the rule, one answer. Assumes nothing.
 use mathlib.Core.Path.{_≡_, refl, sym, ap, _∙_, subst}
 use mathlib.Core.Bool.{Bool, true, false, cond}
 use mathlib.Core.List.{List}
@@ -12,9 +12,11 @@ use native.Mathlib.Omega.{arith}
 use borrow.Author.Tests.{ltb-true, ltb-false, leb-true, leb-false}
 use lib.Dec.{ltb, leb}
 use lib.IntN.{ℤ}
+use Rattle.search.specs.declared.Ties.{Ties}
+use Rattle.search.specs.declared.Ties.the-variants.{Smallest, Largest}
 use Rattle.search.specs.declared.Found.{Found}
 use Rattle.search.specs.declared.Candidate.{Candidate}
-use Rattle.search.specs.Search.{D, candidate, lesser, greater, sweep, best, worst, findPitchPeriodInRange}
+use Rattle.search.specs.Search.{D, candidate, better, lesser, greater, sweep, best, worst, findPitchPeriodInRange}
 
 -- ---- fractions: a/b ≤ c/d and c/d ≤ e/f give a/b ≤ e/f; a/b ≤ c/d gives the same of the whole parts
 through : (a b c d e f : ℕ) → 0 < d → a * d ≤ c * b → c * f ≤ e * d → a * f ≤ e * b
@@ -34,6 +36,28 @@ whole-le a b c d p q h =
     let l : a / b * b * d ≤ a * d = mul-le-mul-right d (div-mul-le-self a b) in
     le-div-iff-mul-le q .1 (le-of-mul-le-mul-right (omega (arith, mul-right-comm (a / b) b d)) p)
 
+-- ---- the choice
+-- q is a period of low..=high that the choice takes before p where their means are the same
+abbrev pub Preferred : Ties → ℕ → ℕ → ℕ → ℕ → Type 0
+Preferred Smallest low high p q = (low ≤ q) × (q < p)
+Preferred Largest low high p q = (p < q) × (q ≤ high)
+
+-- of two periods it takes one before the other
+prefers : (ties : Ties) {low high p q : ℕ} → low ≤ q → q < p → p ≤ high → Preferred ties low high p q ⊎ Preferred ties low high q p
+prefers Smallest a l z = inl (a, l)
+prefers Largest a l z = inr (l, z)
+
+-- the tests of `better` are exact, or end at a tie
+better-le : (ties : Ties) (old new : Candidate) → better ties old new ≡ true → new .diff * old .period ≤ old .diff * new .period
+unfolding better
+better-le Smallest old new e = le-of-lt (ltb-true (new .diff * old .period) (old .diff * new .period) e)
+better-le Largest old new e = leb-true (new .diff * old .period) (old .diff * new .period) e
+
+not-better-le : (ties : Ties) (old new : Candidate) → better ties old new ≡ false → old .diff * new .period ≤ new .diff * old .period
+unfolding better
+not-better-le Smallest old new e = ltb-false (new .diff * old .period) (old .diff * new .period) e
+not-better-le Largest old new e = le-of-lt (leb-false (new .diff * old .period) (old .diff * new .period) e)
+
 -- ---- one period more
 -- a candidate of low..=high
 record Among (x : List ℤ) (low high : ℕ) (c : Candidate) : Type 0 where
@@ -41,11 +65,11 @@ record Among (x : List ℤ) (low high : ℕ) (c : Candidate) : Type 0 where
   low-le : low ≤ c .period
   le-high : c .period ≤ high
 
--- with the least D(q)/q, which no smaller period has; with the greatest
-record Best (x : List ℤ) (low high : ℕ) (c : Candidate) : Type 0 where
+-- with the least D(q)/q, which no preferred period has; with the greatest
+record Best (ties : Ties) (x : List ℤ) (low high : ℕ) (c : Candidate) : Type 0 where
   among : Among x low high c
   least : (q : ℕ) → low ≤ q → q ≤ high → c .diff * q ≤ D x q * c .period
-  smallest : (q : ℕ) → low ≤ q → q < c .period → c .diff * q < D x q * c .period
+  first : (q : ℕ) → Preferred ties low high (c .period) q → c .diff * q < D x q * c .period
 
 record Worst (x : List ℤ) (low high : ℕ) (c : Candidate) : Type 0 where
   among : Among x low high c
@@ -73,22 +97,38 @@ module _ (x : List ℤ) (low n : ℕ) (old : Candidate) (some : 1 ≤ low) where
   abbrev p : ℕ
   p = low + suc n
 
-  best-cases : (t : Bool) → ltb (D x p * old .period) (old .diff * p) ≡ t → Best x low (low + n) old → Best x low p (cond t (candidate x p) old)
-  best-cases true e b =
+  first-new : (ties : Ties) → better ties old (candidate x p) ≡ true → Best ties x low (low + n) old
+      → (q : ℕ) → Preferred ties low p p q → D x p * q < D x q * p
+  unfolding better
+  first-new Smallest e b q r =
       let h : D x p * old .period < old .diff * p = ltb-true (D x p * old .period) (old .diff * p) e in
+      let d : 0 < old .period = omega (arith, b .among .low-le) in
+      through-strict (D x p) p (old .diff) (old .period) (D x q) q d (omega (arith, r .0)) h (b .least q (r .0) (omega (arith, r .1)))
+  first-new Largest e b q r = absurd (omega (arith, r .0, r .1))
+
+  first-old : (ties : Ties) → better ties old (candidate x p) ≡ false → Best ties x low (low + n) old
+      → (q : ℕ) → Preferred ties low p (old .period) q → old .diff * q < D x q * old .period
+  unfolding better
+  first-old Smallest e b q r = b .first q r
+  first-old Largest e b q r =
+      let h : old .diff * p < D x p * old .period = leb-false (D x p * old .period) (old .diff * p) e in
+      ⊎-elim (λ (s : p ≡ q). subst (λ (m : ℕ). old .diff * m < D x m * old .period) s h) (λ z. b .first q (r .0, z)) (new-or-seen low n q (r .1))
+
+  best-cases : (ties : Ties) (t : Bool) → better ties old (candidate x p) ≡ t → Best ties x low (low + n) old
+      → Best ties x low p (cond t (candidate x p) old)
+  best-cases ties true e b =
       let d : 0 < old .period = omega (arith, b .among .low-le) in
       record {
         among = among-new x (omega arith) (le-refl p);
         least = extend (λ q. D x p * q ≤ D x q * p) low n (le-refl (D x p * p))
-            (λ q a z. through (D x p) p (old .diff) (old .period) (D x q) q d (le-of-lt h) (b .least q a z));
-        smallest = λ q a z. through-strict (D x p) p (old .diff) (old .period) (D x q) q d (omega arith) h (b .least q a (omega arith));
+            (λ q a z. through (D x p) p (old .diff) (old .period) (D x q) q d (better-le ties old (candidate x p) e) (b .least q a z));
+        first = first-new ties e b;
       }
-  best-cases false e b =
-      let h : old .diff * p ≤ D x p * old .period = ltb-false (D x p * old .period) (old .diff * p) e in
+  best-cases ties false e b =
       record {
         among = among-more (omega arith) (b .among);
-        least = extend (λ q. old .diff * q ≤ D x q * old .period) low n h (b .least);
-        smallest = b .smallest;
+        least = extend (λ q. old .diff * q ≤ D x q * old .period) low n (not-better-le ties old (candidate x p) e) (b .least);
+        first = first-old ties e b;
       }
 
   worst-cases : (t : Bool) → ltb (old .diff * p) (D x p * old .period) ≡ t → Worst x low (low + n) old → Worst x low p (cond t (candidate x p) old)
@@ -107,17 +147,21 @@ module _ (x : List ℤ) (low n : ℕ) (old : Candidate) (some : 1 ≤ low) where
       }
 
 module _ (x : List ℤ) (low : ℕ) (some : 1 ≤ low) where
-  best-of : (n : ℕ) → Best x low (low + n) (sweep lesser x low n)
-  unfolding sweep lesser
-  best-of zero =
+  none-first : (ties : Ties) (q : ℕ) → Preferred ties low (low + 0) low q → D x low * q < D x q * low
+  none-first Smallest q r = absurd (omega (arith, r .0, r .1))
+  none-first Largest q r = absurd (omega (arith, r .0, r .1))
+
+  best-of : (ties : Ties) (n : ℕ) → Best ties x low (low + n) (sweep (lesser ties) x low n)
+  unfolding sweep
+  best-of ties zero =
       record {
         among = among-new x (le-refl low) (omega arith);
         least = λ q a z. subst (λ (m : ℕ). D x low * m ≤ D x m * low) (omega arith) (le-refl (D x low * low));
-        smallest = λ q a z. absurd (omega arith);
+        first = none-first ties;
       }
-  best-of (suc n) =
-      let old = sweep lesser x low n in
-      best-cases x low n old some (ltb (D x (low + suc n) * old .period) (old .diff * (low + suc n))) refl (best-of n)
+  best-of ties (suc n) =
+      let old = sweep (lesser ties) x low n in
+      best-cases x low n old some ties (better ties old (candidate x (low + suc n))) refl (best-of ties n)
 
   worst-of : (n : ℕ) → Worst x low (low + n) (sweep greater x low n)
   unfolding sweep greater
@@ -131,46 +175,44 @@ module _ (x : List ℤ) (low : ℕ) (some : 1 ≤ low) where
       worst-cases x low n old some (ltb (old .diff * (low + suc n)) (D x (low + suc n) * old .period)) refl (worst-of n)
 
 -- ---- the rule
-pub record SearchRule (x : List ℤ) (low high : ℕ) (f : Found) : Type 0 where
+pub record SearchRule (ties : Ties) (x : List ℤ) (low high : ℕ) (f : Found) : Type 0 where
   pub in-range : (low ≤ f .period) × (f .period ≤ high)
   pub least : (q : ℕ) → low ≤ q → q ≤ high → D x (f .period) * q ≤ D x q * f .period
-  pub smallest : (q : ℕ) → low ≤ q → q < f .period → D x (f .period) * q < D x q * f .period
+  -- 'smallest' or 'largest', by the choice
+  pub first : (q : ℕ) → Preferred ties low high (f .period) q → D x (f .period) * q < D x q * f .period
   pub min-diff-is : f .«min_diff» ≡ D x (f .period) / f .period
   pub worst-period : ℕ
   pub worst-in : (low ≤ worst-period) × (worst-period ≤ high)
   pub greatest : (q : ℕ) → low ≤ q → q ≤ high → D x q * worst-period ≤ D x worst-period * q
   pub max-diff-is : f .«max_diff» ≡ D x worst-period / worst-period
+  pub sum-is : f .sum ≡ D x (f .period)
 
-pub search-rule : (x : List ℤ) (low high : ℕ) → 1 ≤ low → low ≤ high → SearchRule x low high (findPitchPeriodInRange x low high)
+pub search-rule : (ties : Ties) (x : List ℤ) (low high : ℕ) → 1 ≤ low → low ≤ high
+    → SearchRule ties x low high (findPitchPeriodInRange ties x low high)
 unfolding findPitchPeriodInRange
-search-rule x low high some order =
+search-rule ties x low high some order =
     let e : low + (high - low) ≡ high = omega arith in
-    let b : Best x low high (best x low high) = subst (λ (n : ℕ). Best x low n (best x low high)) e (best-of x low some (high - low)) in
+    let c : Candidate = best ties x low high in
+    let b : Best ties x low high c = subst (λ (n : ℕ). Best ties x low n c) e (best-of x low some ties (high - low)) in
     let w : Worst x low high (worst x low high) = subst (λ (n : ℕ). Worst x low n (worst x low high)) e (worst-of x low some (high - low)) in
     record {
       in-range = (b .among .low-le, b .among .le-high);
-      least = λ q a z. subst (λ (d : ℕ). d * q ≤ D x q * best x low high .period) (b .among .sum) (b .least q a z);
-      smallest = λ q a z. subst (λ (d : ℕ). d * q < D x q * best x low high .period) (b .among .sum) (b .smallest q a z);
-      min-diff-is = ap (λ (d : ℕ). d / best x low high .period) (b .among .sum);
+      least = λ q a z. subst (λ (d : ℕ). d * q ≤ D x q * c .period) (b .among .sum) (b .least q a z);
+      first = λ q r. subst (λ (d : ℕ). d * q < D x q * c .period) (b .among .sum) (b .first q r);
+      min-diff-is = ap (λ (d : ℕ). d / c .period) (b .among .sum);
       worst-period = worst x low high .period;
       worst-in = (w .among .low-le, w .among .le-high);
       greatest = λ q a z. subst (λ (d : ℕ). D x q * worst x low high .period ≤ d * q) (w .among .sum) (w .greatest q a z);
       max-diff-is = ap (λ (d : ℕ). d / worst x low high .period) (w .among .sum);
+      sum-is = b .among .sum;
     }
 
 -- ---- one answer
-module _ {x : List ℤ} {low high : ℕ} {f g : Found} (some : 1 ≤ low) where
-  -- the one period is not smaller than the other
-  period-le : SearchRule x low high f → SearchRule x low high g → f .period ≤ g .period
-  period-le r s = go (leb (f .period) (g .period)) refl
-    where
-      go : (t : Bool) → leb (f .period) (g .period) ≡ t → f .period ≤ g .period
-      go true e = leb-true (f .period) (g .period) e
-      go false e =
-          let h : g .period < f .period = leb-false (f .period) (g .period) e in
-          absurd (omega (arith, r .smallest (g .period) (s .in-range .0) h, s .least (f .period) (r .in-range .0) (r .in-range .1)))
+module _ {ties : Ties} {x : List ℤ} {low high : ℕ} {f g : Found} (some : 1 ≤ low) where
+  not-preferred : SearchRule ties x low high f → SearchRule ties x low high g → Preferred ties low high (f .period) (g .period) → ⊥
+  not-preferred r s p = omega (arith, r .first (g .period) p, s .least (f .period) (r .in-range .0) (r .in-range .1))
 
-  max-diff-le : SearchRule x low high f → SearchRule x low high g → f .«max_diff» ≤ g .«max_diff»
+  max-diff-le : SearchRule ties x low high f → SearchRule ties x low high g → f .«max_diff» ≤ g .«max_diff»
   max-diff-le r s =
       let v = r .worst-period in
       let w = s .worst-period in
@@ -178,9 +220,22 @@ module _ {x : List ℤ} {low high : ℕ} {f g : Found} (some : 1 ≤ low) where
       whole-le (D x v) v (D x w) w (omega (arith, r .worst-in .0)) (omega (arith, s .worst-in .0)) (s .greatest v (r .worst-in .0) (r .worst-in .1)) in
       omega (arith, r .max-diff-is, s .max-diff-is)
 
-pub search-rule-only : {x : List ℤ} {low high : ℕ} {f g : Found} → 1 ≤ low → SearchRule x low high f → SearchRule x low high g → f ≡ g
-search-rule-only {x} {low} {high} {f} {g} some r s =
+-- the one period is not smaller than the other
+period-le : {ties : Ties} {x : List ℤ} {low high : ℕ} {f g : Found} → 1 ≤ low → SearchRule ties x low high f → SearchRule ties x low high g
+    → f .period ≤ g .period
+period-le {ties} {x} {low} {high} {f} {g} some r s = go (leb (f .period) (g .period)) refl
+  where
+    go : (t : Bool) → leb (f .period) (g .period) ≡ t → f .period ≤ g .period
+    go true e = leb-true (f .period) (g .period) e
+    go false e =
+        let h : g .period < f .period = leb-false (f .period) (g .period) e in
+        absurd (⊎-elim (not-preferred some r s) (not-preferred some s r) (prefers ties (s .in-range .0) h (r .in-range .1)))
+
+pub search-rule-only : {ties : Ties} {x : List ℤ} {low high : ℕ} {f g : Found} → 1 ≤ low → SearchRule ties x low high f
+    → SearchRule ties x low high g → f ≡ g
+search-rule-only {ties} {x} {low} {high} {f} {g} some r s =
     let p : f .period ≡ g .period = le-antisymm (period-le some r s) (period-le some s r) in
     let m : f .«min_diff» ≡ g .«min_diff» = r .min-diff-is ∙ ap (λ (q : ℕ). D x q / q) p ∙ sym (s .min-diff-is) in
     let n : f .«max_diff» ≡ g .«max_diff» = le-antisymm (max-diff-le some r s) (max-diff-le some s r) in
-    λ i. record { period = p i; «min_diff» = m i; «max_diff» = n i }
+    let d : f .sum ≡ g .sum = r .sum-is ∙ ap (D x) p ∙ sym (s .sum-is) in
+    λ i. record { period = p i; «min_diff» = m i; «max_diff» = n i; sum = d i }

@@ -1,17 +1,29 @@
 // The search over a range of periods: D(q) of a period, and the period with the least D(q)/q. `specs/Search.antt` says
-// what each function gives.
+// what each function gives; `choice` has the choice of ties as a number.
+mod choice;
+
+pub use choice::ties_number;
+pub use choice::ties_of;
 ghost use mathlib.Core.Path.{_≡_};
 ghost use Prim.Native.Nat.{_+_, _≤_};
 ghost use lib.IntN.{natAbs, _-ℤ_};
 ghost use lib.ListN.{length};
-ghost use Rattle.search.specs.Search.{candidate, lesser, greater, foundOf, findPitchPeriodInRange, widestGap};
-ghost use Rattle.search.specs.Search.{Searchable, Bounded};
+ghost use Rattle.search.specs.Search.{candidate, better, lesser, greater, foundOf, findPitchPeriodInRange};
+ghost use Rattle.search.specs.Search.{widestGap, Searchable, Bounded};
 
-// A search's answer: the period with the least mean difference, and the whole parts of the least and the greatest mean.
+// Of several periods with the same least mean difference, the one that a search finds.
+pub enum Ties {
+    Smallest,
+    Largest,
+}
+
+// A search's answer: the period with the least mean difference, the whole parts of the least and the greatest mean, and
+// the sum of differences of the period.
 pub struct Found {
     pub period: usize,
     pub min_diff: usize,
     pub max_diff: usize,
+    pub sum: usize,
 }
 
 // A period q and its D(q).
@@ -86,16 +98,23 @@ fn neighbours_from(samples: &[i16], period: usize) -> Neighbours
     }
 }
 
-// Of two candidates the one with the smaller D(q)/q, the old one at a tie.
-fn lesser(old: Candidate, new: Candidate) -> Candidate
+// Whether a new candidate has a smaller D(q)/q than an old one of a smaller period, or at a tie is the one to be found.
+fn better(ties: Ties, old: Candidate, new: Candidate) -> bool
     requires { ⌜ Bounded old × Bounded new ⌝ }
-    ensures { λ r. ⌜ (r ≡ lesser old new) × Bounded r ⌝ }
+    ensures { λ r. ⌜ r ≡ better ties old new ⌝ }
 {
-    if new.diff * old.period < old.diff * new.period {
-        new
-    } else {
-        old
+    match ties {
+        Ties::Smallest => new.diff * old.period < old.diff * new.period,
+        Ties::Largest => new.diff * old.period <= old.diff * new.period,
     }
+}
+
+// Of two candidates the better one.
+fn lesser(ties: Ties, old: Candidate, new: Candidate) -> Candidate
+    requires { ⌜ Bounded old × Bounded new ⌝ }
+    ensures { λ r. ⌜ (r ≡ lesser ties old new) × Bounded r ⌝ }
+{
+    if better(ties, old, new) { new } else { old }
 }
 
 // Of two candidates the one with the greater D(q)/q, the old one at a tie.
@@ -110,8 +129,8 @@ fn greater(old: Candidate, new: Candidate) -> Candidate
     }
 }
 
-// The answer for the candidates with the least and with the greatest D(q)/q: the period of the one, the whole parts of
-// both.
+// The answer for the candidates with the least and with the greatest D(q)/q: the period and the sum of the one, the
+// whole parts of both.
 fn found_of(best: Candidate, worst: Candidate) -> Found
     requires { ⌜ Bounded best × Bounded worst ⌝ }
     ensures { λ r. ⌜ (r ≡ foundOf best worst) × (r .«min_diff» ≤ widestGap) ⌝ }
@@ -120,14 +139,20 @@ fn found_of(best: Candidate, worst: Candidate) -> Found
         period: best.period,
         min_diff: best.diff / best.period,
         max_diff: worst.diff / worst.period,
+        sum: best.diff,
     }
 }
 
-// Of the periods min_period..=max_period the one with the least D(q)/q, the smallest of several, and the whole parts of
-// the least and the greatest D(q)/q. Two periods are taken at a time.
-pub fn find_pitch_period_in_range(samples: &[i16], min_period: usize, max_period: usize) -> Found
+// Of the periods min_period..=max_period the one with the least D(q)/q, of several the smallest or the largest, with
+// the whole parts of the least and the greatest D(q)/q, and its D(q). Two periods are taken at a time.
+pub fn find_pitch_period_in_range(
+    samples: &[i16],
+    min_period: usize,
+    max_period: usize,
+    ties: Ties,
+) -> Found
     requires { ⌜ Searchable (length (now samples)) «min_period» «max_period» ⌝ }
-    ensures { λ r. ⌜ (r ≡ findPitchPeriodInRange (now (samples .entry)) «min_period» «max_period»)
+    ensures { λ r. ⌜ (r ≡ findPitchPeriodInRange ties (now (samples .entry)) «min_period» «max_period»)
         × (r .«min_diff» ≤ widestGap) ⌝ }
 {
     let first = candidate_at(samples, min_period);
@@ -138,13 +163,13 @@ pub fn find_pitch_period_in_range(samples: &[i16], min_period: usize, max_period
         let two = neighbours_from(samples, period + 1);
         let this = two.this;
         let next = two.next;
-        best = lesser(lesser(best, this), next);
+        best = lesser(ties, lesser(ties, best, this), next);
         worst = greater(greater(worst, this), next);
         period += 2;
     }
     if period < max_period {
         let last = candidate_at(samples, max_period);
-        return found_of(lesser(best, last), greater(worst, last));
+        return found_of(lesser(ties, best, last), greater(worst, last));
     }
     found_of(best, worst)
 }

@@ -13,7 +13,6 @@ use libc::STDERR_FILENO;
 use plans::Service;
 use reels::reel::Reel;
 use stream::Opened;
-use stream::SonicStream;
 
 // Where the status goes if it is asked for.
 const STATUS_FILENO: i32 = 3;
@@ -42,7 +41,7 @@ fn open_map(place: usize) -> u32 {
 
 // Does a job and tells of it. Answers the status.
 fn run(job: Job) -> u64 {
-    match SonicStream::new(job.rate, job.channels) {
+    match jobs::open(job) {
         Opened::Refused {
             number,
             given: _,

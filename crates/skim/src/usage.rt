@@ -12,7 +12,7 @@ pub(crate) fn usage() {
 
 fn say_arguments() {
     say::line(
-        b"usage: skim [--status] [--as-original] [--map FILE] [RATE CHANNELS SPEED PITCH [VOLUME]] < in.pcm > out.pcm",
+        b"usage: skim [--status] [OPTION]... [RATE CHANNELS SPEED PITCH [VOLUME]] < in.pcm > out.pcm",
     );
     say::line(
         b"Changes speed, pitch and volume of 16-bit little-endian PCM, its channels interleaved.",
@@ -31,6 +31,10 @@ fn say_arguments() {
     );
     say::line(
         b"                 further, and may leave the stall; what a write made before it stalled comes again",
+    );
+    say::line(b"  --longest-period");
+    say::line(
+        b"                 takes the longest of the pitch periods that fit equally well, not the shortest",
     );
     say::line(
         b"  --map FILE     writes to FILE a line for each stretch of the reel of which nothing came out:",
@@ -83,7 +87,7 @@ pub(crate) fn wrong_argument(place: usize) {
         4 => say::text(b"skim: PITCH has to be a number from 0.05 to 20, as 2 or 0.5\n"),
         5 => say::text(b"skim: VOLUME has to be a number from 0.01 to 100, as 2 or 0.5\n"),
         6 => say::text(
-            b"skim: before the numbers may stand --status, which is first, --as-original and --map FILE, each once\n",
+            b"skim: before the numbers may stand --status, which is first, and the options that --help tells, each once\n",
         ),
         _ => say::text(b"skim: --map has to be followed by the name of a file\n"),
     }

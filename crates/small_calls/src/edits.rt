@@ -20,7 +20,7 @@ fn with_setting(mut stream: SonicStream, field: u64, value: u64) -> SonicStream 
     stream
 }
 
-// A stream with a position, a part of the period record, a count of frames, a total or `step_over` set.
+// A stream with a position, a part of the period record, a count of frames, a total, `step_over` or `ties` set.
 fn with_count(mut stream: SonicStream, field: u64, value: u64) -> SonicStream {
     let n = value as usize;
     match field {
@@ -33,7 +33,8 @@ fn with_count(mut stream: SonicStream, field: u64, value: u64) -> SonicStream {
         14 => stream.waiting.0 = n,
         15 => stream.balance.skipped = value,
         16 => stream.balance.inserted = value,
-        _ => stream.step_over = word(value),
+        17 => stream.step_over = word(value),
+        _ => stream.ties = word(value),
     }
     stream
 }

@@ -27,8 +27,8 @@ pub fn unopened() -> SonicStream {
 }
 
 // Opens a stream. A refusal carries the number given.
-fn open(rate: u32, channels: u32) -> SonicStream {
-    match SonicStream::new(rate, channels) {
+fn open(rate: u32, channels: u32, ties: u32) -> SonicStream {
+    match SonicStream::with_ties(rate, channels, stream::ties_of(ties)) {
         Opened::Refused {
             number,
             given,
@@ -72,7 +72,7 @@ pub fn small_call(stream: SonicStream, line: Line) -> SonicStream {
     let letter = line.letter;
     let first = word(line.a);
     match letter {
-        b'o' => open(first, word(line.b)),
+        b'o' => open(first, word(line.b), word(line.c)),
         b's' => set(stream, Setting::Speed(float(first))),
         b'p' => set(stream, Setting::Pitch(float(first))),
         b'v' => set(stream, Setting::Volume(float(first))),

@@ -1,4 +1,4 @@
-// The Sonic speech stretcher over lent areas: the stream with `new`, `set` and `available_frames` (`stream`), and its
+// The Sonic speech stretcher over lent areas: the stream with `new`, `with_ties`, `set` and `available_frames` (`stream`), and its
 // calls that are lent areas, `write_f32` (`write`), `read_f32` (`read`) and `flush` (`flush`). What they answer is said
 // in `stream/specs/Settings.antt`, `adding/specs/Calls.antt` and `read/specs/Reading.antt`.
 pub use adding::Wrote;
@@ -13,5 +13,6 @@ pub use stream::Changed;
 pub use stream::Opened;
 pub use stream::Setting;
 pub use stream::SonicStream;
+pub use stream::Ties;
 pub use stream::refusals;
 pub use write::write_f32;

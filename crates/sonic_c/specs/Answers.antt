@@ -51,12 +51,12 @@ availableOf entering (available-answer.Available.Waiting n) =
     record { refusal = accepted; frames = n; stream = entering }
 
 unfoldable pub toldOf : call-told.Told → Told
-toldOf t = record { outcome = outcomeNumber (t .outcome); passed = t .passed }
+toldOf t = record { outcome = outcomeNumber (t .outcome); passed = t .passed; sum = t .sum }
 
 -- refused, every field told is 0
 unfoldable pub wroteOf : write-answer.Wrote → Wrote
 wroteOf (write-answer.Wrote.Refused number s) =
-    record { refusal = number; told = record { outcome = 0; passed = 0 }; stream = s }
+    record { refusal = number; told = record { outcome = 0; passed = 0; sum = 0 }; stream = s }
 wroteOf (write-answer.Wrote.Done told s) = record { refusal = accepted; told = toldOf told; stream = s }
 
 unfoldable pub gaveOf : read-answer.Gave → Gave

@@ -86,6 +86,7 @@ fn told_of(told: sonic::Told) -> Told
     Told {
         outcome: outcome_number(outcome),
         passed: told.passed,
+        sum: told.sum,
     }
 }
 
@@ -99,6 +100,7 @@ pub(crate) fn wrote_of(answer: sonic::Wrote) -> Wrote
             told: Told {
                 outcome: 0,
                 passed: 0,
+                sum: 0,
             },
             stream,
         },

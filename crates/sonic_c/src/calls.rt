@@ -14,6 +14,8 @@ use stream::Setting;
 use stream::SonicStream;
 ghost use mathlib.Core.Path.{_≡_};
 ghost use Rattle.frames.specs.Areas.{areas};
+ghost use Rattle.search.specs.declared.Ties.the-variants.{Smallest};
+ghost use Rattle.search.specs.Ties.{tiesOf};
 ghost use Rattle.stream.specs.declared.Setting.the-variants.{Speed, Pitch, Volume, StepOver};
 ghost use Rattle.stream.specs.State.{stepsOver};
 ghost use Rattle.stream.specs.Settings.{openCall, setCall, availableCall};
@@ -23,9 +25,16 @@ ghost use Rattle.sonic_c.specs.Answers.{openedOf, changedOf, availableOf
 
 #[no_mangle]
 pub extern "C" fn kelpladder_open(rate: u32, channels: u32) -> Opened
-    ensures { λ r. ⌜ r ≡ openedOf (openCall rate channels) ⌝ }
+    ensures { λ r. ⌜ r ≡ openedOf (openCall rate channels Smallest) ⌝ }
 {
     opened_of(SonicStream::new(rate, channels))
+}
+
+#[no_mangle]
+pub extern "C" fn kelpladder_open_with_ties(rate: u32, channels: u32, ties: u32) -> Opened
+    ensures { λ r. ⌜ r ≡ openedOf (openCall rate channels (tiesOf ties)) ⌝ }
+{
+    opened_of(SonicStream::with_ties(rate, channels, stream::ties_of(ties)))
 }
 
 #[no_mangle]

@@ -30,11 +30,13 @@ pub struct Available {
     pub stream: SonicStream,
 }
 
-// What is told of an accepted write or flush: the number of its outcome, and the periods passed over.
+// What is told of an accepted write or flush: the number of its outcome, the periods passed over, and the sum of the
+// last search.
 #[repr(C)]
 pub struct Told {
     pub outcome: u32,
     pub passed: usize,
+    pub sum: usize,
 }
 
 // A write or a flush.

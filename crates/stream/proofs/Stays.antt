@@ -23,6 +23,7 @@ use Rattle.floats.proofs.Signs.{le-no-nan}
 use Rattle.floats.proofs.Facts.{clamped-in, longest, period-range}
 use Rattle.period.specs.declared.PeriodRecord.{PeriodRecord}
 use Rattle.period.specs.Rates.{minPeriod, maxPeriod, InLimits}
+use Rattle.search.specs.declared.Ties.{Ties}
 use Rattle.search.specs.Search.{widestGap}
 use Rattle.period.specs.Pitch.{PeriodIn, PrevInOrder}
 use Rattle.rate.specs.declared.Rates.{Rates}
@@ -155,47 +156,47 @@ start-in rate pitch low high e =
 
 -- ---- an opening
 
-fresh-in-order : (rate channels : ℕ) → InLimits rate channels → inOrder (streamOf (fresh rate channels) 0) ≡ true
+fresh-in-order : (rate channels : ℕ) (ties : Ties) → InLimits rate channels → inOrder (streamOf (fresh rate channels ties) 0) ≡ true
 unfolding streamOf fresh
-fresh-in-order rate channels l =
+fresh-in-order rate channels ties l =
     let v = within-range minVolume maxVolume one (one-within .2) in
-    let none : PrevInOrder rate (fresh rate channels .prev) = record { period-in = inl refl; min-diff-in = omega arith } in
-    state-in-order (fresh rate channels) 0
+    let none : PrevInOrder rate (fresh rate channels ties .prev) = record { period-in = inl refl; min-diff-in = omega arith } in
+    state-in-order (fresh rate channels ties) 0
     (record { limits = l; volume-low = v .0; volume-high = v .1; position = start-in rate one (l .rate-low) (l .rate-high) (one-within .1); prev = none })
     (record { speed = one-within .0; pitch = one-within .1; volume = one-within .2 })
 
-pub open-in-order : (rate channels : ℕ) (s : SonicStream) → openCall rate channels ≡ Opened.Done s → inOrder s ≡ true
+pub open-in-order : (rate channels : ℕ) (ties : Ties) (s : SonicStream) → openCall rate channels ties ≡ Opened.Done s → inOrder s ≡ true
 unfolding openCall
-open-in-order rate channels s e = go (rateBad rate) (channelsBad channels) refl refl e
+open-in-order rate channels ties s e = go (rateBad rate) (channelsBad channels) refl refl e
   where
     answer : Bool → Bool → Opened
     answer a b =
         cond a (Opened.Refused badRate rate zeroStream)
-        (cond b (Opened.Refused badChannels channels zeroStream) (Opened.Done (streamOf (fresh rate channels) 0)))
+        (cond b (Opened.Refused badChannels channels zeroStream) (Opened.Done (streamOf (fresh rate channels ties) 0)))
 
     go : (a b : Bool) → rateBad rate ≡ a → channelsBad channels ≡ b → answer a b ≡ Opened.Done s → inOrder s ≡ true
     go true b p q h = let z : true ≡ false = cc in absurd (true≢false z)
     go false true p q h = let z : true ≡ false = cc in absurd (true≢false z)
     go false false p q h =
-        let same : streamOf (fresh rate channels) 0 ≡ s = cc in
-        subst (λ (t : SonicStream). inOrder t ≡ true) same (fresh-in-order rate channels (limits-in rate channels p q))
+        let same : streamOf (fresh rate channels ties) 0 ≡ s = cc in
+        subst (λ (t : SonicStream). inOrder t ≡ true) same (fresh-in-order rate channels ties (limits-in rate channels p q))
 
 -- 3 refuses what a refused opening carries
 pub zero-not-in-order : inOrder zeroStream ≡ false
 unfolding inOrder limitsInOrder rateBad zeroStream
 zero-not-in-order = refl
 
-pub refused-not-in-order : (rate channels number given : ℕ) (s : SonicStream) → openCall rate channels ≡ Opened.Refused number given s
+pub refused-not-in-order : (rate channels number given : ℕ) (ties : Ties) (s : SonicStream) → openCall rate channels ties ≡ Opened.Refused number given s
     → inOrder s ≡ false
 unfolding openCall
-refused-not-in-order rate channels number given s = go (rateBad rate) (channelsBad channels)
+refused-not-in-order rate channels number given ties s = go (rateBad rate) (channelsBad channels)
   where
     not-in-order : zeroStream ≡ s → inOrder s ≡ false
     not-in-order e = subst (λ (t : SonicStream). inOrder t ≡ false) e zero-not-in-order
 
     go : (a b : Bool)
         → cond a (Opened.Refused badRate rate zeroStream)
-        (cond b (Opened.Refused badChannels channels zeroStream) (Opened.Done (streamOf (fresh rate channels) 0))) ≡ Opened.Refused number given s
+        (cond b (Opened.Refused badChannels channels zeroStream) (Opened.Done (streamOf (fresh rate channels ties) 0))) ≡ Opened.Refused number given s
         → inOrder s ≡ false
     go true b h = let same : zeroStream ≡ s = cc in not-in-order same
     go false true h = let same : zeroStream ≡ s = cc in not-in-order same

@@ -75,6 +75,7 @@ pub record Alike (x y : State) : Type 0 where
   pub «input_play_time» : x .«input_play_time» ≡ y .«input_play_time»
   pub «time_error» : x .«time_error» ≡ y .«time_error»
   pub balance : x .balance ≡ y .balance
+  pub ties : x .ties ≡ y .ties
 
 -- they have one stream
 pub streamOf-same : {x y : State} → Alike x y → (w : ℕ) → streamOf x w ≡ streamOf y w
@@ -97,6 +98,7 @@ streamOf-same a w = λ i. record {
   waiting = record { 0 = w };
   balance = a .balance i;
   «step_over» = a .«step_over» i;
+  ties = a .ties i;
 }
 
 -- and states of one stream are alike
@@ -117,6 +119,7 @@ alike-of x y w e =
       «input_play_time» = λ i. e i .«input_play_time»;
       «time_error» = λ i. e i .«time_error»;
       balance = λ i. e i .balance;
+      ties = λ i. e i .ties;
     }
 
 -- the states of a stream, in any areas
@@ -167,6 +170,7 @@ module _ {x y : State} (h : Alike x y) where
         «input_play_time» = h .«input_play_time»;
         «time_error» = h .«time_error»;
         balance = h .balance;
+        ties = h .ties;
       }
 
   pub input-alike : (a b : List Frame) {p q : PeriodRecord} {t u e f : Float} → length a ≡ length b → p ≡ q → t ≡ u → e ≡ f
@@ -186,6 +190,7 @@ module _ {x y : State} (h : Alike x y) where
         «input_play_time» = play;
         «time_error» = error;
         balance = h .balance;
+        ties = h .ties;
       }
 
   pub tail-alike : (a b : List Frame) {p q : Position} → length a ≡ length b → p ≡ q → Alike (withTail x a p) (withTail y b q)
@@ -204,6 +209,7 @@ module _ {x y : State} (h : Alike x y) where
         «input_play_time» = h .«input_play_time»;
         «time_error» = h .«time_error»;
         balance = h .balance;
+        ties = h .ties;
       }
 
   pub balance-alike : {b c : Balance} → b ≡ c → Alike (withBalance x b) (withBalance y c)
@@ -222,6 +228,7 @@ module _ {x y : State} (h : Alike x y) where
         «input_play_time» = h .«input_play_time»;
         «time_error» = h .«time_error»;
         balance = balance;
+        ties = h .ties;
       }
 
 -- ---- states in order

@@ -1,4 +1,4 @@
--- docs/RULES.md, "Opening and settings", with C-18: the fresh values, what a setting changes, and what an
+-- docs/RULES.md, "Opening and settings", with C-17 and C-18: the fresh values, what a setting changes, and what an
 -- opening, a setting and `available_frames` answer. Definitions only. Assumes nothing.
 use mathlib.Core.Bool.{cond}
 use mathlib.Core.List.{[]}
@@ -6,6 +6,8 @@ use Prim.Native.Nat.{ℕ}
 use Rattle.floats.specs.Numbers.{zero, one}
 use Rattle.floats.specs.Settings.{clamped, minSpeed, maxSpeed, minPitch, maxPitch, minVolume, maxVolume}
 use Rattle.rate.specs.Tail.{start}
+use Rattle.search.specs.declared.Ties.{Ties}
+use Rattle.search.specs.Ties.{tiesNumber}
 use Rattle.stream.specs.declared.SonicStream.{SonicStream}
 use Rattle.stream.specs.declared.Setting.{Setting}
 use Rattle.stream.specs.declared.Setting.the-variants.{Speed, Pitch, Volume, StepOver}
@@ -17,9 +19,9 @@ use Rattle.stream.specs.State.{State, withSettings}
 use Rattle.stream.specs.Stream.{streamOf, unlent, zeroStream}
 use Rattle.stream.specs.Refusals.{badRate, badChannels, badStream, rateBad, channelsBad, inOrder}
 
--- settings 1.0, no stepping over, all but rate, channels and what follows from the rate empty or 0
-unfoldable pub fresh : ℕ → ℕ → State
-fresh rate channels =
+-- settings 1.0, no stepping over, all but rate, channels, the choice of ties and what follows from the rate empty or 0
+unfoldable pub fresh : ℕ → ℕ → Ties → State
+fresh rate channels ties =
     record {
       rate = rate;
       channels = channels;
@@ -34,14 +36,15 @@ fresh rate channels =
       «input_play_time» = zero;
       «time_error» = zero;
       balance = none;
+      ties = tiesNumber ties;
     }
 
 -- 1 and 2 carry the number given and the stream with every field 0
-unfoldable pub openCall : ℕ → ℕ → Opened
-openCall rate channels =
+unfoldable pub openCall : ℕ → ℕ → Ties → Opened
+openCall rate channels ties =
     cond (rateBad rate) (Opened.Refused badRate rate zeroStream)
     (cond (channelsBad channels) (Opened.Refused badChannels channels zeroStream)
-    (Opened.Done (streamOf (fresh rate channels) 0)))
+    (Opened.Done (streamOf (fresh rate channels ties) 0)))
 
 -- speed, pitch and volume are held to their ranges, NaN to the lower end; setting a pitch, even the same, puts p and n
 -- to 0; stepping over is on or off

@@ -1,5 +1,5 @@
 -- What a stream and its areas hold, the frames waiting apart (docs/RULES.md, "What a stream is"), with its
--- totals (C-16) and whether it steps over (C-18). Definitions only. Assumes nothing.
+-- totals (C-16), whether it steps over (C-18), and its choice of ties (C-17). Definitions only. Assumes nothing.
 use mathlib.Core.Bool.{Bool}
 use mathlib.Core.List.{List}
 use Prim.Native.Nat.{ℕ}
@@ -10,8 +10,8 @@ use Rattle.period.specs.declared.PeriodRecord.{PeriodRecord}
 use Rattle.rate.specs.declared.Position.{Position}
 use Rattle.stream.specs.declared.balance.Balance.{Balance}
 
--- rate and channels, the settings, input, tail, positions p and n, period record, play time, time error, and the totals
--- of frames skipped and inserted
+-- rate and channels, the settings, input, tail, positions p and n, period record, play time, time error, the totals of
+-- frames skipped and inserted, and the number of the choice of ties
 pub record State : Type 0 where
   pub rate : ℕ
   pub channels : ℕ
@@ -26,6 +26,7 @@ pub record State : Type 0 where
   pub «input_play_time» : Float
   pub «time_error» : Float
   pub balance : Balance
+  pub ties : ℕ
 
 -- whether a period that gives no frame is stepped over (C-18): a field of 0 is off, any other on
 abbrev pub stepsOver : ℕ → Bool
@@ -48,6 +49,7 @@ withSettings s speed pitch volume stepOver at =
       «input_play_time» = s .«input_play_time»;
       «time_error» = s .«time_error»;
       balance = s .balance;
+      ties = s .ties;
     }
 
 -- the state with another input, period record, play time and time error
@@ -67,6 +69,7 @@ withInput s input prev play error =
       «input_play_time» = play;
       «time_error» = error;
       balance = s .balance;
+      ties = s .ties;
     }
 
 -- the state with another tail and other positions
@@ -86,6 +89,7 @@ withTail s tail at =
       «input_play_time» = s .«input_play_time»;
       «time_error» = s .«time_error»;
       balance = s .balance;
+      ties = s .ties;
     }
 
 -- the state with other totals
@@ -105,4 +109,5 @@ withBalance s balance =
       «input_play_time» = s .«input_play_time»;
       «time_error» = s .«time_error»;
       balance = balance;
+      ties = s .ties;
     }

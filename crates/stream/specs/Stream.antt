@@ -30,6 +30,7 @@ stateOf s input stage =
       «input_play_time» = s .«input_play_time»;
       «time_error» = s .«time_error»;
       balance = s .balance;
+      ties = s .ties;
     }
 
 -- the stream of a state, with w frames waiting; its sample period is T, that of the rate
@@ -53,6 +54,7 @@ streamOf s w =
       waiting = record { 0 = w };
       balance = s .balance;
       «step_over» = s .«step_over»;
+      ties = s .ties;
     }
 
 -- of a stream whose areas are not lent: as many frames as it holds, with no samples
@@ -84,4 +86,5 @@ zeroStream =
       waiting = record { 0 = 0 };
       balance = none;
       «step_over» = 0;
+      ties = 0;
     }

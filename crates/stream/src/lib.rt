@@ -11,9 +11,12 @@ pub use balance::Balance;
 pub use balance::Booked;
 use frames::Frames;
 pub use order::Order;
+pub use search::Ties;
+pub use search::ties_of;
 ghost use mathlib.Core.Path.{_≡_};
 ghost use Rattle.stream.specs.Stream.{zeroStream};
 ghost use Rattle.stream.specs.Settings.{openCall};
+ghost use Rattle.search.specs.declared.Ties.the-variants.{Smallest};
 
 // The stream's value, as C has it too. Its samples are in the areas that each call is lent.
 #[repr(C)]
@@ -36,6 +39,8 @@ pub struct SonicStream {
     pub balance: Balance,
     // Off if 0. A caller of C may put any number here.
     pub step_over: u32,
+    // Of several periods with the same mean 0 finds the smallest, any other number the largest.
+    pub ties: u32,
 }
 
 // One setting with its value.
@@ -124,12 +129,20 @@ impl SonicStream {
             waiting: Frames(0),
             balance: Balance::NONE,
             step_over: 0,
+            ties: 0,
         }
     }
 
-    // Opens a stream: refusals 1 and 2.
+    // Opens a stream that finds the smallest of several periods with the same mean: refusals 1 and 2.
     pub fn new(rate: u32, channels: u32) -> Opened
-        ensures { λ r. ⌜ r ≡ openCall rate channels ⌝ }
+        ensures { λ r. ⌜ r ≡ openCall rate channels Smallest ⌝ }
+    {
+        SonicStream::with_ties(rate, channels, Ties::Smallest)
+    }
+
+    // Opens a stream with the choice between these: refusals 1 and 2.
+    pub fn with_ties(rate: u32, channels: u32, ties: Ties) -> Opened
+        ensures { λ r. ⌜ r ≡ openCall rate channels ties ⌝ }
     {
         let mut stream = SonicStream::zero();
         if rate < SonicStream::MIN_RATE || rate > SonicStream::MAX_RATE {
@@ -152,6 +165,7 @@ impl SonicStream {
         stream.pitch = SonicStream::FRESH_SETTING;
         stream.volume = SonicStream::FRESH_SETTING;
         stream.sample_period = floats::settings::sample_period(rate);
+        stream.ties = search::ties_number(ties);
         Opened::Done(stream)
     }
 }

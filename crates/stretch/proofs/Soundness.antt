@@ -31,11 +31,11 @@ use Rattle.stretch.proofs.DueStep.{nextStep-copied, nextStep-searched}
 module _ {u : StretchCall} (x : List ℤ) (h : Place) (r : StretchReady u) (o : PeriodIn (u .rate) (h .prev)) where
   pub period-in : InRange (u .rate) (searchAt u x h .period .0)
   unfolding searchAt
-  period-in = findPitchPeriod-in (drop (h .position .0 * u .channels) x) (h .prev) (r .opened) o
+  period-in = findPitchPeriod-in (u .ties) (drop (h .position .0 * u .channels) x) (h .prev) (r .opened) o
 
   found-in : PeriodIn (u .rate) (searchAt u x h .prev)
   unfolding searchAt
-  found-in = findPitchPeriod-record-in (drop (h .position .0 * u .channels) x) (h .prev) (r .opened) o
+  found-in = findPitchPeriod-record-in (u .ties) (drop (h .position .0 * u .channels) x) (h .prev) (r .opened) o
 
   record-in : (s : Step) → PeriodIn (u .rate) (prevAfter u x h s)
   unfolding prevAfter

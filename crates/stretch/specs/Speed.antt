@@ -54,17 +54,18 @@ unfoldable pub stalled : List Step → Bool
 stalled [] = false
 stalled (s ∷ ss) = stalls s || stalled ss
 
--- where a call begins
+-- where a call begins; it has made no search
 abbrev pub begun : Float → PeriodRecord → Place
-begun error prev = record { position = record { 0 = 0 }; «time_error» = error; prev = prev }
+begun error prev = record { position = record { 0 = 0 }; «time_error» = error; prev = prev; sum = 0 }
 
--- an answer with the time error and the period record of a place
+-- an answer with the sum, the time error and the period record of a place
 abbrev pub answer : ℕ → ℕ → ℕ → Place → Bool → Stretch
 answer made used passed h stall =
     record {
       made = record { 0 = made };
       used = record { 0 = used };
       passed = passed;
+      sum = h .sum;
       «time_error» = h .«time_error»;
       prev = h .prev;
       stalled = stall;

@@ -1,5 +1,5 @@
 -- docs/RULES.md, "Stretch steps": which step is due at a place, what it gives and uses, and the place after it; with
--- C-16 and C-18. u is the call, x the held input, h a place. Definitions only.
+-- C-16, C-17 and C-18. u is the call, x the held input, h a place. Definitions only.
 use Prim.Native.Nat.{ℕ, _+_, _-_, _*_, _^_, _≤_}
 use mathlib.Core.Path.{_≡_}
 use mathlib.Core.Bool.{Bool, false, cond, _&&_, _||_}
@@ -28,7 +28,7 @@ use Rattle.crossfade.specs.Crossfade.{copyUnmodifiedSamples, skipPitchPeriod, i
 
 -- the search at a place
 unfoldable pub searchAt : StretchCall → List ℤ → Place → Chosen
-searchAt u x h = findPitchPeriod (drop (h .position .0 * u .channels) x) (u .channels) (u .rate) (h .prev)
+searchAt u x h = findPitchPeriod (u .ties) (drop (h .position .0 * u .channels) x) (u .channels) (u .rate) (h .prev)
 
 -- a skip step that gives k frames; stepping over, one that gives no frame passes over its period (C-18)
 abbrev pub skipStep : Bool → Frames → Frames → Step
@@ -111,18 +111,26 @@ prevAfter u x h (Skipped period k) = searchAt u x h .prev
 prevAfter u x h (Inserted period k) = searchAt u x h .prev
 prevAfter u x h (Passed period) = searchAt u x h .prev
 
--- the place after a step whose search found a period record
-unfoldable pub placeAfter : StretchCall → Place → Step → PeriodRecord → Place
-placeAfter u h s found =
+-- the sum of the last search after a step (C-17)
+unfoldable pub sumAfter : StretchCall → List ℤ → Place → Step → ℕ
+sumAfter u x h (Copied n) = h .sum
+sumAfter u x h (Skipped period k) = searchAt u x h .sum
+sumAfter u x h (Inserted period k) = searchAt u x h .sum
+sumAfter u x h (Passed period) = searchAt u x h .sum
+
+-- the place after a step, with the period record and the sum after it
+unfoldable pub placeAfter : StretchCall → Place → Step → PeriodRecord → ℕ → Place
+placeAfter u h s found sum =
     record {
       position = record { 0 = h .position .0 + framesUsed s };
       «time_error» = errorAfter u (h .«time_error») s;
       prev = found;
+      sum = sum;
     }
 
 -- the place after a step at a place
 unfoldable pub after : StretchCall → List ℤ → Place → Step → Place
-after u x h s = placeAfter u h s (prevAfter u x h s)
+after u x h s = placeAfter u h s (prevAfter u x h s) (sumAfter u x h s)
 
 -- ---- one turn, of a call that has made `made` frames and may make `most`; they go to the place `to` of an area, which
 -- has room for `room` frames there

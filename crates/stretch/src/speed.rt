@@ -16,7 +16,7 @@ ghost use Rattle.period.specs.Pitch.{PrevInOrder};
 ghost use Rattle.stretch.specs.Steps.{StretchReady};
 ghost use Rattle.stretch.specs.Speed.{changeSpeed, begun, answer, AreaAfter};
 
-// A call's answer, with the time error and the period record of a place.
+// A call's answer, with the sum, the time error and the period record of a place.
 fn answer(made: Frames, used: Frames, passed: usize, place: Place, stalled: bool) -> Stretch
     ensures { λ r. ⌜ r ≡ answer (made .0) (used .0) passed place stalled ⌝ }
 {
@@ -25,6 +25,7 @@ fn answer(made: Frames, used: Frames, passed: usize, place: Place, stalled: bool
         made,
         used,
         passed,
+        sum: place.sum,
         time_error: place.time_error,
         prev,
         stalled,
@@ -63,6 +64,7 @@ pub fn change_speed(
         position: Frames(0),
         time_error,
         prev,
+        sum: 0,
     };
     let mut made: usize = 0;
     let mut passed: usize = 0;

@@ -8,6 +8,7 @@ use frames::Frames;
 use frames::Samples;
 use period::Chosen;
 use period::PeriodRecord;
+use search::Ties;
 ghost use mathlib.Core.Path.{_≡_};
 ghost use Prim.Native.Nat.{_+_, _*_, _≤_, _<_, _^_};
 ghost use lib.ListN.{length, drop};
@@ -15,26 +16,28 @@ ghost use Rattle.period.specs.Rates.{InLimits, maxRequired};
 ghost use Rattle.period.specs.Pitch.{findPitchPeriod, InRange, PrevInOrder};
 ghost use Rattle.stretch.specs.Steps.{skipStep, periodStep, nextStep, framesOut, framesUsed, framesRead};
 ghost use Rattle.stretch.specs.Steps.{periodsPassed, stalls, errorAfter};
-ghost use Rattle.stretch.specs.Steps.{prevAfter, placeAfter, turnFor, areaFor, StretchReady, Sound};
+ghost use Rattle.stretch.specs.Steps.{prevAfter, sumAfter, placeAfter, turnFor, areaFor, StretchReady, Sound};
 
-// The period that a step at the place `from` of the input uses, in frames, and the period record after the search.
+// The period that a step at the place `from` of the input uses, in frames, with the period record after the search and
+// its sum.
 fn search_at(
     input: &[i16],
     from: Samples,
     channels: usize,
     rate: usize,
     prev: PeriodRecord,
+    ties: Ties,
     scratch: &mut [i16],
 ) -> Chosen
     requires { ⌜ InLimits rate channels ⌝ }
     requires { ⌜ PrevInOrder rate prev ⌝ }
     requires { ⌜ (from .0 + maxRequired rate * channels ≤ length (now input))
         × (maxRequired rate ≤ length (now scratch)) ⌝ }
-    ensures { λ r. ⌜ (r ≡ findPitchPeriod (drop (from .0) (now (input .entry))) channels rate prev)
+    ensures { λ r. ⌜ (r ≡ findPitchPeriod ties (drop (from .0) (now (input .entry))) channels rate prev)
         × InRange rate (r .period .0) × PrevInOrder rate (r .prev) ⌝ }
 {
     let first = from.0;
-    period::find_pitch_period(&input[first..], channels, rate, prev, scratch)
+    period::find_pitch_period(&input[first..], channels, rate, prev, ties, scratch)
 }
 
 // The skip step of a period that gives k frames. Stepping over, one that gives none passes over its period.
@@ -63,7 +66,7 @@ fn period_step(s: f32, step_over: bool, period: Frames) -> Step
     Step::Inserted(period, k)
 }
 
-// The step that is due at a place, and the period record after its search.
+// The step that is due at a place, and the period record and the sum of the last search after it.
 fn next_step(input: &[i16], call: StretchCall, place: Place, scratch: &mut [i16]) -> NextStep
     requires { ⌜ StretchReady call ⌝ }
     requires { ⌜ PrevInOrder (call .rate) (place .prev) ⌝ }
@@ -72,6 +75,7 @@ fn next_step(input: &[i16], call: StretchCall, place: Place, scratch: &mut [i16]
         × (maxRequired (call .rate) ≤ length (now scratch)) ⌝ }
     ensures { λ r. ⌜ (r .step ≡ nextStep call (now (input .entry)) place)
         × (r .prev ≡ prevAfter call (now (input .entry)) place (nextStep call (now (input .entry)) place))
+        × (r .sum ≡ sumAfter call (now (input .entry)) place (nextStep call (now (input .entry)) place))
         × PrevInOrder (call .rate) (r .prev) ⌝ }
 {
     let s = call.speed;
@@ -84,15 +88,18 @@ fn next_step(input: &[i16], call: StretchCall, place: Place, scratch: &mut [i16]
         return NextStep {
             step: Step::Copied(n),
             prev,
+            sum: place.sum,
         };
     }
     let from = position.samples(call.channels);
-    let chosen = search_at(input, from, call.channels, call.rate, prev, scratch);
+    let ties = call.ties;
+    let chosen = search_at(input, from, call.channels, call.rate, prev, ties, scratch);
     let period = chosen.period;
     let found = chosen.prev;
     NextStep {
         step: period_step(s, call.step_over, period),
         prev: found,
+        sum: chosen.sum,
     }
 }
 
@@ -167,10 +174,10 @@ fn error_after(call: StretchCall, error: f32, step: Step) -> f32
     }
 }
 
-// The place after a step, with the period record after it.
-fn place_after(call: StretchCall, place: Place, step: Step, prev: PeriodRecord) -> Place
+// The place after a step, with the period record and the sum after it.
+fn place_after(call: StretchCall, place: Place, step: Step, prev: PeriodRecord, sum: usize) -> Place
     requires { ⌜ Sound (call .held .0) (place .position .0) step × (call .held .0 ≤ 2 ^ 24) ⌝ }
-    ensures { λ r. ⌜ r ≡ placeAfter call place step prev ⌝ }
+    ensures { λ r. ⌜ r ≡ placeAfter call place step prev sum ⌝ }
 {
     let used = frames_used(step);
     let position = place.position.0 + used.0;
@@ -178,6 +185,7 @@ fn place_after(call: StretchCall, place: Place, step: Step, prev: PeriodRecord) 
         position: Frames(position),
         time_error: error_after(call, place.time_error, step),
         prev,
+        sum,
     }
 }
 
@@ -211,6 +219,7 @@ pub(crate) fn take_step(
     let due = next_step(input, call, place, scratch);
     let step = due.step;
     let prev = due.prev;
+    let sum = due.sum;
     let n = frames_out(step);
     if most.0 < made.0 + n.0 {
         return Turn::TooMany;
@@ -226,6 +235,6 @@ pub(crate) fn take_step(
         made,
         room,
     );
-    let next = place_after(call, place, step, prev);
+    let next = place_after(call, place, step, prev, sum);
     Turn::Went(next, n, periods_passed(step), stalls(step))
 }

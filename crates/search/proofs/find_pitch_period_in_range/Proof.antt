@@ -13,12 +13,12 @@ use Rattle.search.proofs.find_pitch_period_in_range.Tie as tie
 -- ---- the invariant
 
 abbrev Inv-loop : tie.InvT-loop
-Inv-loop samples min-period max-period best₀ worst₀ period₀ b w period =
-    (min-period ≤ period) × (period ≤ max-period) × (b ≡ best samples min-period period)
+Inv-loop samples min-period max-period ties best₀ worst₀ period₀ b w period =
+    (min-period ≤ period) × (period ≤ max-period) × (b ≡ best ties samples min-period period)
     × (w ≡ worst samples min-period period) × Bounded b × Bounded w
 
 abbrev μ-loop : tie.MeasureT-loop
-μ-loop samples min-period max-period best₀ worst₀ period₀ b w period = max-period - period
+μ-loop samples min-period max-period ties best₀ worst₀ period₀ b w period = max-period - period
 
 -- ---- places, and what is known there
 
@@ -102,7 +102,7 @@ loop-again c =
     let x = a .samples .now in (
       omega (arith, l .inv .0),
       omega (arith, n .before .loop-test),
-      sweep-two lesser x (a .min-period) (l .period) (l .inv .0) (l .inv .2) (two .0) (two .2) low (m .lesser2 .ensures .0),
+      sweep-two (lesser (a .ties)) x (a .min-period) (l .period) (l .inv .0) (l .inv .2) (two .0) (two .2) low (m .lesser2 .ensures .0),
       sweep-two greater x (a .min-period) (l .period) (l .inv .0) (l .inv .3) (two .0) (two .2) high (c .greater2 .ensures .0),
       m .lesser2 .ensures .1,
       c .greater2 .ensures .1,
@@ -130,7 +130,7 @@ returns c =
     let a = start d .args in
     let last = last-period c .candidate-at2 .ensures .0 in
     let e : l .period + 1 ≡ a .max-period = omega arith in
-    let b = sweep-one lesser (a .samples .now) (a .min-period) (l .period) (l .inv .0) (l .inv .2) e last (c .before .before .lesser3 .ensures .0) in
+    let b = sweep-one (lesser (a .ties)) (a .samples .now) (a .min-period) (l .period) (l .inv .0) (l .inv .2) e last (c .before .before .lesser3 .ensures .0) in
     let w = sweep-one greater (a .samples .now) (a .min-period) (l .period) (l .inv .0) (l .inv .3) e last (c .before .greater3 .ensures .0) in
     (c .found-of .ensures .0 ∙ (λ i. foundOf (b i) (w i)), c .found-of .ensures .1)
 
@@ -144,7 +144,7 @@ returns-2 c =
     let l = d .loop in
     let a = start d .args in
     let e : l .period ≡ a .max-period = omega arith in
-    let b = l .inv .2 ∙ ap (best (a .samples .now) (a .min-period)) e in
+    let b = l .inv .2 ∙ ap (best (a .ties) (a .samples .now) (a .min-period)) e in
     let w = l .inv .3 ∙ ap (worst (a .samples .now) (a .min-period)) e in
     (c .found-of2 .ensures .0 ∙ (λ i. foundOf (b i) (w i)), c .found-of2 .ensures .1)
 

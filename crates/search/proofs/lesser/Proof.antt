@@ -1,24 +1,17 @@
--- `search::lesser` meets its contract: both products fit, and the test picks as the definition does. Assumes nothing.
-use native.Mathlib.Omega.{arith}
-use borrow.Author.Tests.{lt-ltb, le-ltb}
-use Rattle.search.specs.Search.{lesser}
-use Rattle.search.proofs.Candidates.{product-le}
+-- `search::lesser` meets its contract: the test picks as the definition does. Assumes nothing.
+use borrow.Author.Needs.{needs}
+use mathlib.Core.Path.{sym, _∙_}
 use Rattle.search.proofs.lesser.Statement.{statement}
 use Rattle.search.proofs.lesser.Tie as tie
 
-mul-if1 : tie.Need-mul-if1
-mul-if1 c = record { fits = omega (arith, product-le (c .before .before .pre .1) (c .before .before .pre .0)) }
-
-mul-if1-2 : tie.Need-mul-if1-2
-mul-if1-2 c = record { fits = omega (arith, product-le (c .before .before .before .before .pre .0) (c .before .before .before .before .pre .1)) }
+better-requires : tie.Need-better-requires
+better-requires c κs = search needs
 
 returns : tie.Need-returns
-unfolding lesser
-returns c = (rw (lt-ltb _ _ (c .if1 .taken)), c .before .before .before .before .before .pre .1)
+returns c = (rw (sym (c .before .better .ensures) ∙ c .if1 .taken), c .before .before .pre .1)
 
 returns-2 : tie.Need-returns-2
-unfolding lesser
-returns-2 c = (rw (le-ltb _ _ (c .if1 .left)), c .before .before .before .before .before .pre .0)
+returns-2 c = (rw (sym (c .before .better .ensures) ∙ c .if1 .left), c .before .before .pre .0)
 
 pub lesser-spec : {M : Type 1} → statement M
-lesser-spec = tie.close (tie.spec mul-if1 mul-if1-2 returns returns-2)
+lesser-spec = tie.close (tie.spec better-requires returns returns-2)

@@ -70,7 +70,7 @@ returns c =
     let per : a .samples .result .0 ≡ skip (start m .args .rate) * channels = a .samples .ensures ∙ ap (λ (t : ℕ). t * channels) k in
     let l = low m .min-period .ensures in
     let h = high m .max-period .ensures in (
-      v .search-values .ensures .0 ∙ (λ i. findPitchPeriodInRange (valuesOf x (n i / k i) (per i)) (l i / k i) (h i / k i)),
+      v .search-values .ensures .0 ∙ (λ i. findPitchPeriodInRange (start m .args .ties) (valuesOf x (n i / k i) (per i)) (l i / k i) (h i / k i)),
       v .search-values .ensures .1,
     )
 

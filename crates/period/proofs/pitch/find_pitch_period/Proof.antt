@@ -18,7 +18,7 @@ prev-period-better-requires c κs = search needs
 -- the period found, and the record that takes it
 module _ (c : tie.After-found-at) where
   period-in : InRange (c .before .before .args .rate) (c .found-at .result .period)
-  period-in = rw (c .found-at .ensures .0) (found-in (c .before .before .args .samples .now) (c .before .before .pre .0))
+  period-in = rw (c .found-at .ensures .0) (found-in (c .before .before .args .ties) (c .before .before .args .samples .now) (c .before .before .pre .0))
 
   in-order : PrevInOrder (c .before .before .args .rate) (record { period = c .found-at .result .period; «min_diff» = c .found-at .result .«min_diff» })
   in-order = record { period-in = inr period-in; min-diff-in = c .found-at .ensures .1 }

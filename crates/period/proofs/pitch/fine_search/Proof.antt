@@ -64,7 +64,7 @@ returns c =
     let x = start r .args .samples .now in
     let per : a .samples .result .0 ≡ start r .args .channels = omega (arith, a .samples .ensures) in
     let n = m .max-required .ensures in (
-      v .search-values .ensures .0 ∙ (λ i. findPitchPeriodInRange (valuesOf x (n i) (per i)) (low-is r i) (high-is r i)),
+      v .search-values .ensures .0 ∙ (λ i. findPitchPeriodInRange (start r .args .ties) (valuesOf x (n i) (per i)) (low-is r i) (high-is r i)),
       v .search-values .ensures .1,
     )
 

@@ -33,7 +33,7 @@ module _ (c : tie.After-skip) where
   start = c .before .before .before .before
 
   abbrev first : Found
-  first = coarse (start .args .samples .now) (start .args .channels) (start .args .rate)
+  first = coarse (start .args .ties) (start .args .samples .now) (start .args .channels) (start .args .rate)
 
   near-is : c .before .before .coarse-search .result .period * c .skip .result ≡ first .period * skip (start .args .rate)
   near-is = λ i. c .before .before .coarse-search .ensures .0 i .period * c .skip .ensures i
@@ -42,14 +42,14 @@ mul-fine-search : tie.Need-mul-fine-search
 mul-fine-search c =
     let k = c .before .before in
     let o = start k .pre .0 in
-    record { fits = omega (arith, near-is k, near-high (start k .args .samples .now) o, o .rate-high) }
+    record { fits = omega (arith, near-is k, near-high (start k .args .ties) (start k .args .samples .now) o, o .rate-high) }
 
 fine-search-requires : tie.Need-fine-search-requires
 fine-search-requires c κs =
     let k = c .before .before .before in
     let s = start k in
     let x = s .args .samples .now in
-    (s .pre .0, ((omega (arith, near-is k, near-high x (s .pre .0)), omega (arith, near-is k, near-low x (s .pre .0))), (s .pre .1 .0, search needs)))
+    (s .pre .0, ((omega (arith, near-is k, near-high (s .args .ties) x (s .pre .0)), omega (arith, near-is k, near-low (s .args .ties) x (s .pre .0))), (s .pre .1 .0, search needs)))
 
 same-length-2 : tie.Need-same-length-2
 same-length-2 c = search needs
@@ -61,7 +61,7 @@ returns-2 c =
     let k = f .before .before .before .before in
     let s = start k in
     let n : skip (s .args .rate) ≡ 1 → ⊥ = λ z. f .before .before .before .if1 .left (k .skip .ensures ∙ z) in
-    let e = ap (fine (s .args .samples .now) (s .args .channels) (s .args .rate)) (near-is k) in
+    let e = ap (fine (s .args .ties) (s .args .samples .now) (s .args .channels) (s .args .rate)) (near-is k) in
     (rw (ne-eqb _ 1 n) (f .fine-search .ensures .0 ∙ e), f .fine-search .ensures .1)
 
 pub found-at-spec : {M : Type 1} → statement M

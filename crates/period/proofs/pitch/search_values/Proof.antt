@@ -63,7 +63,7 @@ unfolding valuesOf
 returns-2 c =
     let d = c .before .before .before in
     let a = start d .args in
-    let e = ap (λ (l : List ℤ). findPitchPeriodInRange l (a .low) (a .high)) (front d) in
+    let e = ap (λ (l : List ℤ). findPitchPeriodInRange (a .ties) l (a .low) (a .high)) (front d) in
     (rw (ne-eqb _ 1 (d .before .before .if1 .left)) (c .find-pitch-period-in-range2 .ensures .0 ∙ e), c .find-pitch-period-in-range2 .ensures .1)
 
 pub search-values-spec : {M : Type 1} → statement M

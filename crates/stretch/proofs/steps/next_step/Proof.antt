@@ -10,8 +10,8 @@ use Rattle.floats.specs.Steps.{copyingDue}
 use Rattle.period.specs.declared.Chosen.{Chosen}
 use Rattle.period.specs.Rates.{maxRequired}
 use Rattle.stretch.specs.declared.Step.the-variants.{Copied}
-use Rattle.stretch.specs.Steps.{searchAt, periodStep, nextStep, prevAfter}
-use Rattle.stretch.proofs.DueStep.{nextStep-copied, nextStep-searched, prevAfter-period}
+use Rattle.stretch.specs.Steps.{searchAt, periodStep, nextStep, prevAfter, sumAfter}
+use Rattle.stretch.proofs.DueStep.{nextStep-copied, nextStep-searched, prevAfter-period, sumAfter-period}
 use Rattle.stretch.proofs.steps.next_step.Statement.{statement}
 use Rattle.stretch.proofs.steps.next_step.Tie as tie
 
@@ -60,7 +60,7 @@ answered c = c .before .before .before .before
 -- ---- needs
 
 returns : tie.Need-returns
-unfolding prevAfter
+unfolding prevAfter sumAfter
 returns c =
     let t = copying c in
     let s = start (t .before) in
@@ -69,7 +69,7 @@ returns c =
     let due = sym (t .before .copying-due .ensures) ∙ t .if1 .taken in
     let step : Copied (c .copy-count .result) ≡ nextStep (a .call) x (a .place) =
     (λ i. Copied (record { 0 = c .copy-count .ensures .0 i })) ∙ sym (nextStep-copied (a .call) x (a .place) due) in
-    (step, ap (prevAfter (a .call) x (a .place)) step, s .pre .1 .0)
+    (step, ap (prevAfter (a .call) x (a .place)) step, ap (sumAfter (a .call) x (a .place)) step, s .pre .1 .0)
 
 samples-requires : tie.Need-samples-requires
 samples-requires c κs = omega (arith, inside (start (c .before)))
@@ -88,8 +88,13 @@ returns-2 c =
     let step : c .period-step .result ≡ nextStep (a .call) x (a .place) =
     c .period-step .ensures ∙ ap (λ (z : Chosen). periodStep (a .call .speed) (a .call .«step_over») (z .period)) (searched found) ∙ sym due in
     let period = searchAt (a .call) x (a .place) .period in
-    let same = ap (prevAfter (a .call) x (a .place)) due ∙ prevAfter-period (a .call) x (a .place) (a .call .speed) (a .call .«step_over») period in
-    (step, ap (λ (z : Chosen). z .prev) (searched found) ∙ sym same, found .search-at .ensures .2)
+    let prev = ap (prevAfter (a .call) x (a .place)) due ∙ prevAfter-period (a .call) x (a .place) (a .call .speed) (a .call .«step_over») period in
+    let sum = ap (sumAfter (a .call) x (a .place)) due ∙ sumAfter-period (a .call) x (a .place) (a .call .speed) (a .call .«step_over») period in (
+      step,
+      ap (λ (z : Chosen). z .prev) (searched found) ∙ sym prev,
+      ap (λ (z : Chosen). z .sum) (searched found) ∙ sym sum,
+      found .search-at .ensures .2,
+    )
 
 -- ---- what search closes
 

@@ -23,7 +23,7 @@ unfolding placeAfter
 returns c =
     let a = c .before .before .before .before .args in
     let used = c .before .before .before .frames-used .ensures in
-    λ i. record { position = record { 0 = a .place .position .0 + used i }; «time_error» = c .error-after .ensures i; prev = a .prev }
+    λ i. record { position = record { 0 = a .place .position .0 + used i }; «time_error» = c .error-after .ensures i; prev = a .prev; sum = a .sum }
 
 pub place-after-spec : {M : Type 1} → statement M
 place-after-spec =

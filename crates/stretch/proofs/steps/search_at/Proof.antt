@@ -38,7 +38,7 @@ returns c =
     let found = c .before .find-pitch-period .ensures in
     let rest : take (length x - a .from .0) (drop (a .from .0) x) ≡ drop (a .from .0) x =
     take-all (length x - a .from .0) (drop (a .from .0) x) (omega (arith, length-drop (a .from .0) x)) in
-    (found .0 ∙ ap (λ (l : List ℤ). findPitchPeriod l (a .channels) (a .rate) (a .prev)) rest, found .1, found .2)
+    (found .0 ∙ ap (λ (l : List ℤ). findPitchPeriod (a .ties) l (a .channels) (a .rate) (a .prev)) rest, found .1, found .2)
 
 pub search-at-spec : {M : Type 1} → statement M
 search-at-spec =

@@ -30,12 +30,12 @@ module _ (c : tie.After-next-step) where
       (nextStep-sound (a .input .now) (a .place) (start .pre .0) (start .pre .1 .0 .period-in) (start .pre .1 .1 .0))
 
   in-order : PrevInOrder (start .args .call .rate) (prevAfter (start .args .call) (start .args .input .now) (start .args .place) step)
-  in-order = subst (PrevInOrder (start .args .call .rate)) (c .next-step .ensures .1) (c .next-step .ensures .2)
+  in-order = subst (PrevInOrder (start .args .call .rate)) (c .next-step .ensures .1) (c .next-step .ensures .3)
 
-  next-is : placeAfter (start .args .call) (start .args .place) (c .next-step .result .step) (c .next-step .result .prev)
+  next-is : placeAfter (start .args .call) (start .args .place) (c .next-step .result .step) (c .next-step .result .prev) (c .next-step .result .sum)
       ≡ after (start .args .call) (start .args .input .now) (start .args .place) step
   unfolding after
-  next-is = λ i. placeAfter (start .args .call) (start .args .place) (c .next-step .ensures .0 i) (c .next-step .ensures .1 i)
+  next-is = λ i. placeAfter (start .args .call) (start .args .place) (c .next-step .ensures .0 i) (c .next-step .ensures .1 i) (c .next-step .ensures .2 i)
 
 -- its frames, as counted
 module _ (c : tie.After-frames-out) where

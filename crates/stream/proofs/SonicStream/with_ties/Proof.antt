@@ -1,4 +1,4 @@
--- `stream::SonicStream::new` meets its contract. Assumes nothing.
+-- `stream::SonicStream::with_ties` meets its contract. Assumes nothing.
 use borrow.Author.Needs.{needs}
 use mathlib.Core.Logic.{⊎-elim}
 use borrow.Author.Tests.{lt-ltb, le-ltb}
@@ -6,8 +6,8 @@ use lib.Ieee.{ofBits}
 use Rattle.stream.specs.Stream.{streamOf, zeroStream}
 use Rattle.stream.specs.Refusals.{rateBad, channelsBad}
 use Rattle.stream.specs.Settings.{fresh, openCall}
-use Rattle.stream.proofs.SonicStream.new.Statement.{statement}
-use Rattle.stream.proofs.SonicStream.new.Tie as tie
+use Rattle.stream.proofs.SonicStream.with_ties.Statement.{statement}
+use Rattle.stream.proofs.SonicStream.with_ties.Tie as tie
 
 zero-requires : tie.Need-zero-requires
 zero-requires c κs = search needs
@@ -40,5 +40,5 @@ returns-3 c =
     let z = low .before .zero .ensures in
     simp (z, c .sample-period .ensures, le-ltb _ _ (low .if1 .left), high .if2 .left, le-ltb _ _ (some .if3 .left), few .if4 .left)
 
-pub new-spec : {M : Type 1} → statement M
-new-spec = tie.close (tie.spec zero-requires returns returns-2 sample-period-requires returns-3)
+pub with-ties-spec : {M : Type 1} → statement M
+with-ties-spec = tie.close (tie.spec zero-requires returns returns-2 sample-period-requires returns-3)
