@@ -30,15 +30,18 @@ returns-2 c =
 sample-period-requires : tie.Need-sample-period-requires
 sample-period-requires c κs = search needs
 
+ties-number-requires : tie.Need-ties-number-requires
+ties-number-requires c κs = search needs
+
 returns-3 : tie.Need-returns-3
 unfolding openCall rateBad channelsBad streamOf fresh zeroStream ofBits
 returns-3 c =
-    let few = c .before in
+    let few = c .before .before in
     let some = few .before in
     let high = some .before in
     let low = high .before in
     let z = low .before .zero .ensures in
-    simp (z, c .sample-period .ensures, le-ltb _ _ (low .if1 .left), high .if2 .left, le-ltb _ _ (some .if3 .left), few .if4 .left)
+    simp (z, c .before .sample-period .ensures, c .ties-number .ensures, le-ltb _ _ (low .if1 .left), high .if2 .left, le-ltb _ _ (some .if3 .left), few .if4 .left)
 
 pub with-ties-spec : {M : Type 1} → statement M
-with-ties-spec = tie.close (tie.spec zero-requires returns returns-2 sample-period-requires returns-3)
+with-ties-spec = tie.close (tie.spec zero-requires returns returns-2 sample-period-requires ties-number-requires returns-3)
