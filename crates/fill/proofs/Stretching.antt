@@ -19,6 +19,7 @@ use Rattle.frames.proofs.Framing.{length-framesOf, flat-framesOf}
 use Rattle.frames.proofs.Room.{room-under}
 use Rattle.floats.specs.Settings.{samplePeriod}
 use Rattle.floats.specs.Write.{speedChanges}
+use Rattle.search.specs.declared.Ties.{Ties}
 use Rattle.search.specs.Ties.{tiesOf}
 use Rattle.period.specs.declared.PeriodRecord.{PeriodRecord}
 use Rattle.period.specs.Rates.{maxRequired}
@@ -48,9 +49,9 @@ use Rattle.fill.proofs.Filling.{AreaFits, FillsWith, ready-limits, held
 
 -- ---- the call
 
--- as the code makes it, the samples that it lends, and the place where it begins
-abbrev pub callOf : SonicStream → Float → StretchCall
-callOf s x =
+-- as the code makes it, by its choice of ties, the samples that it lends, and the place where it begins
+abbrev pub callWith : SonicStream → Float → Ties → StretchCall
+callWith s x ties =
     record {
       channels = s .channels;
       rate = s .rate;
@@ -59,8 +60,11 @@ callOf s x =
       «input_play_time» = s .«input_play_time»;
       held = s .held;
       «step_over» = stepsOver (s .«step_over»);
-      ties = tiesOf (s .ties);
+      ties = ties;
     }
+
+abbrev pub callOf : SonicStream → Float → StretchCall
+callOf s x = callWith s x (tiesOf (s .ties))
 
 abbrev pub lentOf : SonicStream → List ℤ → List ℤ
 lentOf s input = take (s .held .0 * s .channels) input
@@ -86,8 +90,8 @@ abbrev pub StretchAnswered : SonicStream → Float → ℕ → ℕ → List ℤ 
 StretchAnswered s x kept most input area exit r = AnsweredTo (callOf s x) (lentOf s input) (placeFor s) s kept most area exit r
 
 module _ {s : SonicStream} {x : Float} {kept : ℕ} {input area : List ℤ} (d : StretchDue s x kept input area) where
-  pub call-ready : StretchReady (callOf s x)
-  call-ready =
+  pub call-ready : (ties : Ties) → StretchReady (callWith s x ties)
+  call-ready ties =
       record {
         opened = ready-limits (d .ready);
         period-is = d .ready .period-is;
@@ -212,7 +216,7 @@ module _ {s : SonicStream} {x : Float} {kept : ℕ} {input area : List ℤ} (d :
   frames-are = length-framesOf (call .channels) made (samplesOf (call .channels) list (place .position .0) (steps call list place))
 
   ready : StretchReady call
-  ready = subst StretchReady (call-is d most stage) (call-ready d)
+  ready = subst StretchReady (call-is d most stage) (call-ready d (tiesOf (s .ties)))
 
   over-by : StretchAnswered s x kept most input area exit S.Stretched.TooMany → FilledBy s kept most (taken (stateOf s input stage)) input area exit Fill.TooMany
   unfolding changeSpeed stretched stateOf

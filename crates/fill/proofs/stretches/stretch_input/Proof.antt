@@ -9,12 +9,14 @@ use lib.IntN.{ℤ}
 use lib.ListN.{length, take, length-take}
 use Rattle.frames.specs.Areas.{Areas, areas}
 use Rattle.frames.proofs.Room.{frames-le}
+use Rattle.search.specs.declared.Ties.{Ties}
+use Rattle.search.specs.Ties.{tiesOf}
 use Rattle.stretch.specs.declared.Stretched as S
 use Rattle.stretch.specs.Speed.{changeSpeed, AreaAfter}
 use Rattle.fill.specs.declared.destination.Destination.{Destination}
 use Rattle.fill.specs.Filling.{destinationIn, filledArea, placeFor}
 use Rattle.fill.proofs.Filling.{ready-limits}
-use Rattle.fill.proofs.Stretching.{StretchDue, StretchAnswered, callOf, roomIn, call-ready, lent-long}
+use Rattle.fill.proofs.Stretching.{StretchDue, StretchAnswered, callWith, roomIn, call-ready, lent-long}
 use Rattle.fill.proofs.Stretching.{stretched-over, stretched-used, stretched-full, stretched-filled}
 use Rattle.fill.proofs.Destinations.{room-is, fits}
 use Rattle.fill.proofs.stretches.stretch_input.Statement.{statement}
@@ -22,8 +24,11 @@ use Rattle.fill.proofs.stretches.stretch_input.Tie as tie
 
 -- ---- places
 
+abbrev chosen : tie.After-samples → tie.After-ties-of
+chosen c = c .before
+
 abbrev start : tie.After-samples → tie.Start
-start c = c .before .before .before .before .before
+start c = chosen c .before .before .before .before .before
 
 -- the samples of the frames held are counted, and the destination; then the stretch is called
 abbrev counted : tie.After-stretch-frames-arg4 → tie.After-destination-of
@@ -70,13 +75,13 @@ left c =
     let last = c .stretch-frames .last .1 .1 .1 in
     areas (lent (start (called c .before)) .input) (last .0) (last .1 .0) (last .1 .1 .1 .0)
 
--- lent the samples l, with so much room
-abbrev Answer : tie.After-stretch-frames → List ℤ → ℕ → S.Stretched → Type 0
-Answer c l room r =
+-- to a call with this choice of ties, lent the samples l, with so much room
+abbrev Answer : tie.After-stretch-frames → Ties → List ℤ → ℕ → S.Stretched → Type 0
+Answer c ties l room r =
     let s = start (called c .before) in
     let x = s .args .stream in
-    (r ≡ changeSpeed (callOf x (s .args .speed)) l (placeFor x) (to s .most .0))
-    × AreaAfter (callOf x (s .args .speed)) l (placeFor x) room (to s .most .0) (filledArea x (lent s)) (filledArea x (left c)) (to s .kept .0 * x .channels)
+    (r ≡ changeSpeed (callWith x (s .args .speed) ties) l (placeFor x) (to s .most .0))
+    × AreaAfter (callWith x (s .args .speed) ties) l (placeFor x) room (to s .most .0) (filledArea x (lent s)) (filledArea x (left c)) (to s .kept .0 * x .channels)
 
 answer-is : (c : tie.After-scratch) (r : S.Stretched) → answered c .stretch-frames .result ≡ r
     → let s = start (called (answered c) .before) in
@@ -89,8 +94,11 @@ answer-is c r e =
     let x = s .args .stream in
     let told = answer .stretch-frames .ensures in
     let l : List ℤ = take (n .samples .result .0 - 0) (lent s .input) in
-    subst (λ (k : ℕ). Answer answer (take k (lent s .input)) (roomIn x (to s .kept .0) (filledArea x (lent s))) r) (held-samples n)
-    (subst (λ (k : ℕ). Answer answer l k r) (room-is x (lent s)) (subst (Answer answer l (to s .room .0)) e (told .0, told .1)))
+    let room = roomIn x (to s .kept .0) (filledArea x (lent s)) in
+    let ties = chosen n .ties-of .result in
+    subst (λ (t : Ties). Answer answer t (take (x .held .0 * x .channels) (lent s .input)) room r) (chosen n .ties-of .ensures)
+    (subst (λ (k : ℕ). Answer answer ties (take k (lent s .input)) room r) (held-samples n)
+    (subst (λ (k : ℕ). Answer answer ties l k r) (room-is x (lent s)) (subst (Answer answer ties l (to s .room .0)) e (told .0, told .1))))
 
 -- that of a stretch that made its frames
 made-is : (c : tie.After-made)
@@ -127,7 +135,7 @@ stretch-frames-requires c κs =
     let x = s .args .stream in
     let fit = s .pre .0 .1 .fit in
     let held = subst (λ (k : ℕ). x .held .0 * x .channels ≤ length (take k (lent s .input))) (sym (held-samples n)) (lent-long (due s)) in (
-      (s .pre .0 .0, call-ready (due s), refl, refl),
+      (s .pre .0 .0, call-ready (due s) (chosen n .ties-of .result), refl, refl),
       (
         held,
         s .pre .0 .1 .scratch-fits,
@@ -159,7 +167,7 @@ stepped-requires c κs =
     let answer = answered (made .before .before) in
     let s = start (called answer .before) in (
       stretched-used (due s) (to s .most .0) (filledArea (s .args .stream) (left answer)) (made .made .given .0 .0) (made-is made),
-      call-ready (due s) .few,
+      call-ready (due s) (tiesOf (s .args .stream .ties)) .few,
       s .pre .0 .0 .period-is,
     )
 
@@ -189,6 +197,9 @@ cast-channels c = search needs
 
 cast-stretch-frames : tie.Need-cast-stretch-frames
 cast-stretch-frames c = search needs
+
+ties-of-requires : tie.Need-ties-of-requires
+ties-of-requires c κs = search needs
 
 samples-requires : tie.Need-samples-requires
 samples-requires c κs = search needs
@@ -238,6 +249,6 @@ same-length-9 c = search needs
 pub stretch-input-spec : {M : Type 1} → statement M
 stretch-input-spec =
     tie.close
-    (tie.spec cast-channels cast-stretch-frames samples-requires destination-of-requires sub-stretch-frames part-stretch-frames-start
+    (tie.spec cast-channels cast-stretch-frames ties-of-requires samples-requires destination-of-requires sub-stretch-frames part-stretch-frames-start
     part-stretch-frames-end stretch-frames-requires enum-told enum-known-made same-length same-length-2 same-length-3 returns stepped-requires
     same-length-4 same-length-5 same-length-6 returns-2 same-length-7 same-length-8 same-length-9 returns-3)
