@@ -1,10 +1,10 @@
 -- docs/RULES.md, "Figures": those with a star, over the definitions of every crate. One table, computed. No proof cites this file.
 -- Assumes nothing.
 use mathlib.Core.Path.{_≡_, refl}
-use mathlib.Core.List.{[], _∷_, map}
+use mathlib.Core.List.{List, [], _∷_, map}
 use Prim.Native.Nat.{ℕ}
 use lib.Ieee.{ofInt, round, div, toUnsigned}
-use lib.IntN.{pos, negsuc}
+use lib.IntN.{ℤ, pos, negsuc}
 use lib.ListN.{length, replicate}
 use Rattle.frames.specs.Clamp.{clampZ}
 use Rattle.floats.specs.Numbers.{half, two}
@@ -16,13 +16,18 @@ use Rattle.rate.specs.Halving.{halved, ratesOf}
 use Rattle.rate.specs.Tail.{start, ceilDiv, due, next, emit, scan}
 use Rattle.rate.specs.Conversion.{convert}
 use Rattle.period.specs.Rates.{minPeriod, maxPeriod, maxRequired, skip}
-use Rattle.search.specs.Search.{diffs, lesser, greater, sweep, findPitchPeriodInRange}
+use Rattle.search.specs.declared.Ties.the-variants.{Smallest, Largest}
+use Rattle.search.specs.Search.{diffs, better, greater, sweep, findPitchPeriodInRange}
 use Rattle.averages.specs.Averages.{sumFrom, meanFrom}
 use Rattle.crossfade.specs.Crossfade.{crossfadeSample}
 
 -- the frames that a tail of k frames makes at 8,000 Hz and pitch 0.5, from positions at 0
 unfoldable madeOf : ℕ → ℕ
 madeOf k = length (convert (ratesOf 8000 half) start (replicate k []) .made)
+
+-- of which every period from 1 to 3 has the mean 1
+abbrev even : List ℤ
+even = pos 0 ∷ pos 1 ∷ pos 1 ∷ pos 2 ∷ pos 1 ∷ pos 2 ∷ []
 
 starred :
     -- R 1,000: periods 2..15, required 30
@@ -37,8 +42,8 @@ starred :
     × (ratesOf 8000 half ≡ record { new = 16000; old = 8000 })
     × (map madeOf (12 ∷ 13 ∷ 112 ∷ []) ≡ 0 ∷ 2 ∷ 200 ∷ [])
     -- search 1..2 on 0,3,0,3: period 2, means 0 and 3; zeros, 2..15: period 2, means 0 and 0
-    × (findPitchPeriodInRange (pos 0 ∷ pos 3 ∷ pos 0 ∷ pos 3 ∷ []) 1 2 ≡ record { period = 2; «min_diff» = 0; «max_diff» = 3 })
-    × (findPitchPeriodInRange (replicate 30 (pos 0)) 2 15 ≡ record { period = 2; «min_diff» = 0; «max_diff» = 0 })
+    × (findPitchPeriodInRange Smallest (pos 0 ∷ pos 3 ∷ pos 0 ∷ pos 3 ∷ []) 1 2 ≡ record { period = 2; «min_diff» = 0; «max_diff» = 3; sum = 0 })
+    × (findPitchPeriodInRange Smallest (replicate 30 (pos 0)) 2 15 ≡ record { period = 2; «min_diff» = 0; «max_diff» = 0; sum = 0 })
     -- mean of −1, −2 is −1; k = 2, down −10, up 5, t = 1: −2
     × (meanFrom (negsuc 0 ∷ negsuc 1 ∷ []) 0 2 ≡ negsuc 0)
     × (crossfadeSample (negsuc 9) (pos 5) 2 1 ≡ negsuc 1)
@@ -46,13 +51,20 @@ starred :
     × (sincCoefficient 6 1 100 ≡ pos 65511)
     -- g 384: −1 gives −2, −30000 gives −32767
     × (map (amplified (pos 384)) (negsuc 0 ∷ negsuc 29999 ∷ []) ≡ negsuc 1 ∷ negsuc 32766 ∷ [])
+    -- C-17: the largest: of the zeros 15; search 1..3 on 0,1,1,2,1,2, each with the mean 1: period 1, sum 1, or 3, sum 3
+    × (findPitchPeriodInRange Largest (replicate 30 (pos 0)) 2 15 ≡ record { period = 15; «min_diff» = 0; «max_diff» = 0; sum = 0 })
+    × (findPitchPeriodInRange Smallest even 1 3 ≡ record { period = 1; «min_diff» = 1; «max_diff» = 1; sum = 1 })
+    × (findPitchPeriodInRange Largest even 1 3 ≡ record { period = 3; «min_diff» = 1; «max_diff» = 1; sum = 3 })
 unfolding skip ratesOf halved newRate ofInt round div toUnsigned madeOf convert scan emit next due ceilDiv
-    diffs lesser greater sweep findPitchPeriodInRange sumFrom meanFrom crossfadeSample
+    diffs better greater sweep findPitchPeriodInRange sumFrom meanFrom crossfadeSample
     sincCoefficient tableValue tablePlace remainder sincTable amplified clampZ
 starred = (
   (refl, refl, refl),
   (refl, refl, refl, refl),
   (refl, refl, refl, refl),
+  refl,
+  refl,
+  refl,
   refl,
   refl,
   refl,

@@ -4,6 +4,7 @@ use frames::Frames;
 use frames::Samples;
 use libc::STDOUT_FILENO;
 use period::PeriodRecord;
+use search::Ties;
 use stretch::Stretch;
 use stretch::StretchCall;
 use stretch::Stretched;
@@ -55,6 +56,7 @@ fn print_step(label: &[u8], speed: f32) {
         input_play_time: 1.0,
         held: Frames(REQUIRED),
         step_over: false,
+        ties: Ties::Smallest,
     };
     let prev = PeriodRecord {
         period: 0,

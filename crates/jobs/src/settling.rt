@@ -14,7 +14,8 @@ ghost use Rattle.jobs.specs.Settings.{withOne, settled};
 pub fn open(job: Job) -> Opened
     ensures { λ r. ⌜ r ≡ openCall (job .rate) (job .channels) (job .ties) ⌝ }
 {
-    SonicStream::with_ties(job.rate, job.channels, job.ties)
+    let ties = job.ties;
+    SonicStream::with_ties(job.rate, job.channels, ties)
 }
 
 // A stream with one setting changed.

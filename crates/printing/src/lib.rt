@@ -96,6 +96,12 @@ fn print_balance(balance: Balance) {
     print_count(balance.inserted);
 }
 
+// Prints whether the stream steps over, and its choice of ties.
+fn print_choices(stream: SonicStream) {
+    print_count(stream.step_over as u64);
+    print_count(stream.ties as u64);
+}
+
 // Prints the rest of an answer's line.
 pub fn print_stream(stream: SonicStream, input: &[i16], stage: &[i16], output: &[i16]) {
     print_settings(stream);
@@ -108,7 +114,6 @@ pub fn print_stream(stream: SonicStream, input: &[i16], stage: &[i16], output: &
     print_part(tail, stream.channels, stage);
     print_part(waiting, stream.channels, output);
     print_balance(stream.balance);
-    print_count(stream.step_over as u64);
-    print_count(stream.ties as u64);
+    print_choices(stream);
     print(b"\n");
 }

@@ -15,6 +15,7 @@ use lib.ListN.{length, replicate, length-append, length-map, length-replicate, l
 use Rattle.frames.specs.Framing.{Frame, flat}
 use Rattle.frames.proofs.Framing.{length-framesOf}
 use Rattle.floats.specs.Write.{sampleIn}
+use Rattle.search.specs.declared.Ties.{Ties}
 use Rattle.period.specs.Rates.{maxRequired}
 use Rattle.stretch.specs.declared.Step.{Step}
 use Rattle.stretch.specs.Tally.{Tally, tally}
@@ -154,9 +155,9 @@ module _ (rate channels : ℕ) where
     pub rate-is : l .state .rate ≡ rate
     pub channels-is : l .state .channels ≡ channels
 
-  pub begun-of : Of (begun rate channels)
+  pub begun-of : (ties : Ties) → Of (begun rate channels ties)
   unfolding begun fresh
-  begun-of = record { rate-is = refl; channels-is = refl }
+  begun-of ties = record { rate-is = refl; channels-is = refl }
 
   entry-of : (l : Ledger) (c : Call) → Of l → Of (entry l c)
   unfolding entry writeWork flushWork joined cleared

@@ -9,6 +9,7 @@ use lib.IntN.{ℤ}
 use lib.ListN.{length, take}
 use Rattle.frames.specs.Areas.{Areas}
 use Rattle.frames.specs.Framing.{Frame, framesOf}
+use Rattle.search.specs.declared.Ties.{Ties}
 use Rattle.period.specs.Rates.{maxRequired}
 use Rattle.stream.specs.declared.SonicStream.{SonicStream}
 use Rattle.stream.specs.declared.Setting.{Setting}
@@ -132,26 +133,26 @@ run-allowed m (e ∷ es) p = (event-allowed m e (p .0), run-allowed (after m (ev
 
 -- ---- from an accepted opening
 
-opened-done : (o : Opened) (rate channels : ℕ) → o ≡ openCall rate channels → openedOf o .refusal ≡ 0 → o ≡ Opened.Done (openedOf o .stream)
+opened-done : (o : Opened) (rate channels : ℕ) (ties : Ties) → o ≡ openCall rate channels ties → openedOf o .refusal ≡ 0 → o ≡ Opened.Done (openedOf o .stream)
 unfolding openCall openedOf
-opened-done (Opened.Done s) rate channels e z = refl
-opened-done (Opened.Refused number given s) rate channels e z = absurd (go (rateBad rate) (channelsBad channels) e)
+opened-done (Opened.Done s) rate channels ties e z = refl
+opened-done (Opened.Refused number given s) rate channels ties e z = absurd (go (rateBad rate) (channelsBad channels) e)
   where
     go : (b c : Bool)
         → Opened.Refused number given s ≡ cond b (Opened.Refused badRate rate zeroStream)
-        (cond c (Opened.Refused badChannels channels zeroStream) (Opened.Done (streamOf (fresh rate channels) 0)))
+        (cond c (Opened.Refused badChannels channels zeroStream) (Opened.Done (streamOf (fresh rate channels ties) 0)))
         → ⊥
     go true c h = let same : number ≡ badRate = cc in omega (arith, z)
     go false true h = let same : number ≡ badChannels = cc in omega (arith, z)
     go false false h = let same : _≡_ {A = ℕ} 0 1 = cc in omega arith
 
 pub c-run : CRunClaim
-c-run rate channels a =
-    let z : openedOf (openCall rate channels) .refusal ≡ 0 = rw (← a .opens) (a .accepts) in
-    (rw (a .opens) (opened-done (openCall rate channels) rate channels refl z), run-allowed _ (a .events) (a .allowed))
+c-run rate channels ties a =
+    let z : openedOf (openCall rate channels ties) .refusal ≡ 0 = rw (← a .opens) (a .accepts) in
+    (rw (a .opens) (opened-done (openCall rate channels ties) rate channels ties refl z), run-allowed _ (a .events) (a .allowed))
 
 -- of which the claims of demand 3 hold
-unfoldable pub in-c : (rate channels : ℕ) → CRunOf rate channels → RunOf rate channels
-in-c rate channels a =
-    let r = c-run rate channels a in
+unfoldable pub in-c : (rate channels : ℕ) (ties : Ties) → CRunOf rate channels ties → RunOf rate channels ties
+in-c rate channels ties a =
+    let r = c-run rate channels ties a in
     record { stream = a .opened .stream; opens = r .0; events = map eventIn (a .events); allowed = r .1 }

@@ -15,6 +15,7 @@ use Rattle.floats.proofs.Facts.{clamped-in}
 use Rattle.rate.specs.declared.Rates.{Rates}
 use Rattle.rate.specs.Halving.{ratesOf}
 use Rattle.rate.proofs.Halving.{rates-within}
+use Rattle.search.specs.declared.Ties.{Ties}
 use Rattle.stream.specs.declared.Setting.the-variants.{Pitch}
 use Rattle.stream.specs.Settings.{fresh}
 use Rattle.stream.specs.Refusals.{rateBad}
@@ -32,57 +33,57 @@ use Rattle.runs.proofs.Counting.{FramesCounted, Untouched, calls-counte
 -- ---- the ledger
 
 pub ledger-claim : LedgerClaim
-ledger-claim rate channels a = run-is-ledger rate channels (a .stream) (a .opens) (a .events) (a .allowed)
+ledger-claim rate channels ties a = run-is-ledger rate channels ties (a .stream) (a .opens) (a .events) (a .allowed)
 
 -- ---- the same accepted calls
 
-module _ {rate channels : ℕ} (a : RunOf rate channels) where
+module _ {rate channels : ℕ} {ties : Ties} (a : RunOf rate channels ties) where
   -- the ledger, by the accepted calls alone
   abbrev book : Ledger
-  book = entries (begun rate channels) (acceptedOf a)
+  book = entries (begun rate channels ties) (acceptedOf a)
 
   pub ledger-is-book : ledgerOf a ≡ book
   unfolding ledger
-  ledger-is-book = ledger-entries (begun rate channels) (map fed (a .events))
+  ledger-is-book = ledger-entries (begun rate channels ties) (map fed (a .events))
 
   total-is-book : total (last a) ≡ values (book .made)
-  total-is-book = ledger-claim rate channels a .0 ∙ ap (λ (l : Ledger). values (l .made)) ledger-is-book
+  total-is-book = ledger-claim rate channels ties a .0 ∙ ap (λ (l : Ledger). values (l .made)) ledger-is-book
 
   pub outcomes-are-book : last a .outcomes ≡ book .outcomes
-  outcomes-are-book = ledger-claim rate channels a .1 ∙ ap (λ (l : Ledger). l .outcomes) ledger-is-book
+  outcomes-are-book = ledger-claim rate channels ties a .1 ∙ ap (λ (l : Ledger). l .outcomes) ledger-is-book
 
 pub same-calls : SameCallsClaim
-same-calls rate channels a b e =
-    let f : book a ≡ book b = ap (entries (begun rate channels)) e in (
+same-calls rate channels ties a b e =
+    let f : book a ≡ book b = ap (entries (begun rate channels ties)) e in (
       total-is-book a ∙ ap (λ (l : Ledger). values (l .made)) f ∙ sym (total-is-book b),
       outcomes-are-book a ∙ ap (λ (l : Ledger). l .outcomes) f ∙ sym (outcomes-are-book b),
     )
 
 -- ---- the same joined frames
 
-module _ (rate channels : ℕ) where
-  begun-calm : NothingHeld rate channels (begun rate channels)
+module _ (rate channels : ℕ) (ties : Ties) where
+  begun-calm : NothingHeld rate channels (begun rate channels ties)
   unfolding begun fresh
   begun-calm = record { rate-is = refl; channels-is = refl; input = refl; short = omega arith }
 
-  begun-untouched : Untouched (begun rate channels)
+  begun-untouched : Untouched (begun rate channels ties)
   unfolding begun fresh
   begun-untouched = record { tail = refl; made = refl }
 
   -- what is made of joined frames alone
   abbrev madeOf : Joined → List Frame
-  madeOf j = passedJoined (passageIn (begun rate channels)) j .made
+  madeOf j = passedJoined (passageIn (begun rate channels ties)) j .made
 
-module _ {rate channels : ℕ} (a : RunOf rate channels) (q : All CopiedOrEmpty (last a .outcomes)) where
-  quiet-calls : QuietCalls (begun rate channels) (acceptedOf a)
-  quiet-calls = entries-tell CopiedOrEmpty (begun rate channels) (acceptedOf a) (subst (All CopiedOrEmpty) (outcomes-are-book a) q) .0
+module _ {rate channels : ℕ} {ties : Ties} (a : RunOf rate channels ties) (q : All CopiedOrEmpty (last a .outcomes)) where
+  quiet-calls : QuietCalls (begun rate channels ties) (acceptedOf a)
+  quiet-calls = entries-tell CopiedOrEmpty (begun rate channels ties) (acceptedOf a) (subst (All CopiedOrEmpty) (outcomes-are-book a) q) .0
 
-  made-joined : book a .made ≡ madeOf rate channels (joinedFrames channels (acceptedOf a))
-  made-joined = ap (λ (x : Passage). x .made) (entries-pass (begun rate channels) (acceptedOf a) (begun-calm rate channels) quiet-calls)
+  made-joined : book a .made ≡ madeOf rate channels ties (joinedFrames channels (acceptedOf a))
+  made-joined = ap (λ (x : Passage). x .made) (entries-pass (begun rate channels ties) (acceptedOf a) (begun-calm rate channels ties) quiet-calls)
 
 pub same-frames : SameFramesClaim
-same-frames rate channels a b qa qb e =
-    total-is-book a ∙ ap (λ (fs : List Frame). values fs) (made-joined a qa ∙ ap (madeOf rate channels) e ∙ sym (made-joined b qb)) ∙ sym (total-is-book b)
+same-frames rate channels ties a b qa qb e =
+    total-is-book a ∙ ap (λ (fs : List Frame). values fs) (made-joined a qa ∙ ap (madeOf rate channels ties) e ∙ sym (made-joined b qb)) ∙ sym (total-is-book b)
 
 -- ---- the count
 
@@ -104,14 +105,14 @@ old-positive rate x e =
     rates-within rate (heldPitch x) (b .0) (b .1) (p .0) (p .1) .old-least
 
 pub count : CountClaim
-count rate channels a q before behind x e w n other k =
-    let start : Ledger = begun rate channels in
+count rate channels ties a q before behind x e w n other k =
+    let start : Ledger = begun rate channels ties in
     let cs : List Call = before ++ setting (Pitch x) ∷ behind in
     let quiet : QuietCalls start cs = subst (QuietCalls start) e (quiet-calls a q) in
     let r : Rates = ratesOf rate (heldPitch x) in
     let counted : FramesCounted r (framesIn channels cs) (entries start cs .made) =
-    calls-counted rate channels x other before behind start (begun-calm rate channels) (begun-untouched rate channels) quiet w n (subst (All NoFlush) e k) in
+    calls-counted rate channels x other before behind start (begun-calm rate channels ties) (begun-untouched rate channels ties) quiet w n (subst (All NoFlush) e k) in
     let in-run : FramesCounted r (framesIn channels (acceptedOf a)) (book a .made) =
     subst (λ (c : List Call). FramesCounted r (framesIn channels c) (entries start c .made)) (sym e) counted in
-    let positive : 0 < r .old = old-positive rate x (opened-as rate channels (a .stream) (a .opens) .rate-good) in
+    let positive : 0 < r .old = old-positive rate x (opened-as rate channels ties (a .stream) (a .opens) .rate-good) in
     ap length (total-is-book a) ∙ length-map (book a .made) (map sampleOut) ∙ counted-is r (framesIn channels (acceptedOf a)) (book a .made) positive in-run

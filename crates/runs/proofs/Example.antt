@@ -20,6 +20,7 @@ use Rattle.rate.specs.Tail.{start, ceilDiv}
 use Rattle.rate.specs.Conversion.{adjustRate}
 use Rattle.stretch.specs.Tally.{tally}
 use Rattle.stretch.specs.Speed.{stalled}
+use Rattle.search.specs.declared.Ties.the-variants.{Smallest}
 use Rattle.stream.specs.declared.SonicStream.{SonicStream}
 use Rattle.stream.specs.declared.Setting.the-variants.{Volume}
 use Rattle.stream.specs.declared.Opened.{Opened}
@@ -48,9 +49,9 @@ use Rattle.runs.proofs.Claims.{ledger-claim}
 
 -- with this volume and so many frames waiting, all else fresh
 abbrev streamFor : Float → ℕ → SonicStream
-streamFor volume waiting = streamOf (withSettings (fresh 8000 1) one one volume 0 start) waiting
+streamFor volume waiting = streamOf (withSettings (fresh 8000 1 Smallest) one one volume 0 start) waiting
 
-opens : openCall 8000 1 ≡ Opened.Done (streamFor one 0)
+opens : openCall 8000 1 Smallest ≡ Opened.Done (streamFor one 0)
 unfolding openCall rateBad channelsBad fresh
 opens = refl
 
@@ -118,7 +119,7 @@ takes-rest =
 
 -- ---- the run
 
-example : RunOf 8000 1
+example : RunOf 8000 1 Smallest
 unfolding no-room small copies fair fair-left softer too-short short takes-one copies-softer large flushes takes-rest samples
     opening after afterSetting afterCall afterRead Agree leave
     setCall withSetting writeCall flushCall refusedCall acceptedCall readCall readCount
@@ -193,6 +194,7 @@ ledger-is :
         «input_play_time» = zero;
         «time_error» = zero;
         balance = none;
+        ties = 0;
       };
       made = (pos 32767 ∷ []) ∷ (pos 0 ∷ []) ∷ (pos 16383 ∷ []) ∷ [];
       outcomes = Copied ∷ Copied ∷ Copied ∷ [];
@@ -208,6 +210,6 @@ read-and-waiting : (total (last example) ≡ (one ∷ []) ∷ (zero ∷ []) ∷ 
     × (last example .outcomes ≡ Copied ∷ Copied ∷ Copied ∷ [])
 unfolding sampleOut div round ofInt
 read-and-waiting = (
-  ledger-claim 8000 1 example .0 ∙ ap (λ (l : Ledger). values (l .made)) ledger-is,
-  ledger-claim 8000 1 example .1 ∙ ap (λ (l : Ledger). l .outcomes) ledger-is,
+  ledger-claim 8000 1 Smallest example .0 ∙ ap (λ (l : Ledger). values (l .made)) ledger-is,
+  ledger-claim 8000 1 Smallest example .1 ∙ ap (λ (l : Ledger). l .outcomes) ledger-is,
 )

@@ -15,7 +15,7 @@ use Rattle.floats.specs.Settings.{clamped, samplePeriod}
 use Rattle.floats.specs.Write.{unitClamped, sampleIn, playTimeGrown, localSpeed, speedChanges, playTimeLeft}
 use Rattle.floats.specs.Steps.{copyingDue, skipCount, insertCount, errorSkipped, errorInserted}
 use Rattle.floats.specs.Flush.{expectedFrames}
-use Rattle.search.specs.Search.{diffs, lesser, greater, sweep, findPitchPeriodInRange}
+use Rattle.search.specs.Search.{diffs, better, greater, sweep, findPitchPeriodInRange}
 use Rattle.period.specs.Rates.{skip}
 use Rattle.period.specs.Pitch.{valuesOf, coarse, found, prevPeriodBetter, chosen, findPitchPeriod}
 use Rattle.crossfade.specs.Crossfade.{crossfadeSample, crossfadeFrame, crossfadeTo, overlapAdd}
@@ -24,9 +24,10 @@ use Rattle.volume.specs.Volume.{scaled}
 use Rattle.rate.specs.Halving.{halved, ratesOf}
 use Rattle.rate.specs.Tail.{start, ceilDiv}
 use Rattle.rate.specs.Conversion.{adjustRate}
-use Rattle.stretch.specs.Steps.{searchAt, nextStep, samplesOut, prevAfter, errorAfter, placeAfter, after}
+use Rattle.stretch.specs.Steps.{searchAt, nextStep, samplesOut, prevAfter, sumAfter, errorAfter, placeAfter, after}
 use Rattle.stretch.specs.Tally.{tally}
 use Rattle.stretch.specs.Speed.{stepsIn, steps, samplesOf, lastPlace, stalled, answerFor}
+use Rattle.search.specs.declared.Ties.the-variants.{Smallest}
 use Rattle.stream.specs.declared.SonicStream.{SonicStream}
 use Rattle.stream.specs.declared.balance.Balance.{Balance}
 use Rattle.stream.specs.declared.Setting.the-variants.{Speed}
@@ -57,10 +58,10 @@ use Rattle.runs.proofs.Balanced.{totals, balance, reconciled}
 -- at this speed, with frames held, a period found, the play time of the frames held, totals and frames waiting, all else fresh
 abbrev streamFor : Float → ℕ → ℕ → Float → Balance → ℕ → SonicStream
 streamFor speed held period play balance waiting =
-    let set : State = withSettings (fresh 1000 1) speed one one 0 start in
+    let set : State = withSettings (fresh 1000 1 Smallest) speed one one 0 start in
     streamOf (withBalance (withInput set (replicate held []) (record { period = period; «min_diff» = 0 }) play zero) balance) waiting
 
-opens : openCall 1000 1 ≡ Opened.Done (streamFor one 0 0 zero none 0)
+opens : openCall 1000 1 Smallest ≡ Opened.Done (streamFor one 0 0 zero none 0)
 unfolding openCall rateBad channelsBad fresh
 opens = refl
 
@@ -80,7 +81,7 @@ abbrev held : List ℤ
 held = pos 32767 ∷ replicate 4 (pos 0)
 
 abbrev stretching : Told
-stretching = record { outcome = Stretched; passed = 0 }
+stretching = record { outcome = Stretched; passed = 0; sum = 0 }
 
 -- ---- speed 2: the write skips one period of 5 frames, the flush two of them and eight of 2 frames in the silence
 
@@ -97,7 +98,7 @@ flushes =
     flush-went (lent (held ++ held ++ held ++ held) held)
     (Wrote.Done stretching (streamFor two 0 2 zero (record { skipped = 31; inserted = 0 }) 15)) (lent [] (held ++ held ++ held))
 
-skipping : RunOf 1000 1
+skipping : RunOf 1000 1 Smallest
 unfolding faster skips flushes lent pulse six
     opening Run.after afterSetting afterCall Agree leave
     setCall withSetting writeCall flushCall refusedCall acceptedCall
@@ -105,8 +106,8 @@ unfolding faster skips flushes lent pulse six
     fresh streamOf stateOf framesOf flat wholeFrames
     writeWork flushWork process counting counted stalled tally booked finished expected expectedFrames cleared
     taken takenAt stretched stepped removed answerFor lastPlace joined
-    steps stepsIn nextStep after placeAfter prevAfter errorAfter copyingDue skipCount errorSkipped
-    searchAt findPitchPeriod chosen prevPeriodBetter found coarse valuesOf skip findPitchPeriodInRange sweep lesser greater diffs
+    steps stepsIn nextStep after placeAfter prevAfter sumAfter errorAfter copyingDue skipCount errorSkipped
+    searchAt findPitchPeriod chosen prevPeriodBetter found coarse valuesOf skip findPitchPeriodInRange sweep better greater diffs
     samplesOf samplesOut skipPitchPeriod overlapAdd crossfadeTo crossfadeFrame crossfadeSample
     sampleIn unitClamped playTimeGrown playTimeLeft localSpeed speedChanges adjustRate scaled clampZ clamped
     ratesOf halved newRate ceilDiv samplePeriod narrow ofBits neg div round ofInt toUnsigned toSigned le lt eq mul add sub
@@ -140,8 +141,8 @@ unfolding skipping faster skips flushes pulse six
     ledger ledgerFrom posted begun entry fed fresh withSetting framesOf flat wholeFrames
     writeWork flushWork process counting counted stalled tally booked finished expected expectedFrames cleared
     taken takenAt stretched stepped removed answerFor lastPlace joined
-    steps stepsIn nextStep after placeAfter prevAfter errorAfter copyingDue skipCount errorSkipped
-    searchAt findPitchPeriod chosen prevPeriodBetter found coarse valuesOf skip findPitchPeriodInRange sweep lesser greater diffs
+    steps stepsIn nextStep after placeAfter prevAfter sumAfter errorAfter copyingDue skipCount errorSkipped
+    searchAt findPitchPeriod chosen prevPeriodBetter found coarse valuesOf skip findPitchPeriodInRange sweep better greater diffs
     samplesOf samplesOut skipPitchPeriod overlapAdd crossfadeTo crossfadeFrame crossfadeSample
     sampleIn unitClamped playTimeGrown playTimeLeft localSpeed speedChanges adjustRate scaled clampZ clamped
     samplePeriod narrow ofBits neg div round ofInt toUnsigned toSigned le lt eq mul add sub
@@ -150,8 +151,8 @@ skipping-ledger = (refl, refl)
 -- what demand 3 says of it
 skipping-total : (total (last skipping) ≡ values (framesOf 1 15 (held ++ held ++ held))) × (last skipping .outcomes ≡ Stretched ∷ Stretched ∷ [])
 skipping-total = (
-  ledger-claim 1000 1 skipping .0 ∙ ap (λ (fs : List Frame). values fs) (skipping-ledger .0),
-  ledger-claim 1000 1 skipping .1 ∙ skipping-ledger .1,
+  ledger-claim 1000 1 Smallest skipping .0 ∙ ap (λ (fs : List Frame). values fs) (skipping-ledger .0),
+  ledger-claim 1000 1 Smallest skipping .1 ∙ skipping-ledger .1,
 )
 
 -- its steps, added up
@@ -160,8 +161,8 @@ unfolding skipping faster skips flushes pulse six
     fed acceptedIn unlessRead stepsFrom stepsOf begun entry withSetting fresh framesOf flat wholeFrames
     writeWork flushWork process counting counted stalled tally booked finished cleared
     taken takenAt stretched stepped removed answerFor lastPlace joined
-    steps stepsIn nextStep after placeAfter prevAfter errorAfter copyingDue skipCount errorSkipped
-    searchAt findPitchPeriod chosen prevPeriodBetter found coarse valuesOf skip findPitchPeriodInRange sweep lesser greater diffs
+    steps stepsIn nextStep after placeAfter prevAfter sumAfter errorAfter copyingDue skipCount errorSkipped
+    searchAt findPitchPeriod chosen prevPeriodBetter found coarse valuesOf skip findPitchPeriodInRange sweep better greater diffs
     sampleIn unitClamped playTimeGrown playTimeLeft localSpeed speedChanges adjustRate clamped
     samplePeriod narrow ofBits neg div round ofInt toUnsigned toSigned le lt eq mul add sub
 skipping-tally = refl
@@ -169,7 +170,7 @@ skipping-tally = refl
 -- the totals of the stream: skipped 31, inserted 0
 skipping-balance : tallyOf skipping .out + 31 ≡ tallyOf skipping .used + 0
 unfolding skipping faster skips flushes end opening Run.after afterSetting afterCall streamOf
-skipping-balance = balance 1000 1 skipping (tt, (tt, tt))
+skipping-balance = balance 1000 1 Smallest skipping (tt, (tt, tt))
 
 -- 30 frames written and 60 silent ones, none held, 28 cleared
 skipping-reconciled : 30 + 60 ≡ tallyOf skipping .used + 0 + 28
@@ -177,16 +178,16 @@ unfolding skipping faster skips flushes pulse six end opening Run.after afterSet
     fed acceptedIn unlessRead stepsFrom stepsOf begun entry withSetting fresh framesOf flat wholeFrames
     writeWork flushWork process counting counted stalled tally booked finished cleared
     taken takenAt stretched stepped removed answerFor lastPlace joined
-    steps stepsIn nextStep after placeAfter prevAfter errorAfter copyingDue skipCount errorSkipped
-    searchAt findPitchPeriod chosen prevPeriodBetter found coarse valuesOf skip findPitchPeriodInRange sweep lesser greater diffs
+    steps stepsIn nextStep after placeAfter prevAfter sumAfter errorAfter copyingDue skipCount errorSkipped
+    searchAt findPitchPeriod chosen prevPeriodBetter found coarse valuesOf skip findPitchPeriodInRange sweep better greater diffs
     sampleIn unitClamped playTimeGrown playTimeLeft localSpeed speedChanges adjustRate clamped
     samplePeriod narrow ofBits neg div round ofInt toUnsigned toSigned le lt eq mul add sub
-skipping-reconciled = reconciled 1000 1 skipping (tt, (tt, tt))
+skipping-reconciled = reconciled 1000 1 Smallest skipping (tt, (tt, tt))
 
 -- the ledger has the same totals
 skipping-totals : ledgerOf skipping .state .balance ≡ record { skipped = 31; inserted = 0 }
 unfolding skipping faster skips flushes end opening Run.after afterSetting afterCall streamOf
-skipping-totals = sym (totals 1000 1 skipping)
+skipping-totals = sym (totals 1000 1 Smallest skipping)
 
 -- ---- speed 0.5: the write inserts one period of 5 frames
 
@@ -198,15 +199,15 @@ inserts =
     write-went six (lent [] []) (Wrote.Done stretching (streamFor half 25 5 (ofBits binary32 0x3d4ccccd) (record { skipped = 0; inserted = 5 }) 10))
     (lent (held ++ held ++ held ++ held ++ held) (held ++ held))
 
-inserting : RunOf 1000 1
+inserting : RunOf 1000 1 Smallest
 unfolding slower inserts lent pulse six
     opening Run.after afterSetting afterCall Agree leave
     setCall withSetting writeCall refusedCall acceptedCall
     stageNeeded refusal past inOrder limitsInOrder periodInOrder settingsInOrder prevInOrder positionsInOrder areasBad sizesBad partsBad rateBad channelsBad
     fresh streamOf stateOf framesOf flat wholeFrames
     writeWork process counting counted stalled tally booked finished taken takenAt stretched stepped removed answerFor lastPlace joined
-    steps stepsIn nextStep after placeAfter prevAfter errorAfter copyingDue insertCount errorInserted
-    searchAt findPitchPeriod chosen prevPeriodBetter found coarse valuesOf skip findPitchPeriodInRange sweep lesser greater diffs
+    steps stepsIn nextStep after placeAfter prevAfter sumAfter errorAfter copyingDue insertCount errorInserted
+    searchAt findPitchPeriod chosen prevPeriodBetter found coarse valuesOf skip findPitchPeriodInRange sweep better greater diffs
     samplesOf samplesOut insertPitchPeriod copyUnmodifiedSamples overlapAdd crossfadeTo crossfadeFrame crossfadeSample
     sampleIn unitClamped playTimeGrown playTimeLeft localSpeed speedChanges adjustRate scaled clampZ clamped
     ratesOf halved newRate ceilDiv samplePeriod narrow ofBits neg div round ofInt toUnsigned toSigned le lt eq mul add sub
@@ -232,7 +233,7 @@ unfolding inserting slower inserts pulse six
     fed acceptedIn unlessRead stepsFrom stepsOf begun entry withSetting fresh framesOf flat wholeFrames
     writeWork process tally finished taken takenAt stretched joined
     steps stepsIn nextStep after placeAfter copyingDue insertCount
-    searchAt findPitchPeriod chosen prevPeriodBetter found coarse valuesOf skip findPitchPeriodInRange sweep lesser greater diffs
+    searchAt findPitchPeriod chosen prevPeriodBetter found coarse valuesOf skip findPitchPeriodInRange sweep better greater diffs
     sampleIn unitClamped playTimeGrown localSpeed speedChanges clamped
     samplePeriod narrow ofBits neg div round ofInt toUnsigned toSigned le lt eq mul add sub
 inserting-tally = refl
@@ -240,14 +241,14 @@ inserting-tally = refl
 -- the totals of the stream: skipped 0, inserted 5
 inserting-balance : tallyOf inserting .out + 0 ≡ tallyOf inserting .used + 5
 unfolding inserting slower inserts end opening Run.after afterSetting afterCall streamOf
-inserting-balance = balance 1000 1 inserting (tt, tt)
+inserting-balance = balance 1000 1 Smallest inserting (tt, tt)
 
 -- 30 frames written, 25 of them held, none cleared
 inserting-reconciled : 30 + 0 ≡ tallyOf inserting .used + 25 + 0
 unfolding inserting slower inserts pulse six end opening Run.after afterSetting afterCall streamOf
     fed acceptedIn unlessRead framesIn silentIn clearedFrom clearedBy wholeFrames framesOf
-inserting-reconciled = reconciled 1000 1 inserting (tt, tt)
+inserting-reconciled = reconciled 1000 1 Smallest inserting (tt, tt)
 
 inserting-totals : ledgerOf inserting .state .balance ≡ record { skipped = 0; inserted = 5 }
 unfolding inserting slower inserts end opening Run.after afterSetting afterCall streamOf
-inserting-totals = sym (totals 1000 1 inserting)
+inserting-totals = sym (totals 1000 1 Smallest inserting)

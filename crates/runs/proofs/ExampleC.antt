@@ -19,6 +19,7 @@ use Rattle.rate.specs.Tail.{start, ceilDiv}
 use Rattle.rate.specs.Conversion.{adjustRate}
 use Rattle.stretch.specs.Tally.{tally}
 use Rattle.stretch.specs.Speed.{stalled}
+use Rattle.search.specs.declared.Ties.the-variants.{Smallest}
 use Rattle.stream.specs.declared.SonicStream.{SonicStream}
 use Rattle.stream.specs.declared.Setting.the-variants.{Volume}
 use Rattle.stream.specs.Balance.{booked, past}
@@ -42,7 +43,7 @@ use Rattle.runs.proofs.CCalls.{in-c}
 
 -- with this volume and so many frames waiting, all else fresh
 abbrev streamFor : Float → ℕ → SonicStream
-streamFor volume waiting = streamOf (withSettings (fresh 8000 1) one one volume 0 start) waiting
+streamFor volume waiting = streamOf (withSettings (fresh 8000 1 Smallest) one one volume 0 start) waiting
 
 -- refusals and outcomes as numbers: 0 accepted, 1 copied
 softer : CEvent
@@ -69,7 +70,7 @@ takes-one =
     (record { refusal = 0; frames = record { 0 = 1 }; stream = streamFor half 1 })
     (record { slice = sampleOut (pos 16383) ∷ half ∷ []; output = pos 0 ∷ pos 3 ∷ [] })
 
-calls : CRunOf 8000 1
+calls : CRunOf 8000 1 Smallest
 unfolding softer no-room small copies lent takes-one openedOf changedOf wroteOf toldOf gaveOf outcomeNumber
     eventIn changedIn wroteIn gaveIn outcomeIn openCall
     opening after afterSetting afterCall afterRead Agree leave
@@ -109,7 +110,7 @@ calls = record {
 
 -- ---- the ledger of their run, and what the claim says of it
 
-ledger-is : (ledgerOf (in-c 8000 1 calls) .made ≡ (pos 16383 ∷ []) ∷ (pos 0 ∷ []) ∷ []) × (ledgerOf (in-c 8000 1 calls) .outcomes ≡ Copied ∷ [])
+ledger-is : (ledgerOf (in-c 8000 1 Smallest calls) .made ≡ (pos 16383 ∷ []) ∷ (pos 0 ∷ []) ∷ []) × (ledgerOf (in-c 8000 1 Smallest calls) .outcomes ≡ Copied ∷ [])
 unfolding in-c calls softer no-room copies takes-one eventIn changedIn wroteIn gaveIn outcomeIn
     ledger ledgerFrom posted begun entry fed fresh withSetting framesOf wholeFrames
     writeWork process counting counted stalled tally booked finished taken takenAt copied nothing joined removed adjustRate
@@ -117,8 +118,8 @@ unfolding in-c calls softer no-room copies takes-one eventIn changedIn wroteIn g
     samplePeriod narrow ofBits neg div round ofInt toUnsigned toSigned le lt eq mul add
 ledger-is = (refl, refl)
 
-read-and-waiting : (total (last (in-c 8000 1 calls)) ≡ (sampleOut (pos 16383) ∷ []) ∷ (zero ∷ []) ∷ []) × (last (in-c 8000 1 calls) .outcomes ≡ Copied ∷ [])
+read-and-waiting : (total (last (in-c 8000 1 Smallest calls)) ≡ (sampleOut (pos 16383) ∷ []) ∷ (zero ∷ []) ∷ []) × (last (in-c 8000 1 Smallest calls) .outcomes ≡ Copied ∷ [])
 unfolding sampleOut div round ofInt
 read-and-waiting =
-    let claim = ledger-claim 8000 1 (in-c 8000 1 calls) in
+    let claim = ledger-claim 8000 1 Smallest (in-c 8000 1 Smallest calls) in
     (claim .0 ∙ ap values (ledger-is .0), claim .1 ∙ ledger-is .1)

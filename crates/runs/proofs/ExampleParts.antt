@@ -23,6 +23,7 @@ use Rattle.rate.specs.Tail.{start, ceilDiv, due, next, steps, interpolateWindow
 use Rattle.rate.specs.Conversion.{convert, joinTail, adjustRate}
 use Rattle.stretch.specs.Tally.{tally}
 use Rattle.stretch.specs.Speed.{stalled}
+use Rattle.search.specs.declared.Ties.the-variants.{Smallest}
 use Rattle.stream.specs.declared.SonicStream.{SonicStream}
 use Rattle.stream.specs.declared.Setting.the-variants.{Speed, Pitch}
 use Rattle.stream.specs.declared.Opened.{Opened}
@@ -46,9 +47,9 @@ use Rattle.runs.proofs.Claims.{ledger-claim, same-frames, count}
 
 -- at this speed and pitch, with tail frames, positions and so many frames waiting, all else fresh
 abbrev streamFor : Float → Float → List Frame → Position → ℕ → SonicStream
-streamFor speed pitch tail at waiting = streamOf (withTail (withSettings (fresh 8000 1) speed pitch one 0 at) tail at) waiting
+streamFor speed pitch tail at waiting = streamOf (withTail (withSettings (fresh 8000 1 Smallest) speed pitch one 0 at) tail at) waiting
 
-opens : openCall 8000 1 ≡ Opened.Done (streamFor one one [] start 0)
+opens : openCall 8000 1 Smallest ≡ Opened.Done (streamFor one one [] start 0)
 unfolding openCall rateBad channelsBad fresh
 opens = refl
 
@@ -107,7 +108,7 @@ flush-behind : Event
 flush-behind =
     flush-went (long click made) (Wrote.Done copying (streamFor half half [] (record { old = 493; new = 986 }) 26)) (long [] (made ++ made-by-flush))
 
-at-once : RunOf 8000 1
+at-once : RunOf 8000 1 Smallest
 unfolding slower deeper lent early late click made made-of-all all-at-once
     opening after afterSetting afterCall Agree leave
     setCall withSetting writeCall refusedCall acceptedCall
@@ -138,7 +139,7 @@ at-once = record {
   );
 }
 
-in-parts : RunOf 8000 1
+in-parts : RunOf 8000 1 Smallest
 unfolding slower deeper lent early late click made made-of-all first-part second-part
     opening after afterSetting afterCall Agree leave
     setCall withSetting writeCall refusedCall acceptedCall
@@ -176,7 +177,7 @@ in-parts = record {
   );
 }
 
-with-flush : RunOf 8000 1
+with-flush : RunOf 8000 1 Smallest
 unfolding slower deeper lent early late click made made-of-all all-at-once made-by-flush long flush-behind
     opening after afterSetting afterCall Agree leave
     setCall withSetting writeCall flushCall refusedCall acceptedCall
@@ -219,13 +220,13 @@ with-flush = record {
 same-total : total (last at-once) ≡ total (last in-parts)
 unfolding at-once in-parts slower deeper all-at-once first-part second-part made-of-all early late end opening after afterSetting afterCall
     fed acceptedIn unlessRead joinedFrames marked wholeFrames framesOf
-same-total = same-frames 8000 1 at-once in-parts (tt, tt) (tt, (tt, tt)) refl
+same-total = same-frames 8000 1 Smallest at-once in-parts (tt, tt) (tt, (tt, tt)) refl
 
 -- 13 frames make 2
 two-made : length (total (last at-once)) ≡ 2
 unfolding at-once slower deeper all-at-once made-of-all early late end opening after afterSetting afterCall
     fed acceptedIn unlessRead framesIn wholeFrames framesOf clamped ratesOf halved newRate ceilDiv ofBits neg div round ofInt toUnsigned le eq
-two-made = count 8000 1 at-once (tt, tt) (setting (Speed half) ∷ []) (write (early ++ late) ∷ []) half refl (tt, tt) (tt, tt) refl (tt, (tt, (tt, tt)))
+two-made = count 8000 1 Smallest at-once (tt, tt) (setting (Speed half) ∷ []) (write (early ++ late) ∷ []) half refl (tt, tt) (tt, tt) refl (tt, (tt, (tt, tt)))
 
 ledger-with-flush : ledgerOf with-flush .made ≡ framesOf 1 26 (made ++ made-by-flush)
 unfolding with-flush slower deeper all-at-once flush-behind made-of-all early late made made-by-flush
@@ -238,4 +239,4 @@ unfolding with-flush slower deeper all-at-once flush-behind made-of-all early la
 ledger-with-flush = refl
 
 total-with-flush : total (last with-flush) ≡ values (framesOf 1 26 (made ++ made-by-flush))
-total-with-flush = ledger-claim 8000 1 with-flush .0 ∙ ap (λ (fs : List Frame). values fs) ledger-with-flush
+total-with-flush = ledger-claim 8000 1 Smallest with-flush .0 ∙ ap (λ (fs : List Frame). values fs) ledger-with-flush

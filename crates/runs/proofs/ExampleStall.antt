@@ -15,7 +15,7 @@ use Rattle.floats.specs.Scales.{newRate}
 use Rattle.floats.specs.Settings.{clamped, samplePeriod}
 use Rattle.floats.specs.Write.{unitClamped, sampleIn, sampleOut, playTimeGrown, localSpeed, speedChanges}
 use Rattle.floats.specs.Steps.{copyingDue, skipCount, errorSkipped}
-use Rattle.search.specs.Search.{diffs, lesser, greater, sweep, findPitchPeriodInRange}
+use Rattle.search.specs.Search.{diffs, better, greater, sweep, findPitchPeriodInRange}
 use Rattle.period.specs.Rates.{skip}
 use Rattle.period.specs.Pitch.{valuesOf, coarse, found, prevPeriodBetter, chosen, findPitchPeriod}
 use Rattle.crossfade.specs.Crossfade.{crossfadeSample, crossfadeFrame, crossfadeTo, overlapAdd, skipPitchPeriod}
@@ -23,9 +23,10 @@ use Rattle.volume.specs.Volume.{scaled}
 use Rattle.rate.specs.Halving.{halved, ratesOf}
 use Rattle.rate.specs.Tail.{start, ceilDiv}
 use Rattle.rate.specs.Conversion.{adjustRate}
-use Rattle.stretch.specs.Steps.{searchAt, nextStep, samplesOut, prevAfter, errorAfter, placeAfter, after}
+use Rattle.stretch.specs.Steps.{searchAt, nextStep, samplesOut, prevAfter, sumAfter, errorAfter, placeAfter, after}
 use Rattle.stretch.specs.Tally.{tally}
 use Rattle.stretch.specs.Speed.{stepsIn, steps, samplesOf, lastPlace, stalled, answerFor}
+use Rattle.search.specs.declared.Ties.the-variants.{Smallest}
 use Rattle.stream.specs.declared.SonicStream.{SonicStream}
 use Rattle.stream.specs.declared.Setting.the-variants.{Speed}
 use Rattle.stream.specs.declared.Opened.{Opened}
@@ -54,10 +55,10 @@ use Rattle.runs.proofs.Claims.{ledger-claim, same-calls}
 -- at this speed, with frames held, a period found, the play time of the frames held, and frames waiting, all else fresh
 abbrev streamFor : Float → ℕ → ℕ → Float → ℕ → SonicStream
 streamFor speed held period play waiting =
-    let set : State = withSettings (fresh 1000 1) speed one one 0 start in
+    let set : State = withSettings (fresh 1000 1 Smallest) speed one one 0 start in
     streamOf (withInput set (replicate held []) (record { period = period; «min_diff» = 0 }) play zero) waiting
 
-opens : openCall 1000 1 ≡ Opened.Done (streamFor one 0 0 zero 0)
+opens : openCall 1000 1 Smallest ≡ Opened.Done (streamFor one 0 0 zero 0)
 unfolding openCall rateBad channelsBad fresh
 opens = refl
 
@@ -87,7 +88,7 @@ abbrev play : Float
 play = ofBits binary32 0x3bebedfb
 
 abbrev stalling : Told
-stalling = record { outcome = Stalled; passed = 0 }
+stalling = record { outcome = Stalled; passed = 0; sum = 0 }
 
 faster : Event
 faster = setting-went (Speed five) (Changed.Done (streamFor five 0 0 zero 0))
@@ -110,7 +111,7 @@ stalls-unread : Event
 stalls-unread =
     write-went [] (lent held (pos 32767 ∷ [])) (Wrote.Done stalling (streamFor five 36 2 play 2)) (lent held (pos 32767 ∷ pos 32767 ∷ []))
 
-stalled-run : RunOf 1000 1
+stalled-run : RunOf 1000 1 Smallest
 unfolding faster stalls takes stalls-again lent pulse samples held
     opening Run.after afterSetting afterCall afterRead Agree leave
     setCall withSetting writeCall refusedCall acceptedCall readCall readCount
@@ -118,8 +119,8 @@ unfolding faster stalls takes stalls-again lent pulse samples held
     areasBad sizesBad partsBad outputBad fresh streamOf stateOf framesOf flat wholeFrames
     writeWork process counting counted stalled tally booked finished
     taken takenAt stretched stepped answerFor lastPlace joined
-    steps stepsIn nextStep after placeAfter prevAfter errorAfter copyingDue skipCount errorSkipped
-    searchAt findPitchPeriod chosen prevPeriodBetter found coarse valuesOf skip findPitchPeriodInRange sweep lesser greater diffs
+    steps stepsIn nextStep after placeAfter prevAfter sumAfter errorAfter copyingDue skipCount errorSkipped
+    searchAt findPitchPeriod chosen prevPeriodBetter found coarse valuesOf skip findPitchPeriodInRange sweep better greater diffs
     samplesOf samplesOut skipPitchPeriod overlapAdd crossfadeTo crossfadeFrame crossfadeSample
     sampleIn sampleOut unitClamped playTimeGrown localSpeed speedChanges adjustRate scaled clamped
     ratesOf halved newRate ceilDiv samplePeriod narrow ofBits neg div round ofInt toUnsigned toSigned le lt eq mul add sub
@@ -150,7 +151,7 @@ stalled-run = record {
   );
 }
 
-unread : RunOf 1000 1
+unread : RunOf 1000 1 Smallest
 unfolding faster stalls no-room stalls-unread lent pulse samples held
     opening Run.after afterSetting afterCall Agree leave
     setCall withSetting writeCall refusedCall acceptedCall
@@ -158,8 +159,8 @@ unfolding faster stalls no-room stalls-unread lent pulse samples held
     areasBad sizesBad partsBad fresh streamOf stateOf framesOf flat wholeFrames
     writeWork process counting counted stalled tally booked finished
     taken takenAt stretched stepped answerFor lastPlace joined
-    steps stepsIn nextStep after placeAfter prevAfter errorAfter copyingDue skipCount errorSkipped
-    searchAt findPitchPeriod chosen prevPeriodBetter found coarse valuesOf skip findPitchPeriodInRange sweep lesser greater diffs
+    steps stepsIn nextStep after placeAfter prevAfter sumAfter errorAfter copyingDue skipCount errorSkipped
+    searchAt findPitchPeriod chosen prevPeriodBetter found coarse valuesOf skip findPitchPeriodInRange sweep better greater diffs
     samplesOf samplesOut skipPitchPeriod overlapAdd crossfadeTo crossfadeFrame crossfadeSample
     sampleIn unitClamped playTimeGrown localSpeed speedChanges adjustRate scaled clamped
     ratesOf halved newRate ceilDiv samplePeriod narrow ofBits neg div round ofInt toUnsigned toSigned le lt eq mul add sub
@@ -202,8 +203,8 @@ unfolding stalled-run faster stalls takes stalls-again pulse samples
     ledger ledgerFrom posted begun entry fed fresh withSetting framesOf flat wholeFrames
     writeWork process counting counted stalled tally booked finished
     taken takenAt stretched stepped answerFor lastPlace joined
-    steps stepsIn nextStep after placeAfter prevAfter errorAfter copyingDue skipCount errorSkipped
-    searchAt findPitchPeriod chosen prevPeriodBetter found coarse valuesOf skip findPitchPeriodInRange sweep lesser greater diffs
+    steps stepsIn nextStep after placeAfter prevAfter sumAfter errorAfter copyingDue skipCount errorSkipped
+    searchAt findPitchPeriod chosen prevPeriodBetter found coarse valuesOf skip findPitchPeriodInRange sweep better greater diffs
     samplesOf samplesOut skipPitchPeriod overlapAdd crossfadeTo crossfadeFrame crossfadeSample
     sampleIn unitClamped playTimeGrown localSpeed speedChanges adjustRate scaled clamped
     samplePeriod narrow ofBits neg div round ofInt toUnsigned toSigned le lt eq mul add sub
@@ -212,11 +213,11 @@ stalled-ledger = (refl, refl)
 stalled-total : (total (last stalled-run) ≡ (one ∷ []) ∷ (one ∷ []) ∷ []) × (last stalled-run .outcomes ≡ Stalled ∷ Stalled ∷ [])
 unfolding sampleOut div round ofInt
 stalled-total = (
-  ledger-claim 1000 1 stalled-run .0 ∙ ap (λ (fs : List Frame). values fs) (stalled-ledger .0),
-  ledger-claim 1000 1 stalled-run .1 ∙ stalled-ledger .1,
+  ledger-claim 1000 1 Smallest stalled-run .0 ∙ ap (λ (fs : List Frame). values fs) (stalled-ledger .0),
+  ledger-claim 1000 1 Smallest stalled-run .1 ∙ stalled-ledger .1,
 )
 
 -- both have the same accepted settings, writes and flushes
 unread-same : (total (last stalled-run) ≡ total (last unread)) × (last stalled-run .outcomes ≡ last unread .outcomes)
 unfolding stalled-run unread faster stalls takes stalls-again no-room stalls-unread fed acceptedIn unlessRead
-unread-same = same-calls 1000 1 stalled-run unread refl
+unread-same = same-calls 1000 1 Smallest stalled-run unread refl

@@ -15,7 +15,7 @@ use Rattle.floats.specs.Scales.{newRate}
 use Rattle.floats.specs.Settings.{clamped, samplePeriod, maxSpeed}
 use Rattle.floats.specs.Write.{unitClamped, sampleIn, playTimeGrown, localSpeed, speedChanges, playTimeLeft}
 use Rattle.floats.specs.Steps.{copyingDue, skipCount, errorSkipped}
-use Rattle.search.specs.Search.{diffs, lesser, greater, sweep, findPitchPeriodInRange}
+use Rattle.search.specs.Search.{diffs, better, greater, sweep, findPitchPeriodInRange}
 use Rattle.period.specs.Rates.{skip}
 use Rattle.period.specs.Pitch.{valuesOf, coarse, found, prevPeriodBetter, chosen, findPitchPeriod}
 use Rattle.crossfade.specs.Crossfade.{crossfadeTo, overlapAdd, skipPitchPeriod}
@@ -23,9 +23,10 @@ use Rattle.volume.specs.Volume.{scaled}
 use Rattle.rate.specs.Halving.{halved, ratesOf}
 use Rattle.rate.specs.Tail.{start, ceilDiv}
 use Rattle.rate.specs.Conversion.{adjustRate}
-use Rattle.stretch.specs.Steps.{searchAt, nextStep, samplesOut, prevAfter, errorAfter, placeAfter, after}
+use Rattle.stretch.specs.Steps.{searchAt, nextStep, samplesOut, prevAfter, sumAfter, errorAfter, placeAfter, after}
 use Rattle.stretch.specs.Tally.{tally}
 use Rattle.stretch.specs.Speed.{stepsIn, steps, samplesOf, lastPlace, stalled, answerFor}
+use Rattle.search.specs.declared.Ties.the-variants.{Smallest}
 use Rattle.stream.specs.declared.SonicStream.{SonicStream}
 use Rattle.stream.specs.declared.balance.Balance.{Balance}
 use Rattle.stream.specs.declared.Setting.the-variants.{Speed, StepOver}
@@ -50,10 +51,10 @@ use Rattle.runs.proofs.Balanced.{totals}
 -- at this speed, stepping over or not, with frames held, a period found, the play time of the frames held, and totals, all else fresh
 abbrev streamFor : Float → ℕ → ℕ → ℕ → Float → Balance → SonicStream
 streamFor speed over held period play totals =
-    let set : State = withSettings (fresh 1000 1) speed one one over start in
+    let set : State = withSettings (fresh 1000 1 Smallest) speed one one over start in
     streamOf (withBalance (withInput set (replicate held []) (record { period = period; «min_diff» = 0 }) play zero) totals) 0
 
-opens : openCall 1000 1 ≡ Opened.Done (streamFor one 0 0 0 zero none)
+opens : openCall 1000 1 Smallest ≡ Opened.Done (streamFor one 0 0 0 zero none)
 unfolding openCall rateBad channelsBad fresh
 opens = refl
 
@@ -83,7 +84,7 @@ faster = setting-went (Speed maxSpeed) (Changed.Done (streamFor maxSpeed 0 0 0 z
 
 stalls : Event
 stalls =
-    write-went six (lent []) (Wrote.Done (record { outcome = Stalled; passed = 0 }) (streamFor maxSpeed 0 30 5 thirty none))
+    write-went six (lent []) (Wrote.Done (record { outcome = Stalled; passed = 0; sum = 0 }) (streamFor maxSpeed 0 30 5 thirty none))
     (lent (held ++ held ++ held ++ held ++ held ++ held))
 
 switched-on : Event
@@ -92,10 +93,10 @@ switched-on = setting-went (StepOver true) (Changed.Done (streamFor maxSpeed 1 3
 passes : Event
 passes =
     write-went [] (lent (held ++ held ++ held ++ held ++ held ++ held))
-    (Wrote.Done (record { outcome = Stretched; passed = 1 }) (streamFor maxSpeed 1 25 5 twenty-five (record { skipped = 5; inserted = 0 })))
+    (Wrote.Done (record { outcome = Stretched; passed = 1; sum = 0 }) (streamFor maxSpeed 1 25 5 twenty-five (record { skipped = 5; inserted = 0 })))
     (lent (held ++ held ++ held ++ held ++ held))
 
-passing : RunOf 1000 1
+passing : RunOf 1000 1 Smallest
 unfolding faster stalls switched-on passes lent pulse six
     opening Run.after afterSetting afterCall Agree leave
     setCall withSetting writeCall refusedCall acceptedCall
@@ -103,8 +104,8 @@ unfolding faster stalls switched-on passes lent pulse six
     fresh streamOf stateOf framesOf flat wholeFrames
     writeWork process counting counted stalled tally booked finished
     taken takenAt stretched stepped removed answerFor lastPlace joined
-    steps stepsIn nextStep after placeAfter prevAfter errorAfter copyingDue skipCount errorSkipped
-    searchAt findPitchPeriod chosen prevPeriodBetter found coarse valuesOf skip findPitchPeriodInRange sweep lesser greater diffs
+    steps stepsIn nextStep after placeAfter prevAfter sumAfter errorAfter copyingDue skipCount errorSkipped
+    searchAt findPitchPeriod chosen prevPeriodBetter found coarse valuesOf skip findPitchPeriodInRange sweep better greater diffs
     samplesOf samplesOut skipPitchPeriod overlapAdd crossfadeTo
     sampleIn unitClamped playTimeGrown playTimeLeft localSpeed speedChanges adjustRate scaled clamped
     ratesOf halved newRate ceilDiv samplePeriod narrow ofBits neg div round ofInt toUnsigned toSigned le lt eq mul add sub
@@ -138,4 +139,4 @@ passing = record {
 -- the ledger has the same totals
 passing-totals : ledgerOf passing .state .balance ≡ record { skipped = 5; inserted = 0 }
 unfolding passing faster stalls switched-on passes end opening Run.after afterSetting afterCall streamOf
-passing-totals = sym (totals 1000 1 passing)
+passing-totals = sym (totals 1000 1 Smallest passing)

@@ -21,6 +21,7 @@ use Rattle.rate.specs.Tail.{start, ceilDiv, steps, scan}
 use Rattle.rate.specs.Conversion.{convert, joinTail, adjustRate}
 use Rattle.stretch.specs.Tally.{tally}
 use Rattle.stretch.specs.Speed.{stalled}
+use Rattle.search.specs.declared.Ties.the-variants.{Smallest}
 use Rattle.stream.specs.declared.SonicStream.{SonicStream}
 use Rattle.stream.specs.declared.Setting.the-variants.{Speed, Pitch}
 use Rattle.stream.specs.declared.Opened.{Opened}
@@ -44,9 +45,9 @@ use Rattle.runs.proofs.Claims.{ledger-claim, same-calls}
 
 -- at this speed and pitch, with so many frames in the tail and waiting, all else fresh
 abbrev streamFor : Float → Float → ℕ → ℕ → SonicStream
-streamFor speed pitch tail waiting = streamOf (withTail (withSettings (fresh 8000 1) speed pitch one 0 start) (replicate tail []) start) waiting
+streamFor speed pitch tail waiting = streamOf (withTail (withSettings (fresh 8000 1 Smallest) speed pitch one 0 start) (replicate tail []) start) waiting
 
-opens : openCall 8000 1 ≡ Opened.Done (streamFor one one 0 0)
+opens : openCall 8000 1 Smallest ≡ Opened.Done (streamFor one one 0 0)
 unfolding openCall rateBad channelsBad fresh
 opens = refl
 
@@ -91,7 +92,7 @@ written staged = write-went samples (lent staged tail 9 []) (Wrote.Done copying 
 turned-down : Event
 turned-down = write-went samples (lent 3 tail 0 []) (Wrote.Refused stageFull (streamFor one one 3 0)) (lent 3 tail 0 [])
 
-editor : RunOf 8000 1
+editor : RunOf 8000 1 Smallest
 unfolding slower deeper faster higher lowered written lent tail samples made
     opening after afterSetting afterCall Agree leave
     setCall withSetting writeCall refusedCall acceptedCall
@@ -134,7 +135,7 @@ editor = record {
   );
 }
 
-roomy : RunOf 8000 1
+roomy : RunOf 8000 1 Smallest
 unfolding slower deeper faster higher lowered written turned-down lent tail samples made
     opening after afterSetting afterCall Agree leave
     setCall withSetting writeCall refusedCall acceptedCall
@@ -196,8 +197,8 @@ unfolding editor slower deeper lowered faster higher written made samples
 editor-ledger = refl
 
 editor-total : total (last editor) ≡ values (framesOf 1 4 made)
-editor-total = ledger-claim 8000 1 editor .0 ∙ ap (λ (fs : List Frame). values fs) editor-ledger
+editor-total = ledger-claim 8000 1 Smallest editor .0 ∙ ap (λ (fs : List Frame). values fs) editor-ledger
 
 roomy-same : (total (last editor) ≡ total (last roomy)) × (last editor .outcomes ≡ last roomy .outcomes)
 unfolding editor roomy slower deeper lowered faster higher written turned-down fed acceptedIn unlessRead
-roomy-same = same-calls 8000 1 editor roomy refl
+roomy-same = same-calls 8000 1 Smallest editor roomy refl

@@ -12,6 +12,7 @@ use lib.ListN.{length, length-append}
 use Rattle.frames.specs.Framing.{Frame, flat}
 use Rattle.floats.specs.Settings.{minPitch, maxPitch, clamped}
 use Rattle.floats.proofs.Facts.{Calm, zero-calm, grown-calm, left-calm, calm-finite, clamped-in}
+use Rattle.search.specs.declared.Ties.{Ties}
 use Rattle.stretch.specs.declared.Stretch.{Stretch}
 use Rattle.stretch.specs.Speed.{answerFor}
 use Rattle.stream.specs.declared.SonicStream.{SonicStream}
@@ -126,19 +127,19 @@ unfolding entries
 entries-timed l [] h t = t
 entries-timed l (c ∷ cs) h t = entries-timed (entry l c) cs (h .1) (entry-timed l c (h .0) t)
 
-begun-timed : (rate channels : ℕ) → Timed (begun rate channels .state)
+begun-timed : (rate channels : ℕ) (ties : Ties) → Timed (begun rate channels ties .state)
 unfolding begun fresh le ofBits neg
-begun-timed rate channels = record { speed = record { low = tt; high = tt }; pitch = record { low = tt; high = tt }; play = zero-calm }
+begun-timed rate channels ties = record { speed = record { low = tt; high = tt }; pitch = record { low = tt; high = tt }; play = zero-calm }
 
 -- the ledger's play time
-ledger-calm : {rate channels : ℕ} (a : RunOf rate channels) → Calm (ledgerOf a .state .«input_play_time»)
-ledger-calm {rate} {channels} a =
-    let held = calls-held rate channels (a .stream) (a .opens) (a .events) (a .allowed) in
-    rw (ledger-is-book a) (entries-timed (begun rate channels) (acceptedOf a) held (begun-timed rate channels) .play)
+ledger-calm : {rate channels : ℕ} {ties : Ties} (a : RunOf rate channels ties) → Calm (ledgerOf a .state .«input_play_time»)
+ledger-calm {rate} {channels} {ties} a =
+    let held = calls-held rate channels ties (a .stream) (a .opens) (a .events) (a .allowed) in
+    rw (ledger-is-book a) (entries-timed (begun rate channels ties) (acceptedOf a) held (begun-timed rate channels ties) .play)
 
 pub play-times : PlayTimeClaim
 unfolding streamOf
-play-times rate channels a =
-    let t = last-tracks rate channels (a .stream) (a .opens) (a .events) (a .allowed) in
+play-times rate channels ties a =
+    let t = last-tracks rate channels ties (a .stream) (a .opens) (a .events) (a .allowed) in
     let same : last a .stream .«input_play_time» ≡ ledgerOf a .state .«input_play_time» = ap (λ (s : SonicStream). s .«input_play_time») (t .stream) in
     subst FiniteNotNegative (sym same) (calm-finite (ledger-calm a))

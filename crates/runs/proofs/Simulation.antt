@@ -13,6 +13,7 @@ use native.Mathlib.Omega.{arith}
 use lib.ListN.{length, take}
 use Rattle.frames.specs.Areas.{Areas}
 use Rattle.frames.specs.Framing.{framesOf}
+use Rattle.search.specs.declared.Ties.{Ties}
 use Rattle.period.specs.Rates.{maxRequired}
 use Rattle.stream.specs.declared.SonicStream.{SonicStream}
 use Rattle.stream.specs.declared.Opened.{Opened}
@@ -103,8 +104,8 @@ total-is {m} {l} h =
 
 -- ---- from an accepted opening
 
-module _ (rate channels : ℕ) where
-  opening-tracks : Tracks (opening (streamOf (fresh rate channels) 0)) (begun rate channels)
+module _ (rate channels : ℕ) (ties : Ties) where
+  opening-tracks : Tracks (opening (streamOf (fresh rate channels ties) 0)) (begun rate channels ties)
   unfolding opening begun fresh framesOf
   opening-tracks = record {
     waiting = 0;
@@ -120,32 +121,32 @@ module _ (rate channels : ℕ) where
 
   pub record OpenedAs (s : SonicStream) : Type 0 where
     pub rate-good : rateBad rate ≡ false
-    pub stream : streamOf (fresh rate channels) 0 ≡ s
+    pub stream : streamOf (fresh rate channels ties) 0 ≡ s
 
-  pub opened-as : (s : SonicStream) → openCall rate channels ≡ Opened.Done s → OpenedAs s
+  pub opened-as : (s : SonicStream) → openCall rate channels ties ≡ Opened.Done s → OpenedAs s
   unfolding openCall
   opened-as s = go (rateBad rate) (channelsBad channels) refl
     where
       go : (b c : Bool) → rateBad rate ≡ b
           → cond b (Opened.Refused badRate rate zeroStream)
-          (cond c (Opened.Refused badChannels channels zeroStream) (Opened.Done (streamOf (fresh rate channels) 0))) ≡ Opened.Done s
+          (cond c (Opened.Refused badChannels channels zeroStream) (Opened.Done (streamOf (fresh rate channels ties) 0))) ≡ Opened.Done s
           → OpenedAs s
       go true c r e = absurd (let z : _≡_ {A = ℕ} 0 1 = cc in omega arith)
       go false true r e = absurd (let z : _≡_ {A = ℕ} 0 1 = cc in omega arith)
       go false false r e = record { rate-good = r; stream = cc }
 
-  module _ (s : SonicStream) (o : openCall rate channels ≡ Opened.Done s) (es : List Event) (p : Run (opening s) es) where
-    first-tracks : Tracks (opening s) (begun rate channels)
-    first-tracks = subst (λ (x : SonicStream). Tracks (opening x) (begun rate channels)) (opened-as s o .stream) opening-tracks
+  module _ (s : SonicStream) (o : openCall rate channels ties ≡ Opened.Done s) (es : List Event) (p : Run (opening s) es) where
+    first-tracks : Tracks (opening s) (begun rate channels ties)
+    first-tracks = subst (λ (x : SonicStream). Tracks (opening x) (begun rate channels ties)) (opened-as s o .stream) opening-tracks
 
-    pub last-tracks : Tracks (end (opening s) es) (ledger rate channels (map fed es))
+    pub last-tracks : Tracks (end (opening s) es) (ledger rate channels ties (map fed es))
     unfolding ledger
     last-tracks = run-tracks first-tracks es p
 
-    pub calls-held : EachCall HeldCall (begun rate channels) (acceptedIn (map fed es))
+    pub calls-held : EachCall HeldCall (begun rate channels ties) (acceptedIn (map fed es))
     calls-held = run-held first-tracks es p
 
     -- frames read followed by frames waiting, and the outcomes, are the ledger's
-    pub run-is-ledger : (total (end (opening s) es) ≡ values (ledger rate channels (map fed es) .made))
-        × (end (opening s) es .outcomes ≡ ledger rate channels (map fed es) .outcomes)
+    pub run-is-ledger : (total (end (opening s) es) ≡ values (ledger rate channels ties (map fed es) .made))
+        × (end (opening s) es .outcomes ≡ ledger rate channels ties (map fed es) .outcomes)
     run-is-ledger = (total-is last-tracks, last-tracks .outcomes)

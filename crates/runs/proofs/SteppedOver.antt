@@ -3,6 +3,7 @@
 use mathlib.Core.Path.{_≡_, refl, sym, ap, _∙_, subst}
 use mathlib.Core.Bool.{true, false, false≢true}
 use mathlib.Core.List.{List, [], _∷_, _++_}
+use Rattle.search.specs.declared.Ties.{Ties}
 use Rattle.stream.specs.declared.Setting.{Setting}
 use Rattle.stream.specs.declared.Setting.the-variants.{Speed, Pitch, Volume, StepOver}
 use Rattle.stream.specs.State.{State, stepsOver}
@@ -76,8 +77,8 @@ all-go l (read most ∷ cs) behind w f k h = (tt, all-go l cs behind (w .1) (f .
 
 pub never-stalls : NeverStallsClaim
 unfolding begun
-never-stalls rate channels a before behind e w f k =
-    let start : Ledger = begun rate channels in
-    let held = subst (EachCall HeldCall start) e (calls-held rate channels (a .stream) (a .opens) (a .events) (a .allowed)) in
+never-stalls rate channels ties a before behind e w f k =
+    let start : Ledger = begun rate channels ties in
+    let held = subst (EachCall HeldCall start) e (calls-held rate channels ties (a .stream) (a .opens) (a .events) (a .allowed)) in
     let goes = subst (EachCall (Tells NotStalled) start) (sym e) (all-go start before behind w f k held) in
     subst (All NotStalled) (sym (outcomes-are-book a)) (entries-told NotStalled start (acceptedOf a) goes tt)

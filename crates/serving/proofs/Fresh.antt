@@ -7,6 +7,7 @@ use Prim.Native.Nat.{ℕ, _*_, _≤_}
 use native.Mathlib.Nat.{le-trans, mul-le-mul-right}
 use native.Mathlib.Omega.{arith}
 use Rattle.floats.proofs.Pace.{paced-fresh}
+use Rattle.search.specs.declared.Ties.{Ties}
 use Rattle.stream.specs.declared.SonicStream.{SonicStream}
 use Rattle.stream.specs.declared.Setting.{Setting}
 use Rattle.stream.specs.declared.Setting.the-variants.{Speed, Pitch, Volume, StepOver}
@@ -23,21 +24,21 @@ use Rattle.serving.proofs.Served.{pace-ready, limit-same}
 
 -- ---- opened and set
 
-pub fresh-opened : (rate channels : ℕ) (s : SonicStream) → openCall rate channels ≡ Opened.Done s → Fresh s
+pub fresh-opened : (rate channels : ℕ) (ties : Ties) (s : SonicStream) → openCall rate channels ties ≡ Opened.Done s → Fresh s
 unfolding openCall fresh streamOf
-fresh-opened rate channels s e = go (rateBad rate) (channelsBad channels) e
+fresh-opened rate channels ties s e = go (rateBad rate) (channelsBad channels) e
   where
     go : (a b : Bool)
         → cond a (Opened.Refused badRate rate zeroStream)
-        (cond b (Opened.Refused badChannels channels zeroStream) (Opened.Done (streamOf (fresh rate channels) 0)))
+        (cond b (Opened.Refused badChannels channels zeroStream) (Opened.Done (streamOf (fresh rate channels ties) 0)))
         ≡ Opened.Done s
         → Fresh s
     go true b h = let z : true ≡ false = cc in absurd (true≢false z)
     go false true h = let z : true ≡ false = cc in absurd (true≢false z)
     go false false h =
-        let same : streamOf (fresh rate channels) 0 ≡ s = cc in
+        let same : streamOf (fresh rate channels ties) 0 ≡ s = cc in
         record {
-          unheld = record { in-order = open-in-order rate channels s e; held = rw (← same) refl; tail = rw (← same) refl; play = rw (← same) refl };
+          unheld = record { in-order = open-in-order rate channels ties s e; held = rw (← same) refl; tail = rw (← same) refl; play = rw (← same) refl };
           waiting = rw (← same) refl;
         }
 

@@ -36,7 +36,7 @@ settle-requires : tie.Need-settle-requires
 settle-requires c κs =
     let k = c .before in
     let n = k .before .before in
-    open-in-order (n .before .args .job .rate) (n .before .args .job .channels) _ (sym (n .new .ensures) ∙ k .fresh .given .1)
+    open-in-order (n .before .args .job .rate) (n .before .args .job .channels) (n .before .args .job .ties) _ (sym (n .open .ensures) ∙ k .fresh .given .1)
 
 skim-requires : tie.Need-skim-requires
 skim-requires c κs =
@@ -46,18 +46,18 @@ skim-requires c κs =
     let g = v .before .before .before in
     let n = g .before .before in
     let job = n .before .args .job in
-    let opened = fresh-opened (job .rate) (job .channels) _ (sym (n .new .ensures) ∙ g .fresh .given .1) in
+    let opened = fresh-opened (job .rate) (job .channels) (job .ties) _ (sym (n .open .ensures) ∙ g .fresh .given .1) in
     let settled = subst Fresh (sym (v .before .settle .ensures .1)) (fresh-settled _ job opened) in
     let fresh = ready-of s (c .before .before .before .open-map .result) (k .plan .given .0 .0) settled (sym (v .serve .ensures) ∙ k .plan .given .1) in
-    (usable k, ready-mapped (subst (Underway (k .plan .given .0 .0)) (sym (c .before .new2 .ensures)) fresh) (c .begin .ensures))
+    (usable k, ready-mapped (subst (Underway (k .plan .given .0 .0)) (sym (c .before .new .ensures)) fresh) (c .begin .ensures))
 
 run-requires : tie.Need-run-requires
 run-requires c κs = usable (c .before .before .before .before .before .before) .limits
 
 -- ---- what search closes
 
-new-requires : tie.Need-new-requires
-new-requires c κs = search needs
+open-requires : tie.Need-open-requires
+open-requires c κs = search needs
 
 enum-known-number : tie.Need-enum-known-number
 enum-known-number c = search needs
@@ -95,8 +95,8 @@ bad-usage-requires-3 c κs = search needs
 returns : tie.Need-returns
 returns c = search needs
 
-new-requires-2 : tie.Need-new-requires-2
-new-requires-2 c κs = search needs
+new-requires : tie.Need-new-requires
+new-requires c κs = search needs
 
 begin-requires : tie.Need-begin-requires
 begin-requires c κs = search needs
@@ -114,7 +114,7 @@ pub run-spec : {M : Type 1} → statement M
 run-spec =
     tie.close
     (tie.spec
-    new-requires
+    open-requires
     enum-known-number
     refused-requires
     bad-usage-requires
@@ -128,7 +128,7 @@ run-spec =
     open-map-requires
     bad-usage-requires-3
     returns
-    new-requires-2
+    new-requires
     begin-requires
     skim-requires
     run-requires

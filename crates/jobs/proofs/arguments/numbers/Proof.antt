@@ -67,6 +67,12 @@ add-value-3 c = search needs
 value-requires-3 : tie.Need-value-requires-3
 value-requires-3 c κs = search needs
 
+cast-ties-of : tie.Need-cast-ties-of
+cast-ties-of c = search needs
+
+ties-of-requires : tie.Need-ties-of-requires
+ties-of-requires c κs = search needs
+
 checked-requires : tie.Need-checked-requires
 checked-requires c κs = search needs
 
@@ -87,5 +93,7 @@ numbers-spec =
     value-requires-2
     add-value-3
     value-requires-3
+    cast-ties-of
+    ties-of-requires
     checked-requires
     returns)
