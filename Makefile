@@ -68,13 +68,14 @@ else
 	echo "differential: no original at $(ORIGINAL), not compared"
 endif
 
-# The skim tool as its users meet it, and beside the original on random jobs.
+# The skim tool as its users meet it, and beside the original and its copies on random jobs.
 JOBS := 200
-tool: program target/tests/skim_in_c $(if $(AT_HAND),target/tests/skim target/tests/skim_step_over)
+SKIM_COPIES := $(addprefix target/tests/skim_,stepping_over largest largest_stepping_over)
+tool: program target/tests/skim_in_c $(if $(AT_HAND),target/tests/skim $(SKIM_COPIES))
 	tools/make_reel.py 62:24000 34:16000 | cmp - crates/skim/stdin
 	tests/skim.py tools/skim.sh target/tests/skim_in_c tools/make_reel.py
 ifdef AT_HAND
-	tests/skim_original.py target/bin/skim target/tests/skim target/tests/skim_step_over $(JOBS)
+	tests/skim_original.py target/bin/skim target/tests/skim $(SKIM_COPIES) $(JOBS)
 else
 	echo "tool: no original at $(ORIGINAL), not compared"
 endif
@@ -147,14 +148,14 @@ target/tests/header target/tests/environment: target/tests/%: tests/%.c include/
 target/tests/skim_in_c: examples/skim.c include/kelpladder.h stream
 	$(CC) -std=c99 -O2 -Wall -Wextra -Wpedantic -Werror -I include $< target/staticlib/libsonic_c.a -o $@
 
-# The judge of a stream that steps over: the original's text without the return that ends a call at a step that gave no frame.
-target/passing.rs: tools/passing.py tests/passing.rs $(AT_HAND)
+# The judges of streams that find the largest of several best periods, or step over: copies of the original's text.
+target/judges.rs: tools/judges.py tests/judges.rs $(AT_HAND)
 	mkdir -p target
-	{ tools/passing.py $(ORIGINAL) && cat tests/passing.rs; } > $@.new
+	{ cat tests/judges.rs && tools/judges.py $(ORIGINAL); } > $@.new
 	mv $@.new $@
 
 # The original's text with the test or the benchmark joined to it, so that its private fields and functions can be used.
-target/tests/differential: tests/differential.rs tests/signals.rs $(wildcard tests/differential/*.rs tests/differential/model/*.rs tests/differential/model/edits/*.rs) target/passing.rs stream
+target/tests/differential: tests/differential.rs tests/signals.rs $(wildcard tests/differential/*.rs tests/differential/model/*.rs tests/differential/model/edits/*.rs) target/judges.rs stream
 	cat $(ORIGINAL) $< > $@.rs
 	$(RUSTC) -C overflow-checks=on -A warnings --cfg library $@.rs -o $@ $(LINK_STREAM)
 
@@ -162,9 +163,9 @@ target/tests/skim: tests/skim.rs
 	cat $(ORIGINAL) $< > $@.rs
 	$(RUSTC) -C overflow-checks=on -A warnings $@.rs -o $@
 
-# The same with the original's text without that return.
-target/tests/skim_step_over: tests/skim.rs tools/passing.py
-	{ tools/passing.py $(ORIGINAL) && cat $<; } > $@.rs
+# The same with the copies.
+$(SKIM_COPIES): target/tests/skim_%: tests/skim.rs tools/judges.py
+	{ tools/judges.py $(ORIGINAL) $* && cat $<; } > $@.rs
 	$(RUSTC) -C overflow-checks=on -A warnings $@.rs -o $@
 
 target/bench/kernels: bench/kernels.rs kernels
@@ -172,13 +173,13 @@ target/bench/kernels: bench/kernels.rs kernels
 	cat $(ORIGINAL) $< > $@.rs
 	$(RUSTC) -A warnings $@.rs -o $@ $(LINK_KERNELS)
 
-target/bench/jobs: bench/jobs.rs $(if $(AT_HAND),target/passing.rs) stream
+target/bench/jobs: bench/jobs.rs $(if $(AT_HAND),target/judges.rs) stream
 	test -f $(ORIGINAL) || { echo "bench: no original at $(ORIGINAL)"; exit 1; }
 	cat $(ORIGINAL) $< > $@.rs
 	$(RUSTC) -A warnings $@.rs -o $@ $(LINK_STREAM)
 
 # The stored answers of crates/vectors, made again from the original's text with tools/vectors joined to it: they must be the stored ones.
-vectors: $(if $(AT_HAND),target/passing.rs)
+vectors: $(if $(AT_HAND),target/judges.rs)
 	test -f $(ORIGINAL) || { echo "vectors: no original at $(ORIGINAL)"; exit 1; }
 	mkdir -p target/vectors
 	cat $(ORIGINAL) tools/vectors/*.rs > target/vectors/make.rs

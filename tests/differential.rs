@@ -1,7 +1,8 @@
 
 // ---- The differential test: the C interface of include/kelpladder.h beside the original, call by call. This text is joined to the
-// original's, which is otherwise unchanged, so that its private fields can be set and compared. A stream that steps over is judged by a
-// copy of the original's text with one return taken out, the module `passing`. Without `--cfg library` the model takes the library's place.
+// original's, which is otherwise unchanged, so that its private fields can be set and compared. A stream that finds the largest of several best
+// periods, or steps over, is judged by a copy of the original's text, in the module `judges`. Without `--cfg library` the model takes the
+// library's place.
 //
 //   differential fixed            the fixed runs
 //   differential long [SEED] [N]  N million calls of random runs, 2 unless told; the seed is that of the day unless told
@@ -25,6 +26,8 @@ mod figures;
 mod fixed;
 #[path = "../../tests/differential/interface.rs"]
 mod interface;
+#[path = "../judges.rs"]
+mod judges;
 #[path = "../../tests/differential/lending.rs"]
 mod lending;
 #[cfg(library)]
@@ -38,8 +41,6 @@ mod model;
 mod original;
 #[path = "../../tests/differential/passes.rs"]
 mod passes;
-#[path = "../passing.rs"]
-mod passing;
 #[path = "../../tests/differential/reels.rs"]
 mod reels;
 #[path = "../../tests/differential/run.rs"]
@@ -58,6 +59,8 @@ mod streams;
 mod tails;
 #[path = "../../tests/differential/tally.rs"]
 mod tally;
+#[path = "../../tests/differential/ties.rs"]
+mod ties;
 
 /// The model without a wrong edit, or with the one of a number.
 fn model_with(number: usize) -> model::Model {

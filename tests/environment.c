@@ -89,12 +89,13 @@ static int same_samples(const int16_t *a, const int16_t *b, size_t frames, uint3
     return memcmp(a, b, frames * channels * sizeof *a) == 0;
 }
 
-/* The answers, the streams and the kept samples, bit for bit; a stream has no padding before its last field. */
+/* The answers, the streams and the kept samples, bit for bit; a stream has no padding. */
 static int same(const side *a, const side *b)
 {
     const kelpladder_stream *s = &a->stream;
-    return a->refusal == b->refusal && a->told.outcome == b->told.outcome && a->told.passed == b->told.passed && a->frames == b->frames
-        && memcmp(s, &b->stream, offsetof(kelpladder_stream, step_over)) == 0 && same_samples(a->input, b->input, s->held, s->channels)
+    return a->refusal == b->refusal && a->told.outcome == b->told.outcome && a->told.passed == b->told.passed
+        && a->told.sum == b->told.sum && a->frames == b->frames
+        && memcmp(s, &b->stream, sizeof *s) == 0 && same_samples(a->input, b->input, s->held, s->channels)
         && same_samples(a->stage, b->stage, s->tail, s->channels) && same_samples(a->output, b->output, s->waiting, s->channels)
         && same_bits(a->slice, b->slice, a->frames * s->channels);
 }
@@ -114,9 +115,10 @@ static unsigned differing(uint32_t environment, unsigned runs, unsigned *calls)
     const uint32_t rates[6] = {1000, 4001, 8000, 22050, 44100, 500000};
     unsigned run, left, found = 0;
     for (run = 0; run < runs; run++) {
-        usual.stream = kelpladder_open(rates[below(6)], 1 + below(2)).stream;
+        uint32_t rate = rates[below(6)], channels = 1 + below(2);
+        usual.stream = kelpladder_open_with_ties(rate, channels, below(2)).stream;
         usual.refusal = usual.told.outcome = 0;
-        usual.frames = usual.told.passed = 0;
+        usual.frames = usual.told.passed = usual.told.sum = 0;
         other = usual;
         for (left = 3 + below(20); left > 0 && same(&usual, &other); left--) {
             draw(&next);

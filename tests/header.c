@@ -47,13 +47,13 @@ static int totals_are(kelpladder_stream stream, uint64_t skipped, uint64_t inser
 static int same(kelpladder_stream a, kelpladder_stream b)
 {
     return same_settings(a, b) && same_work(a, b) && a.held == b.held && a.tail == b.tail && a.waiting == b.waiting
-        && totals_are(a, b.balance.skipped, b.balance.inserted) && a.step_over == b.step_over;
+        && totals_are(a, b.balance.skipped, b.balance.inserted) && a.step_over == b.step_over && a.ties == b.ties;
 }
 
 /* A stream with every field 0. */
 static kelpladder_stream zero(void)
 {
-    kelpladder_stream stream = {0, 0, 0, 0, 0, 0, 0, 0, 0, 0, 0, 0, 0, 0, 0, {0, 0}, 0};
+    kelpladder_stream stream = {0, 0, 0, 0, 0, 0, 0, 0, 0, 0, 0, 0, 0, 0, 0, {0, 0}, 0, 0};
     return stream;
 }
 
@@ -75,6 +75,14 @@ static kelpladder_stream set_both(kelpladder_stream stream, float speed, float p
 static kelpladder_stream with(float speed, float pitch)
 {
     return set_both(fresh(1), speed, pitch);
+}
+
+/* A mono stream opened with this choice of ties, then this speed and pitch. */
+static kelpladder_stream choosing(uint32_t ties, float speed, float pitch)
+{
+    kelpladder_opened opened = kelpladder_open_with_ties(RATE, 1, ties);
+    CHECK(opened.refusal == KELPLADDER_ACCEPTED && opened.given == 0);
+    return set_both(opened.stream, speed, pitch);
 }
 
 /* Writes with areas of these lengths. */
@@ -103,12 +111,36 @@ static void speak(size_t from, size_t to, size_t period)
         voice[i] = (float)(i % period) / (float)period - 0.5f;
 }
 
-static void refuses_opening(uint32_t rate, uint32_t channels, uint32_t refusal, uint32_t given)
+/* A voice of one block of 40 samples that repeats, each repeat with an offset of its own: the block differs from the next by d; two blocks
+   from the next two by d and d; three from the next three by 2d, 0 and d. So the periods 40, 80 and 120 have the same mean of differences,
+   d, which is far below that of any other. */
+static void sing(size_t frames, int d)
 {
-    kelpladder_opened opened = kelpladder_open(rate, channels);
+    static const int offsets[6] = {0, 1, 1, 2, 1, 2};
+    int block[40];
+    uint32_t noise = 40;
+    size_t i;
+    for (i = 0; i < 40; i++) {
+        noise = noise * 1664525u + 1013904223u;
+        block[i] = 1000 + (int)((noise >> 8) % 9000);
+    }
+    for (i = 0; i < frames; i++)
+        voice[i] = ((float)(block[i % 40] + d * offsets[i / 40 % 6]) + 0.5f) / 32767.0f;
+}
+
+static void refused_opening(kelpladder_opened opened, uint32_t refusal, uint32_t given)
+{
     CHECK(opened.refusal == refusal);
     CHECK(opened.given == given);
     CHECK(same(opened.stream, zero()));
+}
+
+static void refuses_opening(uint32_t rate, uint32_t channels, uint32_t refusal, uint32_t given)
+{
+    refused_opening(kelpladder_open(rate, channels), refusal, given);
+    refused_opening(kelpladder_open_with_ties(rate, channels, 0), refusal, given);
+    refused_opening(kelpladder_open_with_ties(rate, channels, KELPLADDER_LARGEST), refusal, given);
+    refused_opening(kelpladder_open_with_ties(rate, channels, 7), refusal, given);
 }
 
 static void opens(void)
@@ -175,7 +207,7 @@ static void refuses_write(kelpladder_stream stream, size_t frames, size_t input_
 {
     kelpladder_wrote wrote = write_in(stream, voice, frames, input_length, stage_length, output_length, scratch_length);
     CHECK(wrote.refusal == refusal);
-    CHECK(wrote.told.outcome == 0 && wrote.told.passed == 0);
+    CHECK(wrote.told.outcome == 0 && wrote.told.passed == 0 && wrote.told.sum == 0);
     CHECK(same(wrote.stream, stream));
 }
 
@@ -209,10 +241,11 @@ static void refuses_long_areas(void)
     free(area);
 }
 
-/* Whether two streams have the same bits, padding apart. */
+/* Whether two streams have the same bits; a stream has no padding. */
 static int same_bits(kelpladder_stream a, kelpladder_stream b)
 {
-    return memcmp(&a, &b, offsetof(kelpladder_stream, step_over) + sizeof a.step_over) == 0;
+    CHECK(offsetof(kelpladder_stream, ties) + sizeof a.ties == sizeof a);
+    return memcmp(&a, &b, sizeof a) == 0;
 }
 
 static void refused_as_it_came(kelpladder_stream stream, kelpladder_wrote wrote, uint32_t refusal)
@@ -601,10 +634,99 @@ static void refuses_stepping_over(void)
     CHECK(write_all(stream, voice, 300).told.outcome == KELPLADDER_STALLED);
 }
 
+/* The choice is made at the opening: 0 or 1 stands in the stream, and every call hands it back, as any other value. */
+static void opens_with_ties(void)
+{
+    kelpladder_stream stream = fresh(1), seven = choosing(7, 2.0f, 1.0f);
+    float slice[1];
+    CHECK(stream.ties == KELPLADDER_SMALLEST && same(kelpladder_open_with_ties(RATE, 1, KELPLADDER_SMALLEST).stream, stream));
+    stream.ties = KELPLADDER_LARGEST;
+    CHECK(same(kelpladder_open_with_ties(RATE, 1, KELPLADDER_LARGEST).stream, stream));
+    CHECK(same(kelpladder_open_with_ties(RATE, 1, 7).stream, stream));
+    CHECK(same(kelpladder_open_with_ties(RATE, 1, UINT32_MAX).stream, stream));
+    CHECK(seven.ties == 1);
+    seven.ties = 7;
+    CHECK(kelpladder_set_speed(seven, 2.0f).stream.ties == 7 && kelpladder_set_pitch(seven, 2.0f).stream.ties == 7);
+    CHECK(kelpladder_set_volume(seven, 2.0f).stream.ties == 7 && kelpladder_set_step_over(seven, 1).stream.ties == 7);
+    CHECK(kelpladder_available_frames(seven).stream.ties == 7);
+    CHECK(kelpladder_read_f32(seven, 1, slice, 1, output, AREA).stream.ties == 7);
+    CHECK(write_all(seven, voice, 9).stream.ties == 7 && flush_in(seven, AREA, AREA, AREA).stream.ties == 7);
+    refuses_write(seven, 101, 100, AREA, AREA, REQUIRED, KELPLADDER_INPUT_FULL);
+}
+
+/* One search in the first frames of the voice, at speed 2, where a skip gives its period. */
+static void finds(kelpladder_stream stream, size_t period, size_t sum)
+{
+    kelpladder_wrote wrote = write_all(stream, voice, REQUIRED);
+    CHECK(wrote.refusal == KELPLADDER_ACCEPTED && wrote.told.outcome == KELPLADDER_STRETCHED);
+    CHECK(wrote.stream.prev_period == period && wrote.stream.waiting == period);
+    CHECK(wrote.told.sum == sum && wrote.stream.ties == stream.ties);
+}
+
+/* A choir's exact repeats, and repeats with a mean of 30. */
+static void breaks_ties(void)
+{
+    kelpladder_stream seven = choosing(1, 2.0f, 1.0f);
+    seven.ties = 7;
+    sing(REQUIRED, 0);
+    finds(with(2.0f, 1.0f), 40, 0);
+    finds(choosing(KELPLADDER_SMALLEST, 2.0f, 1.0f), 40, 0);
+    finds(choosing(KELPLADDER_LARGEST, 2.0f, 1.0f), 120, 0);
+    finds(seven, 120, 0);
+    sing(REQUIRED, 30);
+    finds(with(2.0f, 1.0f), 40, 40 * 30);
+    finds(choosing(KELPLADDER_SMALLEST, 2.0f, 1.0f), 40, 40 * 30);
+    finds(choosing(KELPLADDER_LARGEST, 2.0f, 1.0f), 120, 120 * 30);
+    finds(seven, 120, 120 * 30);
+}
+
+/* Only a call that searches tells a sum: behind one that did, these tell 0. */
+static void tells_no_sum(void)
+{
+    kelpladder_stream stream = choosing(KELPLADDER_LARGEST, 2.0f, 1.0f);
+    kelpladder_wrote wrote;
+    sing(REQUIRED, 30);
+    refuses_write(stream, REQUIRED, REQUIRED - 1, AREA, AREA, REQUIRED, KELPLADDER_INPUT_FULL);
+    refuses_write(stream, REQUIRED, AREA, 119, AREA, REQUIRED, KELPLADDER_STAGE_FULL);
+    refuses_write(stream, REQUIRED, AREA, 120, 119, REQUIRED, KELPLADDER_OUTPUT_FULL);
+    stream.balance.skipped = UINT64_MAX;
+    refuses_write(stream, REQUIRED, AREA, AREA, AREA, REQUIRED, KELPLADDER_TOTAL_FULL);
+    stream.balance.skipped = 0;
+    wrote = write_all(stream, voice, REQUIRED);
+    CHECK(wrote.told.sum == 120 * 30);
+    wrote = write_all(wrote.stream, voice, 9);
+    CHECK(wrote.told.outcome == KELPLADDER_WAITING && wrote.told.sum == 0);
+    wrote = flush_in(wrote.stream, AREA, AREA, AREA);
+    wrote = write_all(wrote.stream, voice, 0);
+    CHECK(wrote.told.outcome == KELPLADDER_EMPTY && wrote.told.sum == 0);
+    wrote = write_all(kelpladder_set_speed(wrote.stream, 1.0f).stream, voice, REQUIRED);
+    CHECK(wrote.told.outcome == KELPLADDER_COPIED && wrote.told.sum == 0);
+}
+
+/* Silence at speed 20 and pitch 0.5: its smallest period, 20, gives no frame, and its largest, 123, gives 3. */
+static void skims_silence(void)
+{
+    kelpladder_wrote wrote;
+    unsigned i;
+    memset(voice, 0, 1000 * sizeof *voice);
+    wrote = write_all(choosing(KELPLADDER_SMALLEST, 20.0f, 0.5f), voice, REQUIRED);
+    CHECK(wrote.told.outcome == KELPLADDER_STALLED && wrote.stream.prev_period == 20 && wrote.stream.held == REQUIRED);
+    wrote = write_all(choosing(KELPLADDER_LARGEST, 20.0f, 0.5f), voice, REQUIRED);
+    CHECK(wrote.told.outcome == KELPLADDER_STRETCHED && wrote.stream.prev_period == 123 && wrote.stream.tail == 3);
+    CHECK(wrote.stream.held == REQUIRED - 126 && totals_are(wrote.stream, 123, 0));
+    for (i = 0; i < 9; i++) {
+        wrote = write_all(wrote.stream, voice, 1000);
+        CHECK(wrote.told.outcome == KELPLADDER_STRETCHED && wrote.stream.held < REQUIRED && wrote.told.sum == 0);
+    }
+    wrote = flush_in(wrote.stream, AREA, AREA, AREA);
+    CHECK(wrote.told.outcome == KELPLADDER_STRETCHED && wrote.stream.prev_period == 123);
+}
+
 int main(void)
 {
     speak(0, AREA, 62);
     opens();
+    opens_with_ties();
     sets();
     refuses_bad_streams();
     refuses_writes();
@@ -628,6 +750,9 @@ int main(void)
     sets_step_over();
     steps_over();
     refuses_stepping_over();
+    breaks_ties();
+    tells_no_sum();
+    skims_silence();
     printf("header: %u checks of the C interface hold\n", checks);
     return 0;
 }

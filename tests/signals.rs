@@ -129,7 +129,7 @@ fn period_of_voice() -> &'static [f32; POINTS] {
     TABLE.get_or_init(|| std::array::from_fn(|at| (harmonics(at as f64 / POINTS as f64, 1.0) / 2.0) as f32))
 }
 
-/// The kinds of sound.
+/// The kinds of sound; the last is noise that repeats exactly, at least twice within the longest period.
 #[derive(Clone, Copy, PartialEq)]
 pub enum Sound {
     Silence,
@@ -141,6 +141,7 @@ pub enum Sound {
     Square,
     Faint,
     Constant,
+    Repeats,
 }
 
 /// A sound that goes on from write to write.
@@ -155,13 +156,15 @@ pub struct Signal {
     noise: f32,
     left: usize,
     pause: bool,
+    frame: u64,
 }
 
 impl Signal {
     /// A random sound for a rate.
     pub fn new(random: &mut Random, rate: u32) -> Signal {
-        use Sound::{Changing, Constant, Faint, Noise, Silence, Special, Speech, Square, Voice};
-        let sounds = [Voice, Voice, Voice, Changing, Changing, Speech, Speech, Noise, Square, Faint, Silence, Special, Constant];
+        use Sound::{Changing, Constant, Faint, Noise, Repeats, Silence, Special, Speech, Square, Voice};
+        let sounds =
+            [Voice, Voice, Voice, Changing, Changing, Speech, Speech, Noise, Square, Faint, Silence, Special, Constant, Repeats, Repeats];
         let sound = random.one_of(&sounds);
         Signal::of(random, rate, sound)
     }
@@ -171,7 +174,7 @@ impl Signal {
         let (shortest, longest) = (f64::from(rate / 400), f64::from(rate / 65));
         let loud = random.one_of(&[1.3, 0.7, 0.3, 0.05]);
         let noise = random.one_of(&[0.0, 0.0, 0.01, 0.1]);
-        let mut signal = Signal { sound, shortest, longest, period: longest, phase: 0.0, loud, noise, left: 0, pause: false };
+        let mut signal = Signal { sound, shortest, longest, period: longest, phase: 0.0, loud, noise, left: 0, pause: false, frame: 0 };
         signal.change(random);
         signal
     }
@@ -179,15 +182,19 @@ impl Signal {
     /// A voice of one period in frames, without noise.
     pub fn voice(period: f64, loud: f32) -> Signal {
         let (shortest, longest) = (period, period);
-        Signal { sound: Sound::Voice, shortest, longest, period, phase: 0.0, loud, noise: 0.0, left: usize::MAX, pause: false }
+        Signal { sound: Sound::Voice, shortest, longest, period, phase: 0.0, loud, noise: 0.0, left: usize::MAX, pause: false, frame: 0 }
     }
 
     /// Takes another period, and begins or ends a pause.
     fn change(&mut self, random: &mut Random) {
         let wide = random.once_in(8);
-        let (low, high) = if wide { (self.shortest * 0.5, self.longest * 2.0) } else { (self.shortest, self.longest) };
+        let (low, high) = match self.sound {
+            Sound::Repeats => (self.shortest, self.longest / 2.0),
+            _ if wide => (self.shortest * 0.5, self.longest * 2.0),
+            _ => (self.shortest, self.longest),
+        };
         let period = f64::from(random.ratio(low, high)).max(1.0);
-        self.period = if random.once_in(3) { period } else { period.round() };
+        self.period = if self.sound != Sound::Repeats && random.once_in(3) { period } else { period.round() };
         self.pause = self.sound == Sound::Speech && random.once_in(4);
         self.left = random.between(1, 8 * self.longest as usize);
     }
@@ -198,6 +205,7 @@ impl Signal {
             self.change(random);
         }
         self.left = self.left.saturating_sub(1);
+        self.frame += 1;
         let bend = if self.sound == Sound::Speech { 1.0 + 0.02 * (self.phase * 0.1).sin() } else { 1.0 };
         self.phase += bend / self.period;
         let voice = period_of_voice()[(self.phase.fract() * POINTS as f64) as usize % POINTS];
@@ -212,6 +220,7 @@ impl Signal {
             Sound::Square => -1.0,
             Sound::Faint => (noise * 6.0 + voice * 3.0) / 32767.0,
             Sound::Constant => self.loud,
+            Sound::Repeats => self.loud * (Random::new(self.frame % self.period as u64).unit() - 0.5) as f32,
         }
     }
 

@@ -32,7 +32,7 @@ fn stream_in_order() -> Stream {
 }
 
 /// Fields at their ends.
-const AT_THE_ENDS: [(&str, Edit); 21] = [
+const AT_THE_ENDS: [(&str, Edit); 24] = [
     ("lowest speed", |s| s.speed = 0.05),
     ("highest speed", |s| s.speed = 20.0),
     ("lowest volume", |s| s.volume = 0.01),
@@ -54,6 +54,9 @@ const AT_THE_ENDS: [(&str, Edit); 21] = [
     ("step over 1", |s| s.step_over = 1),
     ("step over 2", |s| s.step_over = 2),
     ("step over at its end", |s| s.step_over = u32::MAX),
+    ("ties 1", |s| s.ties = 1),
+    ("ties 7", |s| s.ties = 7),
+    ("ties at their end", |s| s.ties = u32::MAX),
 ];
 
 /// Fields just past their ends.
@@ -123,9 +126,14 @@ pub fn orders() -> Vec<Border> {
     all
 }
 
-/// Openings of rates and channel counts at the ends and past them.
+/// Openings of rates and channel counts at the ends and past them, with a choice of ties and without.
 pub fn openings() -> Vec<Border> {
-    let border = |rate, channels, refusal| Border { name: "opening", calls: vec![Call::Open { rate, channels }], refusal };
+    [None, Some(0), Some(1), Some(7), Some(1 << 31), Some(u32::MAX)].into_iter().flat_map(openings_with).collect()
+}
+
+/// Such openings with one choice.
+fn openings_with(ties: Option<u32>) -> Vec<Border> {
+    let border = |rate, channels, refusal| Border { name: "opening", calls: vec![Call::Open { rate, channels, ties }], refusal };
     let low = (0..1_000).step_by(37).chain([999]).map(|rate| border(rate, 1, 1));
     let inside = (1_000..=1_010).chain(499_990..=500_000).map(|rate| border(rate, 32, 0));
     let high = [500_001, 500_002, 1 << 31, u32::MAX].map(|rate| border(rate, 33, 1));

@@ -10,9 +10,12 @@ use crate::passes::passes;
 use crate::run::{Call, Kept, Lengths};
 use crate::signals::pulses;
 use crate::tails::tails;
+use crate::ties::ties;
 
 /// A run with the refusal, the outcome and the frames of its last call, and, where they are known, the samples that it leaves in the output,
-/// the totals that it leaves, the periods passed over in its last call, and the setting to step over that it leaves.
+/// the totals that it leaves, the periods passed over in its last call, the setting to step over that it leaves, and of ties the sum of its
+/// last call, and the period and the choice that it leaves.
+#[derive(Default)]
 pub struct Figure {
     pub name: &'static str,
     pub calls: Vec<Call>,
@@ -21,11 +24,14 @@ pub struct Figure {
     pub balance: Option<Balance>,
     pub passed: Option<usize>,
     pub step_over: Option<u32>,
+    pub sum: Option<usize>,
+    pub period: Option<usize>,
+    pub ties: Option<u32>,
 }
 
 /// A figure.
 pub fn figure(name: &'static str, calls: Vec<Call>, wanted: (u32, u32, usize)) -> Figure {
-    Figure { name, calls, wanted, output: None, balance: None, passed: None, step_over: None }
+    Figure { name, calls, wanted, ..Figure::default() }
 }
 
 /// A figure with known samples, all copied in the last call.
@@ -45,7 +51,7 @@ pub fn ample() -> Lengths {
 
 /// An opening.
 pub fn open(rate: u32, channels: u32) -> Call {
-    Call::Open { rate, channels }
+    Call::Open { rate, channels, ties: None }
 }
 
 /// A write of silent samples.
@@ -66,7 +72,7 @@ pub fn holding(mut stream: Stream, input: Vec<i16>, play: f32) -> Call {
 }
 
 /// A play time with which so many frames have the local speed s exactly.
-fn play_for(rate: u32, held: usize, s: f32) -> Option<f32> {
+pub fn play_for(rate: u32, held: usize, s: f32) -> Option<f32> {
     let seconds = held as f32 * sample_period(rate);
     let near = (seconds / s).to_bits();
     (near - 8..near + 8).map(f32::from_bits).find(|&play| seconds / play == s)
@@ -241,7 +247,7 @@ fn absurd() -> Vec<Figure> {
 
 /// Every figure.
 pub fn figures() -> Vec<Figure> {
-    let known = [samples(), refusals(), local_speeds(), steps(), conversions(), balances(), passes(), tails()];
+    let known = [samples(), refusals(), local_speeds(), steps(), conversions(), balances(), passes(), tails(), ties()];
     let all = known.into_iter().chain([absurd(), tables(), longest()]);
     all.flatten().collect()
 }

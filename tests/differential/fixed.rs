@@ -16,25 +16,26 @@ const BORDER_SEEDS: u64 = 300;
 /// Made-up streams with a tail whose calls are tried in stages around it.
 const TAIL_SEEDS: u64 = 150;
 
-/// Plays a figure; its last answer has to be the one known, and so have the periods passed over, the samples left in the output, the totals
-/// and the setting to step over, where they are known.
+/// Says what differs from what is known, if it is known.
+fn known<T: PartialEq + std::fmt::Debug>(what: &str, wanted: &Option<T>, got: &T) -> Option<String> {
+    let wanted = wanted.as_ref().filter(|wanted| *wanted != got)?;
+    Some(format!("{what} {got:?} in place of {wanted:?}"))
+}
+
+/// Plays a figure; its last answer has to be the one known, and so has whatever else is known of it.
 fn play_figure(bench: &mut Bench<'_>, figure: Figure) -> Result<(), Failure> {
     let answer = bench.play(&figure.calls)?;
     let answered = (answer.refusal, answer.outcome, answer.frames);
-    let what = if answered != figure.wanted {
-        format!("{answer:?} in place of {:?}", figure.wanted)
-    } else if figure.output.as_ref().is_some_and(|output| *output != bench.output) {
-        format!("{:?} in place of {:?}", bench.output, figure.output)
-    } else if figure.balance.is_some_and(|balance| balance != bench.stream.balance) {
-        format!("{:?} in place of {:?}", bench.stream.balance, figure.balance)
-    } else if figure.passed.is_some_and(|passed| passed != answer.passed) {
-        format!("{} passed over in place of {:?}", answer.passed, figure.passed)
-    } else if figure.step_over.is_some_and(|value| value != bench.stream.step_over) {
-        format!("step_over {} in place of {:?}", bench.stream.step_over, figure.step_over)
-    } else {
-        return Ok(());
-    };
-    Err(Failure { what: format!("{}: {what}", figure.name), calls: figure.calls })
+    let stream = bench.stream;
+    let what = known("answer", &Some(figure.wanted), &answered)
+        .or_else(|| known("output", &figure.output, &bench.output))
+        .or_else(|| known("totals", &figure.balance, &stream.balance))
+        .or_else(|| known("periods passed over", &figure.passed, &answer.passed))
+        .or_else(|| known("step_over", &figure.step_over, &stream.step_over))
+        .or_else(|| known("sum", &figure.sum, &answer.sum))
+        .or_else(|| known("period", &figure.period, &stream.prev_period))
+        .or_else(|| known("ties", &figure.ties, &stream.ties));
+    what.map_or(Ok(()), |what| Err(Failure { what: format!("{}: {what}", figure.name), calls: figure.calls }))
 }
 
 /// Plays a run at a border; its last call has to meet the refusal known.
@@ -83,7 +84,7 @@ fn conclude(mode: &str, name: &str, ended: Result<(), Failure>, bench: &Bench<'_
     bench.tally.print(&bench.judge);
     let missing = bench.tally.missing(&bench.judge);
     if !missing.is_empty() {
-        println!("differential {mode}: never met: {}", missing.join(", "));
+        println!("differential {mode}: not met: {}", missing.join(", "));
     }
     missing.is_empty()
 }

@@ -53,10 +53,10 @@ impl Stream {
             }
         }
         let wholes = |stream: &Stream| {
-            let totals = stream.totals().into_iter().chain([u64::from(stream.step_over)]);
+            let totals = stream.totals().into_iter().chain([stream.step_over, stream.ties].map(u64::from));
             stream.wholes().map(|whole| whole as u64).into_iter().chain(totals)
         };
-        let names = WHOLE_NAMES.iter().chain(&TOTAL_NAMES).chain(&["step_over"]);
+        let names = WHOLE_NAMES.iter().chain(&TOTAL_NAMES).chain(&["step_over", "ties"]);
         let fields = names.zip(wholes(self).zip(wholes(other)));
         fields.filter(|(_, (a, b))| a != b).map(|(name, (a, b))| format!("{name} {a} in place of {b}")).next()
     }
@@ -78,8 +78,8 @@ pub enum Setting {
 
 /// What answers the calls.
 pub trait Subject {
-    /// Opens a stream.
-    fn open(&mut self, rate: u32, channels: u32) -> Opened;
+    /// Opens a stream; with a choice of ties, by the opening that takes one.
+    fn open(&mut self, rate: u32, channels: u32, ties: Option<u32>) -> Opened;
     /// Sets the speed, the pitch, the volume or whether it steps over.
     fn set(&mut self, stream: Stream, setting: Setting) -> Changed;
     /// Counts the frames waiting.

@@ -6,8 +6,8 @@ use crate::interface::{calls, Areas, Available, Changed, Gave, Opened, Setting, 
 pub struct Library;
 
 impl Subject for Library {
-    fn open(&mut self, rate: u32, channels: u32) -> Opened {
-        calls::open(rate, channels)
+    fn open(&mut self, rate: u32, channels: u32, ties: Option<u32>) -> Opened {
+        ties.map_or_else(|| calls::open(rate, channels), |ties| calls::open_with_ties(rate, channels, ties))
     }
 
     fn set(&mut self, stream: Stream, setting: Setting) -> Changed {

@@ -73,8 +73,8 @@ fn total(random: &mut Random, rate: u32) -> u64 {
     }
 }
 
-/// A value of the setting to step over; any but 0 is on.
-pub fn step_over(random: &mut Random) -> u32 {
+/// A value of the setting to step over, or of the choice of ties; any but 0 is on, or asks for the largest.
+pub fn choice(random: &mut Random) -> u32 {
     if random.once_in(2) { 0 } else { random.one_of(&[1, 1, 2, 7, 1 << 31, u32::MAX]) }
 }
 
@@ -95,6 +95,17 @@ fn repeating(random: &mut Random, signal: &mut Signal, frames: usize, channels: 
     once.iter().copied().cycle().take(frames * channels).collect()
 }
 
+/// Samples that repeat after a short period, each repeat with an offset: at the first frame the period, twice and three times it have the
+/// same mean of differences, the step of the offsets.
+fn repeating_beside(random: &mut Random, signal: &mut Signal, frames: usize, channels: usize, rate: u32) -> Vec<i16> {
+    let (shortest, longest) = (min_period(rate), max_period(rate));
+    let period = random.between(shortest, longest / 3);
+    let step = random.one_of(&[0, 1, 2, 50]);
+    let once: Vec<i16> = signal.samples(random, period, channels).iter().map(|sample| sample / 3 + 11_000).collect();
+    let offset = |place: usize| step * [0, 1, 1, 2, 1, 2][place / once.len() % 6];
+    (0..frames * channels).map(|place| once[place % once.len()] + offset(place)).collect()
+}
+
 /// A stream in order with its kept samples; often they repeat after the period that the local speed is aimed with.
 pub fn in_order(random: &mut Random, judge: &Model, rate: u32, channels: u32, signal: &mut Signal) -> (Stream, Kept) {
     let (speed, pitch, volume) = (ratio(random), ratio(random), volume(random));
@@ -108,16 +119,16 @@ pub fn in_order(random: &mut Random, judge: &Model, rate: u32, channels: u32, si
     stream.tail = random.one_of(&[0, 0, 1, 11, 12, 13, 40]);
     stream.waiting = random.one_of(&[0, 0, 1, 7, 100]);
     stream.balance = Balance { skipped: total(random, rate), inserted: total(random, rate) };
-    stream.step_over = step_over(random);
+    (stream.step_over, stream.ties) = (choice(random), choice(random));
     let period = random.between(min_period(rate), max_period(rate));
     let s = aimed_speed(random, period);
     stream.input_play_time = play_time(random, &stream, s);
     stream.time_error = time_error(random, &stream, s);
     let width = channels as usize;
-    let input = if random.once_in(2) {
-        repeating(random, signal, stream.held, width, period)
-    } else {
-        signal.samples(random, stream.held, width)
+    let input = match random.below(6) {
+        0 => repeating_beside(random, signal, stream.held, width, rate),
+        1 | 2 => repeating(random, signal, stream.held, width, period),
+        _ => signal.samples(random, stream.held, width),
     };
     let tail = signal.samples(random, stream.tail, width);
     let output = signal.samples(random, stream.waiting, width);

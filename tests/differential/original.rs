@@ -1,22 +1,31 @@
-//! The original beside the subject. It is joined to this test as text, so its private fields can be set and compared. While a stream steps
-//! over, the calls are those of a copy of the text where a step that gives no frame does not end its call: tools/passing.py makes it.
+//! The original beside the subject. It is joined to this test as text, so its private fields can be set and compared. The calls of a stream
+//! that finds the largest of several best periods, or steps over, are those of a copy of the text: tools/judges.py makes it.
 
-use crate::interface::{Balance, Setting, Stream, Told, COPIED, EMPTY, STALLED, STRETCHED, WAITING};
+use crate::interface::{same_float, Balance, Setting, Stream, Told, COPIED, EMPTY, STALLED, STRETCHED, WAITING};
+use crate::judges::Text;
 use crate::run::Kept;
 use crate::{SonicError, SonicStream};
 
-/// The original's stream, and what it does not have: the totals, and whether it steps over.
+/// The original's stream, and what it does not have: the totals, whether it steps over, and which of several best periods it finds.
 pub struct Original {
     stream: SonicStream,
     balance: Balance,
     step_over: u32,
+    ties: u32,
+}
+
+/// What becomes of a call: what is told of it, the totals after it, and the stream after its stretch or copy.
+struct Expected {
+    told: Told,
+    balance: Balance,
+    after: SonicStream,
 }
 
 impl Original {
     /// Opens it; an error gives the number of the refusal and the number that was given.
-    pub fn open(rate: u32, channels: u32) -> Result<Original, (u32, u32)> {
+    pub fn open(rate: u32, channels: u32, ties: u32) -> Result<Original, (u32, u32)> {
         match SonicStream::new(rate, channels) {
-            Ok(stream) => Ok(Original { stream, balance: Balance::default(), step_over: 0 }),
+            Ok(stream) => Ok(Original { stream, balance: Balance::default(), step_over: 0, ties: u32::from(ties != 0) }),
             Err(SonicError::SampleRateOutOfRange(given)) => Err((1, given)),
             Err(SonicError::ChannelsOutOfRange(given)) => Err((2, given)),
         }
@@ -24,7 +33,7 @@ impl Original {
 
     /// Puts it into the state of a stream in order with its kept samples.
     pub fn made(stream: &Stream, kept: &Kept) -> Original {
-        let mut made = Original::open(stream.rate, stream.channels).ok().expect("a rate and channels in range");
+        let mut made = Original::open(stream.rate, stream.channels, 0).ok().expect("a rate and channels in range");
         let inside = &mut made.stream;
         inside.speed = stream.speed;
         inside.pitch = stream.pitch;
@@ -38,7 +47,7 @@ impl Original {
         inside.input.clone_from(&kept.input);
         inside.pitch_buffer.clone_from(&kept.tail);
         inside.output.clone_from(&kept.output);
-        Original { balance: stream.balance, step_over: stream.step_over, ..made }
+        Original { balance: stream.balance, step_over: stream.step_over, ties: stream.ties, ..made }
     }
 
     /// Its state as a stream's value.
@@ -62,6 +71,7 @@ impl Original {
             waiting: inside.output_frames(),
             balance: self.balance,
             step_over: self.step_over,
+            ties: self.ties,
         }
     }
 
@@ -90,9 +100,9 @@ impl Original {
         self.stream.read_f32(most)
     }
 
-    /// Whether it steps over.
-    fn over(&self) -> bool {
-        self.step_over != 0
+    /// The text that judges it.
+    fn text(&self) -> Text {
+        Text { largest: self.ties != 0, over: self.step_over != 0 }
     }
 
     /// A second one with these samples added, which stretches at pitch 1; and whether it copies. At first it always has too few frames for
@@ -114,54 +124,61 @@ impl Original {
         Ok(Balance { skipped, inserted: more(self.balance.inserted, given.saturating_sub(used))? })
     }
 
-    /// How a call goes that adds these samples, told from what becomes of the input, and the totals after it; or refusal 12.
-    fn told(&self, samples: &[f32]) -> Result<(Told, Balance), u32> {
+    /// What becomes of a call that adds these samples, or refusal 12.
+    fn expected(&self, samples: &[f32]) -> Result<Expected, u32> {
         let held = self.stream.input_frames() + samples.len() / self.stream.channels;
-        let (copies, mut other) = self.added(samples);
-        let passed = if self.over() && !copies { passed_over(&mut other) } else { 0 };
-        other.process_as(self.over());
-        let left = other.input_frames();
+        let (copies, after) = self.added(samples);
         let outcome = match held {
             0 => EMPTY,
             _ if copies => COPIED,
             _ if held < self.stream.max_required => WAITING,
-            _ if left == held => STALLED,
-            _ => STRETCHED,
+            _ => return self.stretched(after),
         };
-        let balance = if outcome == STRETCHED { self.counted(held - left, other.output_frames())? } else { self.balance };
-        Ok((Told { outcome, passed }, balance))
+        Ok(Expected { told: Told { outcome, ..Told::default() }, balance: self.balance, after })
+    }
+
+    /// What becomes of a call that stretches, step by step, or refusal 12.
+    fn stretched(&self, mut after: SonicStream) -> Result<Expected, u32> {
+        let (held, text) = (after.input_frames(), self.text());
+        let speed = held as f32 * after.sample_period / after.input_play_time;
+        let (mut told, mut used) = (Told { outcome: STRETCHED, ..Told::default() }, 0);
+        while used + after.max_required <= held {
+            let step = after.step_as(text, speed, used);
+            used += step.used;
+            let Some(searched) = step.searched else { continue };
+            told.sum = searched.sum;
+            if searched.k == 0 && !text.over {
+                return Ok(Expected { told: Told { outcome: STALLED, ..told }, balance: self.balance, after });
+            }
+            told.passed += usize::from(searched.k == 0);
+        }
+        let balance = self.counted(used, after.output_frames())?;
+        after.remove_input_samples(used);
+        Ok(Expected { told, balance, after })
+    }
+
+    /// Makes a call of the text that judges, which has to leave the record and, until a flush clears them, the time error and the frames
+    /// held of the stream expected.
+    fn work(&mut self, expected: Expected, flushes: bool, call: impl FnOnce(&mut SonicStream, Text)) -> Told {
+        let text = self.text();
+        call(&mut self.stream, text);
+        let (done, after) = (&self.stream, &expected.after);
+        let record = (done.prev_period, done.prev_min_diff) == (after.prev_period, after.prev_min_diff);
+        let held = same_float(done.time_error, after.time_error) && done.input == after.input;
+        assert!(record && (flushes || held), "the original's own steps are others");
+        self.balance = expected.balance;
+        expected.told
     }
 
     /// Writes samples: what is told of it, or refusal 12.
     pub fn write(&mut self, samples: &[f32]) -> Result<Told, u32> {
-        let (told, balance) = self.told(samples)?;
-        self.stream.write_as(self.over(), samples);
-        self.balance = balance;
-        Ok(told)
+        let expected = self.expected(samples)?;
+        Ok(self.work(expected, false, |stream, text| stream.write_as(text, samples)))
     }
 
     /// Flushes: what is told of it with the silence that it adds, or refusal 12.
     pub fn flush(&mut self) -> Result<Told, u32> {
-        let (told, balance) = self.told(&vec![0.0; 2 * self.stream.max_required * self.stream.channels])?;
-        self.stream.flush_as(self.over());
-        self.balance = balance;
-        Ok(told)
+        let expected = self.expected(&vec![0.0; 2 * self.stream.max_required * self.stream.channels])?;
+        Ok(self.work(expected, true, SonicStream::flush_as))
     }
-}
-
-/// The periods that a stream passes over, by the original's search and its skip step; it is left as it came. From s = 2 on every step is a
-/// skip, and below none gives no frame.
-fn passed_over(stream: &mut SonicStream) -> usize {
-    let (held, record, outputs) = (stream.input_frames(), (stream.prev_period, stream.prev_min_diff), stream.output.len());
-    let speed = held as f32 * stream.sample_period / stream.input_play_time;
-    let (mut passed, mut position) = (0, 0);
-    while speed >= 2.0 && position + stream.max_required <= held {
-        let period = stream.find_pitch_period(position, true) as usize;
-        let k = stream.skip_pitch_period(speed, position, period);
-        passed += usize::from(k == 0);
-        position += period + k;
-    }
-    (stream.prev_period, stream.prev_min_diff) = record;
-    stream.output.truncate(outputs);
-    passed
 }

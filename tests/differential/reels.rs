@@ -34,7 +34,7 @@ fn play(blocks: Vec<Vec<f32>>, step_over: u32) -> Result<Played, String> {
     let (_, mut subject) = subject();
     let mut bench = Bench::new(&mut *subject);
     let mut session = bench.session();
-    session.step(&Call::Open { rate: 8_000, channels: 1 })?;
+    session.step(&Call::Open { rate: 8_000, channels: 1, ties: None })?;
     session.step(&Call::Set(Setting::Speed(20.0)))?;
     session.step(&Call::Set(Setting::Pitch(0.5)))?;
     session.step(&Call::Set(Setting::StepOver(step_over)))?;

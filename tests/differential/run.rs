@@ -23,7 +23,7 @@ pub struct Lengths {
 /// A call, or a made-up stream that takes the place of the last one.
 #[derive(Clone, Debug)]
 pub enum Call {
-    Open { rate: u32, channels: u32 },
+    Open { rate: u32, channels: u32, ties: Option<u32> },
     Made { stream: Stream, kept: Kept },
     Set(Setting),
     Available,
@@ -60,7 +60,7 @@ fn made_text(s: &Stream, kept: &Kept) -> String {
     let floats = [s.speed, s.pitch, s.volume, s.sample_period, s.input_play_time, s.time_error];
     let wholes = [s.old_rate_position, s.new_rate_position, s.prev_period, s.prev_min_diff, s.held, s.tail, s.waiting];
     let totals = [s.balance.skipped, s.balance.inserted];
-    let wholes = wholes.iter().map(usize::to_string).chain(totals.iter().map(u64::to_string)).chain([s.step_over.to_string()]);
+    let wholes = wholes.iter().map(usize::to_string).chain(totals.iter().map(u64::to_string)).chain([s.step_over, s.ties].map(|value| value.to_string()));
     let fields: Vec<String> = floats.iter().map(|v| format!("{v:?}")).chain(wholes).collect();
     let parts = [("input", &kept.input), ("tail", &kept.tail), ("output", &kept.output)];
     let parts: Vec<String> = parts.iter().map(|(name, values)| format!("{name}{}", samples(values))).collect();
@@ -70,7 +70,8 @@ fn made_text(s: &Stream, kept: &Kept) -> String {
 impl std::fmt::Display for Call {
     fn fmt(&self, f: &mut std::fmt::Formatter<'_>) -> std::fmt::Result {
         match self {
-            Call::Open { rate, channels } => write!(f, "open {rate} {channels}"),
+            Call::Open { rate, channels, ties: None } => write!(f, "open {rate} {channels}"),
+            Call::Open { rate, channels, ties: Some(ties) } => write!(f, "open {rate} {channels} {ties}"),
             Call::Made { stream, kept } => write!(f, "{}", made_text(stream, kept)),
             Call::Set(Setting::Speed(value)) => write!(f, "speed {value:?}"),
             Call::Set(Setting::Pitch(value)) => write!(f, "pitch {value:?}"),
@@ -141,6 +142,7 @@ fn made(words: &mut Words<'_>) -> Result<Call, String> {
         waiting: value(words)?,
         balance: Balance { skipped: value(words)?, inserted: value(words)? },
         step_over: value(words)?,
+        ties: value(words)?,
     };
     expect(words, "input")?;
     let input = values(words)?;
@@ -148,6 +150,13 @@ fn made(words: &mut Words<'_>) -> Result<Call, String> {
     let tail = values(words)?;
     expect(words, "output")?;
     Ok(Call::Made { stream, kept: Kept { input, tail, output: values(words)? } })
+}
+
+/// An opening, with a choice of ties or without.
+fn open(words: &mut Words<'_>) -> Result<Call, String> {
+    let (rate, channels) = (value(words)?, value(words)?);
+    let ties = if words.peek().is_some() { Some(value(words)?) } else { None };
+    Ok(Call::Open { rate, channels, ties })
 }
 
 /// A read.
@@ -171,7 +180,7 @@ fn call(line: &str) -> Result<Call, String> {
     let mut words = line.split_whitespace().peekable();
     let words = &mut words;
     match words.next() {
-        Some("open") => Ok(Call::Open { rate: value(words)?, channels: value(words)? }),
+        Some("open") => open(words),
         Some("made") => made(words),
         Some("speed") => Ok(Call::Set(Setting::Speed(value(words)?))),
         Some("pitch") => Ok(Call::Set(Setting::Pitch(value(words)?))),

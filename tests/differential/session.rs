@@ -13,13 +13,14 @@ use crate::tally::Tally;
 /// Samples that a part can keep in this test; a stream that claims more cannot be told by the original.
 const KEPT_AT_MOST: usize = 1 << 25;
 
-/// The answer of a call: its refusal, its outcome, its frames, and the periods passed over.
+/// The answer of a call: its refusal, its outcome, its frames, the periods passed over, and the sum of its last search.
 #[derive(Clone, Copy, Debug, Default)]
 pub struct Answer {
     pub refusal: u32,
     pub outcome: u32,
     pub frames: usize,
     pub passed: usize,
+    pub sum: usize,
 }
 
 /// A run under way.
@@ -70,7 +71,7 @@ impl<'a> Session<'a> {
     /// Makes one call everywhere and compares.
     pub fn step(&mut self, call: &Call) -> Result<Answer, String> {
         let answer = match call {
-            Call::Open { rate, channels } => self.open(*rate, *channels),
+            Call::Open { rate, channels, ties } => self.open(*rate, *channels, *ties),
             Call::Made { stream, kept } => {
                 self.make_up(stream, kept);
                 return Ok(Answer::default());
@@ -87,13 +88,13 @@ impl<'a> Session<'a> {
     }
 
     /// Opens.
-    fn open(&mut self, rate: u32, channels: u32) -> Result<Answer, String> {
-        let said = self.judge.open(rate, channels);
-        let got = self.subject.open(rate, channels);
+    fn open(&mut self, rate: u32, channels: u32, ties: Option<u32>) -> Result<Answer, String> {
+        let said = self.judge.open(rate, channels, ties);
+        let got = self.subject.open(rate, channels, ties);
         equal("refusal", got.refusal, said.refusal)?;
         equal("number given", got.given, said.given)?;
         equal_streams("stream", &got.stream, &said.stream)?;
-        self.original = match Original::open(rate, channels) {
+        self.original = match Original::open(rate, channels, ties.unwrap_or(0)) {
             Ok(original) => {
                 equal("refusal by the original", got.refusal, 0)?;
                 equal_streams("stream of the original", &got.stream, &original.value())?;
@@ -198,10 +199,11 @@ impl<'a> Session<'a> {
 
     /// Compares what a write or a flush gave. The original tells refusal 12 from its own totals.
     fn settle(&mut self, said: Wrote, got: Wrote, original: impl FnOnce(&mut Original) -> Result<Told, u32>) -> Result<Answer, String> {
-        let Told { outcome, passed } = got.told;
+        let Told { outcome, passed, sum } = got.told;
         equal("refusal", got.refusal, said.refusal)?;
         equal("outcome", outcome, said.told.outcome)?;
         equal("periods passed over", passed, said.told.passed)?;
+        equal("sum of the last search", sum, said.told.sum)?;
         let waiting = self.stream.waiting;
         let mut told = Told::default();
         if [0, 12].contains(&got.refusal) {
@@ -211,9 +213,10 @@ impl<'a> Session<'a> {
         }
         equal("outcome of the original", outcome, told.outcome)?;
         equal("periods that the original passes over", passed, told.passed)?;
+        equal("sum of the original's last search", sum, told.sum)?;
         self.take(got.stream, said.stream, got.refusal)?;
         self.compare_kept(got.refusal)?;
-        Ok(Answer { refusal: got.refusal, outcome, frames: self.stream.waiting.wrapping_sub(waiting), passed })
+        Ok(Answer { refusal: got.refusal, outcome, frames: self.stream.waiting.wrapping_sub(waiting), passed, sum })
     }
 
     /// Compares the kept parts of the areas: with the original's if the call was accepted, with those lent if it was refused.

@@ -84,6 +84,7 @@ fn plainer_streams(stream: &Stream) -> Vec<Stream> {
     all.push(Stream { balance: Balance { skipped: 0, ..stream.balance }, ..*stream });
     all.push(Stream { balance: Balance { inserted: 0, ..stream.balance }, ..*stream });
     all.extend((0..stream.step_over.min(2)).map(|step_over| Stream { step_over, ..*stream }));
+    all.extend((0..stream.ties.min(2)).map(|ties| Stream { ties, ..*stream }));
     all.retain(|other| other.difference(stream).is_some());
     let floats: [fn(&mut Stream) -> &mut f32; 5] =
         [|s| &mut s.speed, |s| &mut s.pitch, |s| &mut s.volume, |s| &mut s.input_play_time, |s| &mut s.time_error];
@@ -138,10 +139,12 @@ fn plainer_write(samples: &[f32], areas: &Lengths) -> Vec<Call> {
 fn simpler(call: &Call) -> Vec<Call> {
     let set = |values: Vec<f32>, setting: fn(f32) -> Setting| values.into_iter().map(|v| Call::Set(setting(v))).collect();
     match call {
-        Call::Open { rate, channels } => {
-            let (rate, channels) = (*rate, *channels);
+        Call::Open { rate, channels, ties } => {
+            let (rate, channels, ties) = (*rate, *channels, *ties);
             let all = [(8_000, 1), (1_000, channels), (8_000, channels), (rate, 1)].into_iter();
-            all.filter(|&(r, c)| r < rate || c < channels).map(|(rate, channels)| Call::Open { rate, channels }).collect()
+            let plainer = all.filter(|&(r, c)| r < rate || c < channels).map(|(rate, channels)| Call::Open { rate, channels, ties });
+            let choices = [None, Some(0), Some(1)].into_iter().take_while(|choice| *choice < ties.map(|value| value.min(2)));
+            plainer.chain(choices.map(|ties| Call::Open { rate, channels, ties })).collect()
         }
         Call::Made { stream, kept } => plainer_made(stream, kept),
         Call::Set(Setting::Speed(value)) => set(plainer_float(*value), Setting::Speed),

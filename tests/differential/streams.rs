@@ -13,6 +13,9 @@ const RATES: [u32; 30] = [
     16_385, 22_050, 32_767, 32_768, 32_769, 44_100, 48_000, 65_536, 96_000, 192_000, 500_000,
 ];
 
+/// Choices of ties of an opening.
+const TIES: [Option<u32>; 8] = [None, None, Some(0), Some(1), Some(1), Some(1), Some(7), Some(u32::MAX)];
+
 /// Samples that the stage of an ordinary call takes at most, unless one search needs more.
 const AMPLE: usize = 4_000;
 
@@ -36,6 +39,7 @@ pub struct Scenario {
     random: Random,
     rate: u32,
     channels: u32,
+    ties: Option<u32>,
     signal: Signal,
     mood: Mood,
     left: usize,
@@ -78,7 +82,8 @@ impl Scenario {
         let channels = random_channels(&mut random, rate);
         let signal = Signal::new(&mut random, rate);
         let left = random.between(4, 40);
-        Scenario { random, rate, channels, signal, mood, left, begun: false, after_made: false, next: Vec::new() }
+        let ties = random.one_of(&TIES);
+        Scenario { random, rate, channels, ties, signal, mood, left, begun: false, after_made: false, next: Vec::new() }
     }
 
     /// The next call, or none at the end of the run.
@@ -117,7 +122,12 @@ impl Scenario {
         if random.once_in(if self.mood == Mood::Stall { 2 } else { 4 }) {
             self.next.push(Call::Set(Setting::StepOver(1)));
         }
-        self.next.push(Call::Open { rate: self.rate, channels: self.channels });
+        self.next.push(self.opening());
+    }
+
+    /// An opening of the run's rate, channels and choice of ties.
+    fn opening(&self) -> Call {
+        Call::Open { rate: self.rate, channels: self.channels, ties: self.ties }
     }
 
     /// A call of a kind that fits the run; a stream out of order, or with a total at its end, is soon opened anew, and one that stalled may
@@ -128,14 +138,16 @@ impl Scenario {
             return self.write_of(session, 0);
         }
         if [3, 12].contains(&session.last.refusal) && self.mood != Mood::Refused && self.random.once_in(3) {
-            return Call::Open { rate: self.rate, channels: self.channels };
+            return self.opening();
         }
         if session.last.outcome == STALLED && self.random.once_in(12) {
             self.after_made = true;
-            return Call::Set(Setting::StepOver(made_up::step_over(&mut self.random)));
+            return Call::Set(Setting::StepOver(made_up::choice(&mut self.random)));
         }
         match self.random.below(100) {
-            0..=4 if self.mood == Mood::Refused => Call::Open { rate: self.random.one_of(&RATES), channels: 1 + self.random.below(33) as u32 },
+            0..=4 if self.mood == Mood::Refused => {
+                Call::Open { rate: self.random.one_of(&RATES), channels: 1 + self.random.below(33) as u32, ties: self.ties }
+            }
             0..=29 if self.mood == Mood::MadeUp => self.made_up(session),
             0..=29 if self.mood == Mood::Lowered => self.turn_pitch(session),
             0..=2 => self.made_up(session),
@@ -179,7 +191,7 @@ impl Scenario {
             0 => Setting::Speed(if outside { random.one_of(&OUTSIDE) } else if same { session.stream.pitch } else { made_up::ratio(random) }),
             1 => Setting::Pitch(if outside { random.one_of(&OUTSIDE) } else if same { session.stream.pitch } else { made_up::ratio(random) }),
             2 => Setting::Volume(if outside { random.one_of(&OUTSIDE) } else { made_up::volume(random) }),
-            _ => Setting::StepOver(if same { session.stream.step_over } else { made_up::step_over(random) }),
+            _ => Setting::StepOver(if same { session.stream.step_over } else { made_up::choice(random) }),
         };
         Call::Set(setting)
     }

@@ -1,7 +1,7 @@
 //! Counts of what the runs met.
 
 use crate::interface::{COPIED, EMPTY, STALLED, STRETCHED, WAITING};
-use crate::model::events::EVENTS;
+use crate::model::events::{Event, EVENTS};
 use crate::model::Model;
 use crate::run::Call;
 use crate::session::Answer;
@@ -16,6 +16,9 @@ const OF_FLUSH: [u32; 3] = [COPIED, STRETCHED, STALLED];
 const OF_WRITE: [u32; 5] = [EMPTY, COPIED, WAITING, STRETCHED, STALLED];
 /// The refusals that each call can meet.
 const REFUSALS: [&[u32]; 6] = [&[1, 2], &[3], &[3], &[3, 4, 5, 6, 7, 12], &[3, 4], &[3, 4, 5, 6, 7, 12]];
+
+/// Fewer calls than this that a choice of ties decides are too few.
+const TIES: u64 = 1_000;
 
 /// The counts.
 #[derive(Clone, Default)]
@@ -62,7 +65,9 @@ impl Tally {
             all.extend(unmet.map(|&outcome| format!("{} answering {}", CALLS[kind], OUTCOMES[outcome as usize])));
             all.extend((self.passed[kind] == 0).then(|| format!("{} passing over", CALLS[kind])));
         }
-        all.extend(EVENTS.iter().filter(|(event, _)| judge.met(*event) == 0).map(|(_, words)| words.to_string()));
+        let least = |event: Event| if matches!(event, Event::TieToSmallest | Event::TieToLargest) { TIES } else { 1 };
+        let few = EVENTS.iter().filter(|(event, _)| judge.met(*event) < least(*event));
+        all.extend(few.map(|(event, words)| format!("{words}, {} times", least(*event))));
         all
     }
 

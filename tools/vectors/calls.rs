@@ -24,14 +24,14 @@ struct Tried {
 
 impl Session {
     fn new() -> Self {
-        Self { fields: [0; 18], original: None, lent: [0; 4], census: Census::new() }
+        Self { fields: [0; 19], original: None, lent: [0; 4], census: Census::new() }
     }
 
-    fn open(&mut self, rate: u32, channels: u32) -> String {
+    fn open(&mut self, rate: u32, channels: u32, ties: u64) -> String {
         let (answer, fields, original) = match SonicStream::new(rate, channels) {
-            Ok(s) => (String::new(), fields_of(&s, [0; 3]), Some(s)),
-            Err(SonicError::SampleRateOutOfRange(given)) => (format!(" refused 1 {given}"), [0; 18], None),
-            Err(SonicError::ChannelsOutOfRange(given)) => (format!(" refused 2 {given}"), [0; 18], None),
+            Ok(s) => (String::new(), fields_of(&s, [0, 0, 0, u64::from(ties != 0)]), Some(s)),
+            Err(SonicError::SampleRateOutOfRange(given)) => (format!(" refused 1 {given}"), [0; 19], None),
+            Err(SonicError::ChannelsOutOfRange(given)) => (format!(" refused 2 {given}"), [0; 19], None),
         };
         (self.fields, self.original) = (fields, original);
         answer
@@ -84,13 +84,13 @@ impl Session {
     }
 
     /// The fields that the original does not have.
-    fn others(&self) -> [u64; 3] {
-        [self.fields[SKIPPED], self.fields[INSERTED], self.fields[STEP_OVER]]
+    fn others(&self) -> [u64; 4] {
+        [self.fields[SKIPPED], self.fields[INSERTED], self.fields[STEP_OVER], self.fields[TIES]]
     }
 
-    /// Whether the stream steps over.
-    fn over(&self) -> bool {
-        self.fields[STEP_OVER] != 0
+    /// The text that judges the stream.
+    fn text(&self) -> Text {
+        Text { largest: self.fields[TIES] != 0, over: self.fields[STEP_OVER] != 0 }
     }
 
     /// The totals after a call that adds to them, or none if one of them would pass 64 bits.
@@ -111,14 +111,14 @@ impl Session {
         let before = copy_of(self.stream());
         let mut added = copy_of(&before);
         add(&mut added);
-        let stretched = stretched(&added, self.over());
+        let stretched = stretched(&added, self.text());
         let tail = if before.pitch == 1.0 { 0 } else { before.pitch_frames() };
         if !self.room((tail + stretched.made) as u64, stage) {
             self.count_with_tail(stretched.made, 6);
             return Err(6);
         }
         let mut done = copy_of(&added);
-        done.process_as(self.over());
+        done.process_as(self.text());
         let totals = self.totals_after(stretched.counted);
         if !self.room(done.output_frames() as u64, output) {
             if totals.is_none() {
@@ -149,23 +149,23 @@ impl Session {
         }
     }
 
-    /// A write or a flush: `add` puts its frames behind those held, `call` is the original's call, or that of the copy that steps over.
-    fn work(&mut self, frames: usize, add: impl Fn(&mut SonicStream), call: impl Fn(&mut SonicStream, bool)) -> String {
+    /// A write or a flush: `add` puts its frames behind those held, `call` is the call of the text that judges.
+    fn work(&mut self, frames: usize, add: impl Fn(&mut SonicStream), call: impl Fn(&mut SonicStream, Text)) -> String {
         let Tried { before, added, done, stretched, totals } = match self.tried(frames, add) {
             Ok(tried) => tried,
             Err(number) => return format!(" refused {number}"),
         };
-        let (over, step_over) = (self.over(), self.fields[STEP_OVER]);
+        let (text, [_, _, step_over, ties]) = (self.text(), self.others());
         let s = self.stream();
-        call(s, over);
+        call(s, text);
         assert!(done.output.starts_with(&s.output) && done.prev_min_diff == s.prev_min_diff, "the original's call adds other frames");
-        self.fields = fields_of(s, [totals[0], totals[1], step_over]);
+        self.fields = fields_of(s, [totals[0], totals[1], step_over, ties]);
         if stretched.passed > 0 && (self.lent[1], self.lent[2]) == (0, 0) {
             self.census.count("passes over without room for a frame");
         }
-        self.census.steps(&added, &stretched, totals, over);
+        self.census.steps(&added, &stretched, totals, text);
         self.census.rate(&before, &done, stretched.made);
-        format!(" {} {}", stretched.outcome, stretched.passed)
+        format!(" {} {} {}", stretched.outcome, stretched.passed, stretched.sum)
     }
 
     fn write(&mut self, samples: &[f32]) -> String {
@@ -175,7 +175,7 @@ impl Session {
             s.input.extend(samples[..frames * channels].iter().map(|&x| (x.clamp(-1.0, 1.0) * 32767.0) as i16));
             s.input_play_time += frames as f32 * s.sample_period / (s.speed / s.pitch);
         };
-        self.work(frames, add, |s, over| s.write_as(over, samples))
+        self.work(frames, add, |s, text| s.write_as(text, samples))
     }
 
     fn flush(&mut self) -> String {

@@ -6,11 +6,21 @@ use std::collections::BTreeMap;
 /// How often the runs touch each thing by name.
 struct Census(BTreeMap<String, usize>);
 
+/// What a stream searches.
+fn kind_of_search(s: &SonicStream) -> &'static str {
+    match (s.channels, s.sample_rate / AMDF_FREQ) {
+        (1, 0 | 1) => "search of samples",
+        (_, 0 | 1) => "search of averages, skip 1",
+        (1, _) => "search twice, 1 channel",
+        _ => "search twice, more channels",
+    }
+}
+
 /// Both totals at their end.
 const FULL: [u64; 2] = [u64::MAX; 2];
 
 /// What the runs have to touch.
-const TOUCHED: [&str; 78] = [
+const TOUCHED: [&str; 96] = [
     "write empty", "write copied", "write waiting", "write stretched", "write stalled", "flush copied", "flush stretched", "flush stalled",
     "open refused 1", "open refused 2", "speed refused 3", "pitch refused 3", "volume refused 3", "available refused 3",
     "read refused 3", "read refused 4",
@@ -29,6 +39,12 @@ const TOUCHED: [&str; 78] = [
     "search of samples", "search of averages, skip 1", "search twice, 1 channel", "search twice, more channels",
     "tail kept at pitch 1", "tail and frames above the stage", "6 with a tail at pitch 1", "6 with a tail at pitch 1, the output full",
     "7 with a tail at pitch 1", "rates halved", "rate positions back to 0",
+    "open, ties 0", "open, ties 1", "open, ties of another value", "open refused 1, ties asked for", "open refused 2, ties asked for",
+    "smallest: another period than the largest", "largest: another period than the smallest", "largest: another period, the sum above 0",
+    "largest: another period, search of samples", "largest: another period, search of averages, skip 1",
+    "largest: another period, search twice, 1 channel", "largest: another period, search twice, more channels",
+    "stretched by another value of ties than 1", "largest and stepping over: a step passed over", "sum of a stalled call",
+    "sum of a search that copying steps follow", "sum where the previous period is used", "no sum of copying steps alone",
 ];
 
 impl Census {
@@ -59,12 +75,28 @@ impl Census {
                 self.count(&format!("{kind} {word}"));
                 self.totals(kind, word, before, fields);
                 self.passes(kind, words[1], before, fields);
+                self.count_if(before[TIES] > 1 && *word == "stretched", "stretched by another value of ties than 1");
             }
             _ => self.count(&format!("{kind} accepted")),
         }
-        if kind == "open" && fields[RATE] != 0 {
+        if kind == "open" {
+            self.opening(line, answer, fields);
+        }
+    }
+
+    /// An opening, with a choice of ties or without.
+    fn opening(&mut self, line: &str, answer: &str, fields: &Fields) {
+        let ties = line.split(' ').nth(3).map(number);
+        if fields[RATE] != 0 {
             self.count(&format!("rate {}", fields[RATE]));
             self.count(&format!("channels {}", fields[CHANNELS]));
+            match ties {
+                None => (),
+                Some(ties @ (0 | 1)) => self.count(&format!("open, ties {ties}")),
+                Some(_) => self.count("open, ties of another value"),
+            }
+        } else if ties.is_some_and(|ties| ties != 0) {
+            self.count(&format!("open refused {}, ties asked for", &answer[9..10]));
         }
     }
 
@@ -98,42 +130,77 @@ impl Census {
     }
 
     /// The steps of a stretch, if it is due, in the order of `change_speed`. Their periods are what it adds to the totals.
-    fn steps(&mut self, added: &SonicStream, stretched: &Stretched, totals: [u64; 2], over: bool) {
-        let (held, mut position, mut periods, mut passed) = (added.input_frames(), 0, [0; 2], 0);
+    fn steps(&mut self, added: &SonicStream, stretched: &Stretched, totals: [u64; 2], text: Text) {
+        let (held, mut position, mut periods) = (added.input_frames(), 0, [0; 2]);
+        let (mut copied_last, mut previous_last) = (false, false);
         let Some(speed) = due(added) else { return };
         let (mut s, mut whole) = (copy_of(added), copy_of(added));
         while position + s.max_required <= held {
-            let error = s.time_error;
-            if (speed > 1.0 && speed < 2.0 && error < 0.0) || (speed < 1.0 && speed > 0.5 && error > 0.0) {
-                self.count(if speed > 1.0 { "step copying, s > 1" } else { "step copying, s < 1" });
-                position += s.copy_unmodified_samples(speed, position);
-                if position == held {
-                    self.count("step copying all that is left");
-                }
+            let (before, at) = (copy_of(&s), position);
+            let step = s.step_as(text, speed, position);
+            position += step.used;
+            copied_last = step.searched.is_none();
+            let Some(Searched { period, k, sum }) = step.searched else {
+                self.copying(speed, position == held);
                 continue;
-            }
-            let (period, k) = self.step(&mut s, speed, position);
-            if k == 0 && over {
-                self.passed(speed, s.output.len() > added.output.len(), period != s.prev_period as usize);
-                passed += 1;
+            };
+            previous_last = period != s.prev_period as usize;
+            self.step(&s, speed, (period, k));
+            self.tie(&before, &s, text, at, sum);
+            if k == 0 && text.over {
+                self.passed(speed, s.output.len() > added.output.len(), previous_last);
+                self.count_if(text.largest, "largest and stepping over: a step passed over");
             } else if k == 0 {
-                self.count(match position {
-                    0 => "step stall",
-                    _ if totals == FULL => "step stall after frames with full totals",
-                    _ => "step stall after frames",
-                });
+                self.stall(at, totals, sum);
                 periods = [0; 2];
                 break;
             }
-            position += if speed > 1.0 { period + k } else { k };
             periods[usize::from(speed < 1.0)] += period as u64;
         }
-        assert_eq!((periods, passed), (stretched.counted, stretched.passed), "the periods are counted wrong");
-        if passed > 0 && s.output == added.output {
-            self.count("every step passed over");
-        }
-        whole.change_speed_as(over, speed);
+        assert_eq!(periods, stretched.counted, "the periods are counted wrong");
+        self.count_if(stretched.passed > 0 && s.output == added.output, "every step passed over");
+        self.count_if(copied_last && stretched.sum > 0, "sum of a search that copying steps follow");
+        self.count_if(previous_last && stretched.sum > 0, "sum where the previous period is used");
+        self.count_if(copied_last && periods == [0; 2] && s.prev_min_diff > 0, "no sum of copying steps alone");
+        whole.change_speed_as(text, speed);
         assert!(whole.output == s.output && bits(whole.time_error) == bits(s.time_error), "the steps are counted wrong");
+    }
+
+    fn count_if(&mut self, met: bool, name: &str) {
+        if met {
+            self.count(name);
+        }
+    }
+
+    /// A copying step.
+    fn copying(&mut self, speed: f32, all: bool) {
+        self.count(if speed > 1.0 { "step copying, s > 1" } else { "step copying, s < 1" });
+        self.count_if(all, "step copying all that is left");
+    }
+
+    /// A step without a frame at a position, which ends its call.
+    fn stall(&mut self, position: usize, totals: [u64; 2], sum: usize) {
+        self.count(match position {
+            0 => "step stall",
+            _ if totals == FULL => "step stall after frames with full totals",
+            _ => "step stall after frames",
+        });
+        self.count_if(sum > 0, "sum of a stalled call");
+    }
+
+    /// A search at a position, on the stream before it and after it: whether the other choice of ties finds another period.
+    fn tie(&mut self, before: &SonicStream, after: &SonicStream, text: Text, position: usize, sum: usize) {
+        let mut other = copy_of(before);
+        other.step_as(Text { largest: !text.largest, ..text }, 2.0, position);
+        if other.prev_period == after.prev_period {
+            return;
+        }
+        if !text.largest {
+            return self.count("smallest: another period than the largest");
+        }
+        self.count("largest: another period than the smallest");
+        self.count(&format!("largest: another period, {}", kind_of_search(after)));
+        self.count_if(sum > 0, "largest: another period, the sum above 0");
     }
 
     /// A period passed over: behind frames made in the same call or not, the previous one or the one found.
@@ -150,35 +217,15 @@ impl Census {
         }
     }
 
-    /// A skip or an insert at a position: its period, and k.
-    fn step(&mut self, s: &mut SonicStream, speed: f32, position: usize) -> (usize, usize) {
-        let period = s.find_pitch_period(position, true) as usize;
-        if period != s.prev_period as usize {
-            self.count("previous period used");
-        }
-        self.count(match (s.channels, s.sample_rate / AMDF_FREQ) {
-            (1, 0 | 1) => "search of samples",
-            (_, 0 | 1) => "search of averages, skip 1",
-            (1, _) => "search twice, 1 channel",
-            _ => "search twice, more channels",
-        });
+    /// A skip or an insert, on the stream after it, with its period and k.
+    fn step(&mut self, s: &SonicStream, speed: f32, (period, k): (usize, usize)) {
+        self.count_if(period != s.prev_period as usize, "previous period used");
+        self.count(kind_of_search(s));
         if speed > 1.0 {
-            self.count(if speed < 2.0 { "step skip, s < 2" } else { "step skip, s >= 2" });
-            let k = s.skip_pitch_period(speed, position, period);
-            if speed < 2.0 {
-                s.time_error += k as f32 * s.sample_period - (period + k) as f32 * s.input_play_time / s.input_frames() as f32;
-            }
-            return (period, k);
+            return self.count(if speed < 2.0 { "step skip, s < 2" } else { "step skip, s >= 2" });
         }
         self.count(if speed > 0.5 { "step insert, s > 0.5" } else { "step insert, s <= 0.5" });
-        let k = s.insert_pitch_period(speed, position, period);
-        if k == 1 {
-            self.count("step insert of 1 frame");
-        }
-        if speed > 0.5 {
-            s.time_error += (period + k) as f32 * s.sample_period - k as f32 * s.input_play_time / s.input_frames() as f32;
-        }
-        (period, k)
+        self.count_if(k == 1, "step insert of 1 frame");
     }
 
     /// What the rate conversion of a call does to the tail and the positions.

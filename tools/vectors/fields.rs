@@ -1,17 +1,20 @@
 
 // ---- Answers to the calls of crates/vectors/stdin, by the functions above: this text is joined to the original's, which is otherwise
 // unchanged. The original has neither refusals nor outcomes nor totals: a refusal is decided by the table of docs/RULES.md with the original's
-// own counts, an outcome and what a call adds to the totals by the original's state before and after. A stream that steps over is worked on
-// by a copy of the original's text with one return taken out, the module `passing`; the periods passed over are counted step by step.
+// own counts, an outcome and what a call adds to the totals by the original's state before and after. A stream that steps over, or finds the
+// largest of several best periods, is worked on by a copy of the original's text, in the module `judges`; the periods passed over are counted,
+// and the sum of the last search is found, step by step.
 
-#[path = "../passing.rs"]
-mod passing;
+#[path = "../judges.rs"]
+mod judges;
+
+use judges::{Searched, Text};
 
 /// The most samples of an area, of a write and of a read, as in crates/vectors/src/main.rt.
 const ROOM: usize = 32_768;
 
 /// A stream's fields in the order of the library's struct, floats as their bits.
-type Fields = [u64; 18];
+type Fields = [u64; 19];
 
 const RATE: usize = 0;
 const CHANNELS: usize = 1;
@@ -31,6 +34,7 @@ const WAITING: usize = 14;
 const SKIPPED: usize = 15;
 const INSERTED: usize = 16;
 const STEP_OVER: usize = 17;
+const TIES: usize = 18;
 
 /// The bits of a float, those of one NaN for every NaN.
 fn bits(x: f32) -> u64 {
@@ -51,12 +55,13 @@ fn copy_of(s: &SonicStream) -> SonicStream {
     }
 }
 
-/// A stream's fields, with what the original does not have: the totals of frames skipped and inserted, and whether it steps over.
-fn fields_of(s: &SonicStream, [skipped, inserted, step_over]: [u64; 3]) -> Fields {
+/// A stream's fields, with what the original does not have: the totals of frames skipped and inserted, whether it steps over, and the choice
+/// of ties.
+fn fields_of(s: &SonicStream, [skipped, inserted, step_over, ties]: [u64; 4]) -> Fields {
     [
         s.sample_rate as u64, s.channels as u64, bits(s.speed), bits(s.pitch), bits(s.volume), bits(s.sample_period), bits(s.input_play_time),
         bits(s.time_error), s.old_rate_position as u64, s.new_rate_position as u64, s.prev_period as u64, s.prev_min_diff as u64,
-        s.input_frames() as u64, s.pitch_frames() as u64, s.output_frames() as u64, skipped, inserted, step_over,
+        s.input_frames() as u64, s.pitch_frames() as u64, s.output_frames() as u64, skipped, inserted, step_over, ties,
     ]
 }
 
@@ -86,35 +91,41 @@ fn due(added: &SonicStream) -> Option<f32> {
 }
 
 /// What a call does to a stream whose frames are added: its outcome, the frames of its stretch or copy, the frames of periods that it skips
-/// and inserts, and the periods that it passes over.
+/// and inserts, the periods that it passes over, and the sum of its last search.
+#[derive(Default)]
 struct Stretched {
     outcome: &'static str,
     made: usize,
     counted: [u64; 2],
     passed: usize,
+    sum: usize,
 }
 
-/// The periods that a stretch passes over. From a local speed of 2 on every step is a skip; below, none gives no frame.
-fn passed_over(added: &SonicStream, speed: f32) -> usize {
-    let (mut s, mut position, mut passed) = (copy_of(added), 0, 0);
-    while speed >= 2.0 && position + s.max_required <= s.input_frames() {
-        let period = s.find_pitch_period(position, true) as usize;
-        let k = s.skip_pitch_period(speed, position, period);
-        position += period + k;
+/// The periods that a stretch passes over, and the sum of its last search.
+fn searched(added: &SonicStream, text: Text, speed: f32) -> (usize, usize) {
+    let (mut s, mut position, mut passed, mut last) = (copy_of(added), 0, 0, 0);
+    while position + s.max_required <= s.input_frames() {
+        let step = s.step_as(text, speed, position);
+        position += step.used;
+        let Some(Searched { k, sum, .. }) = step.searched else { continue };
+        last = sum;
+        if k == 0 && !text.over {
+            break;
+        }
         passed += usize::from(k == 0);
     }
-    passed
+    (passed, last)
 }
 
-/// What a call does, on a stream that steps over if `over`.
-fn stretched(added: &SonicStream, over: bool) -> Stretched {
+/// What a call does, by the text that judges its stream.
+fn stretched(added: &SonicStream, text: Text) -> Stretched {
     let held = added.input_frames();
     if held == 0 {
-        return Stretched { outcome: "empty", made: 0, counted: [0; 2], passed: 0 };
+        return Stretched { outcome: "empty", ..Stretched::default() };
     }
-    let Some(speed) = due(added) else { return Stretched { outcome: "copied", made: held, counted: [0; 2], passed: 0 } };
+    let Some(speed) = due(added) else { return Stretched { outcome: "copied", made: held, ..Stretched::default() } };
     let mut after = copy_of(added);
-    after.change_speed_as(over, speed);
+    after.change_speed_as(text, speed);
     let (used, made) = (held - after.input_frames(), after.output_frames() - added.output_frames());
     let (outcome, counted) = match used {
         _ if held < added.max_required => ("waiting", [0; 2]),
@@ -122,5 +133,6 @@ fn stretched(added: &SonicStream, over: bool) -> Stretched {
         _ if speed > 1.0 => ("stretched", [(used - made) as u64, 0]),
         _ => ("stretched", [0, (made - used) as u64]),
     };
-    Stretched { outcome, made, counted, passed: if over { passed_over(added, speed) } else { 0 } }
+    let (passed, sum) = searched(added, text, speed);
+    Stretched { outcome, made, counted, passed, sum }
 }

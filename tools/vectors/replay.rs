@@ -48,7 +48,7 @@ impl Session {
                 self.edit(n[0] as usize, n[1]);
                 return None;
             }
-            b'o' => self.open(n[0] as u32, n[1] as u32),
+            b'o' => self.open(n[0] as u32, n[1] as u32, n[2]),
             b's' => self.set(|s| s.set_speed(float(n[0]))),
             b'p' => self.set(|s| s.set_pitch(float(n[0]))),
             b'v' => self.set(|s| s.set_volume(float(n[0]))),

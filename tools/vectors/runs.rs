@@ -17,8 +17,18 @@ impl Runs {
 
     /// Begins a run: its title, lengths and opening.
     fn run(&mut self, title: &str, lent: [usize; 4], rate: u32, channels: u32) -> &mut Self {
+        self.titled(title, lent).open(rate, channels)
+    }
+
+    /// Begins a run that finds the largest of several best periods.
+    fn run_largest(&mut self, title: &str, lent: [usize; 4], rate: u32, channels: u32) -> &mut Self {
+        self.titled(title, lent).open_with_ties(rate, channels, 1)
+    }
+
+    /// Begins a run without its opening.
+    fn titled(&mut self, title: &str, lent: [usize; 4]) -> &mut Self {
         self.runs += 1;
-        self.line(format_args!("# {title}")).lend(lent).open(rate, channels)
+        self.line(format_args!("# {title}")).lend(lent)
     }
 
     fn lend(&mut self, [input, stage, output, scratch]: [usize; 4]) -> &mut Self {
@@ -27,6 +37,11 @@ impl Runs {
 
     fn open(&mut self, rate: u32, channels: u32) -> &mut Self {
         self.line(format_args!("o {rate} {channels}"))
+    }
+
+    /// Opens with a choice of ties.
+    fn open_with_ties(&mut self, rate: u32, channels: u32, ties: u32) -> &mut Self {
+        self.line(format_args!("o {rate} {channels} {ties}"))
     }
 
     fn edit(&mut self, field: usize, value: u64) -> &mut Self {

@@ -33,6 +33,7 @@ pub struct Stream {
     pub waiting: usize,
     pub balance: Balance,
     pub step_over: u32,
+    pub ties: u32,
 }
 
 /// An opening.
@@ -67,6 +68,7 @@ pub struct Available {
 pub struct Told {
     pub outcome: u32,
     pub passed: usize,
+    pub sum: usize,
 }
 
 /// A write or a flush.
@@ -97,6 +99,7 @@ pub struct Areas<'a> {
 
 extern "C" {
     fn kelpladder_open(rate: u32, channels: u32) -> Opened;
+    fn kelpladder_open_with_ties(rate: u32, channels: u32, ties: u32) -> Opened;
     fn kelpladder_set_speed(stream: Stream, speed: f32) -> Changed;
     fn kelpladder_set_pitch(stream: Stream, pitch: f32) -> Changed;
     fn kelpladder_set_volume(stream: Stream, volume: f32) -> Changed;
@@ -141,6 +144,11 @@ extern "C" {
 
 pub fn open(rate: u32, channels: u32) -> Opened {
     unsafe { kelpladder_open(rate, channels) }
+}
+
+/// Opens with the period that searches find of several with the same mean: 0 the smallest, any other number the largest.
+pub fn open_with_ties(rate: u32, channels: u32, ties: u32) -> Opened {
+    unsafe { kelpladder_open_with_ties(rate, channels, ties) }
 }
 
 pub fn set_speed(stream: Stream, speed: f32) -> Changed {

@@ -26,6 +26,9 @@
 //! - [`balance`](SonicStream::balance) is not in libsonic-rs: it gives the frames of the periods skipped and inserted so far.
 //! - [`set_step_over`](SonicStream::set_step_over) is not in libsonic-rs: a stream that steps over does not stall. A new one does not step
 //!   over.
+//! - [`with_ties`](SonicStream::with_ties) is not in libsonic-rs: where several periods fit a voice equally well, such a stream takes the
+//!   largest in place of the smallest. [`new`](SonicStream::new) opens one that takes the smallest. Nor is [`Told::sum`], which says how
+//!   well the last period found fits.
 //! - A stream has a limit. Frames held, frames between two steps and frames waiting each have at most [`MAX_SAMPLES`] samples, and a
 //!   write or flush that would pass this answers [`Outcome::Full`] and changes nothing. In libsonic-rs they grow until memory ends.
 //! - The texts of [`SonicError`] are worded differently.
@@ -50,14 +53,16 @@ mod error;
 mod outcome;
 #[cfg(test)]
 mod tests;
+mod ties;
 
 pub use areas::MAX_SAMPLES;
 pub use calls::Balance;
 pub use error::SonicError;
 pub use outcome::{Outcome, Told};
+pub use ties::Ties;
 
 use areas::OwnedAreas;
-use calls::{Areas, Stream, Wrote};
+use calls::{Areas, Opened, Stream, Wrote};
 use std::fmt;
 
 // Numbers of refusal.
@@ -75,14 +80,28 @@ pub struct SonicStream {
 }
 
 impl SonicStream {
-    /// Opens a stream of `channels` channels at `sample_rate` frames a second. Speed, pitch and volume are 1, and it does not step over.
+    /// Opens a stream of `channels` channels at `sample_rate` frames a second. Speed, pitch and volume are 1, it does not step over, and of
+    /// several periods that fit equally well it takes the smallest.
     ///
     /// # Errors
     ///
     /// [`SonicError::SampleRateOutOfRange`] for a rate outside 1,000 to 500,000, else [`SonicError::ChannelsOutOfRange`] for a count
     /// of channels outside 1 to 32.
     pub fn new(sample_rate: u32, channels: u32) -> Result<Self, SonicError> {
-        let opened = calls::open(sample_rate, channels);
+        Self::of_opening(calls::open(sample_rate, channels))
+    }
+
+    /// Opens a stream as [`new`](Self::new) does, with the period that its searches take of several that fit equally well. No setting
+    /// changes that later.
+    ///
+    /// # Errors
+    ///
+    /// As [`new`](Self::new).
+    pub fn with_ties(sample_rate: u32, channels: u32, ties: Ties) -> Result<Self, SonicError> {
+        Self::of_opening(calls::open_with_ties(sample_rate, channels, ties.number()))
+    }
+
+    fn of_opening(opened: Opened) -> Result<Self, SonicError> {
         match opened.refusal {
             ACCEPTED => Ok(Self { value: opened.stream, areas: OwnedAreas::new(opened.stream) }),
             BAD_RATE => Err(SonicError::SampleRateOutOfRange(opened.given)),

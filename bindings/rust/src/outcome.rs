@@ -48,14 +48,18 @@ pub struct Told {
     /// The periods passed over in this call, by a stream that [steps over](crate::SonicStream::set_step_over); 0 if it does not, or if the
     /// call was not taken. A flush counts those of its own silence too.
     pub passed: usize,
+    /// The sum of differences of the period that the last search of this call found: over one period, how far each sample is from the one
+    /// a period later, of the averages of the channels where there are several. It is told even where the period before is used. 0 if the
+    /// call made no search or was not taken, and also where the period repeats exactly.
+    pub sum: usize,
 }
 
 impl Told {
     /// What is told of a call that was not taken.
-    pub(crate) const FULL: Self = Self { outcome: Outcome::Full, passed: 0 };
+    pub(crate) const FULL: Self = Self { outcome: Outcome::Full, passed: 0, sum: 0 };
 
     /// What the C interface tells of an accepted call.
     pub(crate) fn of_answer(told: calls::Told) -> Self {
-        Self { outcome: Outcome::of_number(told.outcome), passed: told.passed }
+        Self { outcome: Outcome::of_number(told.outcome), passed: told.passed, sum: told.sum }
     }
 }

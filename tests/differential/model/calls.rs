@@ -1,5 +1,7 @@
 //! The model's calls.
 
+use super::events::Event;
+use super::write::Needs;
 use super::{Model, Work};
 use crate::interface::{Areas, Available, Changed, Gave, Opened, Setting, Stream, Subject, Told, Wrote};
 
@@ -20,28 +22,39 @@ impl Model {
     /// The end of a write or a flush of samples.
     fn answer(&self, stream: Stream, samples: &[f32], ended: Result<Work, u32>, areas: Areas<'_>) -> Wrote {
         match ended {
-            Ok(work) => self.rules.write.commit(work, areas),
+            Ok(work) => self.accept(work, areas),
             Err(5) => self.rules.order.refused(5, stream, areas),
             Err(refusal) => {
-                let passed = self.rules.step_over.passed_refused(&|| self.would_pass(stream, samples, &areas));
+                let passed = self.rules.step_over.passed_refused(&|| self.would_need(stream, samples, &areas).map_or(0, |needs| needs.passed));
+                let sum = self.rules.sums.sum_refused(&|| self.would_need(stream, samples, &areas).map_or(0, |needs| needs.sum));
                 let wrote = self.rules.order.refused(refusal, stream, areas);
-                Wrote { told: Told { passed, ..wrote.told }, ..wrote }
+                Wrote { told: Told { passed, sum, ..wrote.told }, ..wrote }
             }
         }
     }
 
-    /// The periods that a write or a flush of samples would pass over, with room for all.
-    fn would_pass(&self, stream: Stream, samples: &[f32], areas: &Areas<'_>) -> usize {
+    /// The end of an accepted write or flush.
+    fn accept(&self, work: Work, areas: Areas<'_>) -> Wrote {
+        if work.decided {
+            work.saw(if work.stream.ties == 0 { Event::TieToSmallest } else { Event::TieToLargest });
+        }
+        let sum = self.rules.sums.told(&work);
+        let wrote = self.rules.write.commit(work, areas);
+        Wrote { told: Told { sum, ..wrote.told }, ..wrote }
+    }
+
+    /// What a write or a flush of samples would need and tell, with room for all.
+    fn would_need(&self, stream: Stream, samples: &[f32], areas: &Areas<'_>) -> Option<Needs> {
         let channels = stream.channels as usize;
         let (held, tail) = (&areas.input[..stream.held * channels], &areas.stage[..stream.tail * channels]);
         let added = self.rules.write.add(&stream, samples).samples;
-        self.needs(stream, held, tail, &added, AMPLE).map_or(0, |needs| needs.passed)
+        self.needs(stream, held, tail, &added, AMPLE)
     }
 }
 
 impl Subject for Model {
-    fn open(&mut self, rate: u32, channels: u32) -> Opened {
-        self.rules.settings.opening(rate, channels)
+    fn open(&mut self, rate: u32, channels: u32, ties: Option<u32>) -> Opened {
+        self.rules.settings.opening(rate, channels, ties.unwrap_or(0))
     }
 
     fn set(&mut self, stream: Stream, setting: Setting) -> Changed {

@@ -20,6 +20,8 @@ pub enum Event {
     PassedAlone,
     PassedAndMade,
     SecondSearch,
+    TieToSmallest,
+    TieToLargest,
     PreviousPeriod,
     PositionsWrapped,
     LowestSample,
@@ -28,7 +30,7 @@ pub enum Event {
 }
 
 /// Every event with the words for it.
-pub const EVENTS: [(Event, &str); 20] = [
+pub const EVENTS: [(Event, &str); 22] = [
     (Event::CopyingFast, "copying steps, s above 1"),
     (Event::CopyingSlow, "copying steps, s below 1"),
     (Event::CopyingAll, "copying steps of all frames left"),
@@ -44,6 +46,8 @@ pub const EVENTS: [(Event, &str); 20] = [
     (Event::PassedAlone, "calls that passed over every step"),
     (Event::PassedAndMade, "calls that passed over some steps"),
     (Event::SecondSearch, "second searches"),
+    (Event::TieToSmallest, "calls that ended with another period than by the largest"),
+    (Event::TieToLargest, "calls that ended with another period than by the smallest"),
     (Event::PreviousPeriod, "previous periods used"),
     (Event::PositionsWrapped, "times both positions became 0"),
     (Event::LowestSample, "interpolated samples of -32768"),

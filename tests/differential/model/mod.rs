@@ -1,4 +1,4 @@
-//! The module of docs/RULES.md in plain Rust, written from that text and requests C-12, C-16 and C-18 alone. It says which calls are refused
+//! The module of docs/RULES.md in plain Rust, written from that text and requests C-12 and C-16 to C-18 alone. It says which calls are refused
 //! and how the accepted ones go. The rules are traits, whose methods can be overridden: a model with one of them wrong (edits/) has to be
 //! found out by the comparison.
 
@@ -13,6 +13,7 @@ pub mod search;
 pub mod settings;
 pub mod step_over;
 pub mod steps;
+pub mod sums;
 pub mod totals;
 pub mod volume;
 pub mod write;
@@ -67,6 +68,9 @@ pub struct Work {
     /// The frames of periods that the steps have skipped and inserted, and the periods passed over.
     pub counted: Balance,
     pub passed: usize,
+    /// The sum of the last search, if there was one, and whether the choice of ties decided its period.
+    pub sum: Option<usize>,
+    pub decided: bool,
     pub outcome: u32,
     seen: Rc<Seen>,
 }
@@ -114,6 +118,8 @@ impl Model {
             made: Vec::new(),
             counted: Balance::default(),
             passed: 0,
+            sum: None,
+            decided: false,
             outcome: EMPTY,
             seen: Rc::clone(&self.seen),
         }

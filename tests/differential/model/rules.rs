@@ -1,4 +1,4 @@
-//! The rules, a trait for each part of docs/RULES.md and of requests C-12, C-16 and C-18. Its methods are the right ones unless overridden;
+//! The rules, a trait for each part of docs/RULES.md and of requests C-12 and C-16 to C-18. Its methods are the right ones unless overridden;
 //! those of one part know nothing of the other parts, and the model joins them.
 
 use super::flush::Flush;
@@ -8,6 +8,7 @@ use super::search::Search;
 use super::settings::Settings;
 use super::step_over::StepOver;
 use super::steps::Steps;
+use super::sums::Sums;
 use super::totals::Totals;
 use super::volume::Volume;
 use super::write::Write;
@@ -57,4 +58,5 @@ parts! {
     flush, Flush;
     totals, Totals;
     step_over, StepOver;
+    sums, Sums;
 }

@@ -10,12 +10,15 @@ use crate::interface::Stream;
 /// Samples per second that the first search is held to.
 pub const COARSE_RATE: usize = 4_000;
 
-/// What a search gives: the period, and the least and the greatest mean difference.
+/// What a search gives: the period and its sum of differences, the least and the greatest mean difference, and whether it met the least mean
+/// twice.
 #[derive(Clone, Copy)]
 pub struct Found {
     pub period: usize,
+    pub sum: usize,
     pub least: Mean,
     pub greatest: Mean,
+    pub tied: bool,
 }
 
 /// A sum of differences over the period that it was taken for.
@@ -35,10 +38,15 @@ impl Mean {
     pub fn below(self, other: Mean) -> bool {
         self.sum * other.period < other.sum * self.period
     }
+
+    /// Whether both are equal, as fractions.
+    pub fn equals(self, other: Mean) -> bool {
+        self.sum * other.period == other.sum * self.period
+    }
 }
 
 /// D(q): the sum of |x[i] − x[i+q]| over i < q, at most 7,692·65,535.
-fn difference(x: &[i16], q: usize) -> Mean {
+pub fn difference(x: &[i16], q: usize) -> Mean {
     let (first, second) = x[..2 * q].split_at(q);
     let sum = first.iter().zip(second).fold(0u32, |sum, (&a, &b)| sum.wrapping_add(u32::from(a.abs_diff(b))));
     Mean { sum: u64::from(sum), period: q as u64 }
@@ -46,15 +54,20 @@ fn difference(x: &[i16], q: usize) -> Mean {
 
 /// The rules of the period search.
 pub trait Search {
-    /// The smallest period with the least mean difference, and the least and the greatest mean.
-    fn search(&self, x: &[i16], low: usize, high: usize) -> Found {
+    /// Whether a stream's value of ties asks for the largest of several best periods.
+    fn asks_for_largest(&self, ties: u32) -> bool {
+        ties != 0
+    }
+
+    /// The smallest or the largest period with the least mean difference, and the least and the greatest mean.
+    fn search(&self, x: &[i16], low: usize, high: usize, largest: bool) -> Found {
         let first = difference(x, low);
-        let mut found = Found { period: low, least: first, greatest: first };
+        let mut found = Found { period: low, sum: first.sum as usize, least: first, greatest: first, tied: false };
         for q in low + 1..=high {
             let mean = difference(x, q);
-            if self.better(mean, found.least) {
-                found.least = mean;
-                found.period = q;
+            found.tied |= mean.equals(found.least);
+            if self.better(mean, found.least, largest) {
+                found = Found { period: q, sum: mean.sum as usize, least: mean, ..found };
             }
             if found.greatest.below(mean) {
                 found.greatest = mean;
@@ -63,9 +76,9 @@ pub trait Search {
         found
     }
 
-    /// Whether a later period's mean is better than the least one.
-    fn better(&self, mean: Mean, least: Mean) -> bool {
-        mean.below(least)
+    /// Whether a later period's mean is better than the least one, or as good where the largest period is asked for.
+    fn better(&self, mean: Mean, least: Mean, largest: bool) -> bool {
+        mean.below(least) || (largest && mean.equals(least))
     }
 
     /// Samples per value of the first search.
@@ -89,20 +102,27 @@ pub trait Search {
     }
 
     /// The search of one step, in the frames from its position on.
-    fn found(&self, x: &[i16], rate: u32, channels: usize) -> Found {
+    fn found(&self, x: &[i16], rate: u32, channels: usize, largest: bool) -> Found {
         let (low, high, required, skip) = (min_period(rate), max_period(rate), max_required(rate), self.skip(rate));
         let mixed = self.mixed(x, channels, required);
         if skip == 1 {
-            return self.search(&mixed, low, high);
+            return self.search(&mixed, low, high, largest);
         }
         let averages = self.averages(x, channels * skip, required / skip);
-        self.second_search(&mixed, rate, self.search(&averages, low / skip, high / skip))
+        let first = self.first_search(&averages, (low / skip, high / skip), largest);
+        let second = self.second_search(&mixed, rate, first, largest);
+        Found { tied: first.tied || second.tied, ..second }
+    }
+
+    /// The first search of two, of averages.
+    fn first_search(&self, averages: &[i16], (low, high): (usize, usize), largest: bool) -> Found {
+        self.search(averages, low, high, largest)
     }
 
     /// The second search, at full rate: its period and its means.
-    fn second_search(&self, x: &[i16], rate: u32, first: Found) -> Found {
+    fn second_search(&self, x: &[i16], rate: u32, first: Found, largest: bool) -> Found {
         let (low, high) = self.second_range(rate, first.period * self.skip(rate));
-        self.search(x, low, high)
+        self.search(x, low, high, largest)
     }
 
     /// The periods of the second search: within 4·skip of the first one's, inside the range.
@@ -137,9 +157,12 @@ pub trait Search {
 impl Model {
     /// The period that the next step uses.
     pub fn period(&self, work: &mut Work) -> usize {
-        let (rules, channels) = (self.rules.search, work.channels());
-        let found = rules.found(&work.input[work.position * channels..], work.stream.rate, channels);
-        if rules.skip(work.stream.rate) > 1 {
+        let (rules, channels, rate) = (self.rules.search, work.channels(), work.stream.rate);
+        let largest = rules.asks_for_largest(work.stream.ties);
+        let x = &work.input[work.position * channels..];
+        let found = rules.found(x, rate, channels, largest);
+        let decided = found.tied && rules.found(x, rate, channels, !largest).period != found.period;
+        if rules.skip(rate) > 1 {
             work.saw(Event::SecondSearch);
         }
         let previous = rules.previous_better(&work.stream, found);
@@ -147,6 +170,9 @@ impl Model {
             work.saw(Event::PreviousPeriod);
         }
         let used = if previous { work.stream.prev_period } else { found.period };
+        let sum = self.rules.sums.sum_of(x, channels, found, used);
+        work.sum = Some(self.rules.sums.after_search(work.sum, sum));
+        work.decided = decided;
         rules.record(&mut work.stream, found, used);
         used
     }

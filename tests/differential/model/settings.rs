@@ -42,20 +42,26 @@ pub trait Settings {
         !CHANNELS.contains(&channels)
     }
 
+    /// The value of ties in a fresh stream: 1 for any number but 0.
+    fn fresh_ties(&self, ties: u32) -> u32 {
+        u32::from(ties != 0)
+    }
+
     /// A fresh stream.
-    fn fresh(&self, rate: u32, channels: u32) -> Stream {
-        Stream { rate, channels, speed: 1.0, pitch: 1.0, volume: 1.0, sample_period: sample_period(rate), ..Stream::default() }
+    fn fresh(&self, rate: u32, channels: u32, ties: u32) -> Stream {
+        let ones = Stream { speed: 1.0, pitch: 1.0, volume: 1.0, ..Stream::default() };
+        Stream { rate, channels, sample_period: sample_period(rate), ties: self.fresh_ties(ties), ..ones }
     }
 
     /// An opening; a refused one carries the number given, and a stream with every field 0.
-    fn opening(&self, rate: u32, channels: u32) -> Opened {
+    fn opening(&self, rate: u32, channels: u32, ties: u32) -> Opened {
         if self.rate_refused(rate) {
             return Opened { refusal: 1, given: rate, stream: Stream::default() };
         }
         if self.channels_refused(channels) {
             return Opened { refusal: 2, given: channels, stream: Stream::default() };
         }
-        Opened { refusal: 0, given: 0, stream: self.fresh(rate, channels) }
+        Opened { refusal: 0, given: 0, stream: self.fresh(rate, channels, ties) }
     }
 
     /// A setting held to its range, a NaN to the lower end.

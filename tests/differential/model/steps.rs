@@ -173,17 +173,20 @@ impl Model {
             work.saw(Event::CopyingAll);
         }
         self.rules.steps.copy_frames(work, s, count);
+        work.sum = self.rules.sums.after_copying(work.sum);
         count
     }
 
     /// A skip step: the frames used, or none if it gave no frame and ends the call.
     fn skip_step(&self, work: &mut Work, s: f32) -> Option<usize> {
-        let (rules, rate) = (&self.rules, work.stream.rate);
+        let (rules, rate, sum) = (&self.rules, work.stream.rate, work.sum);
         let (period, k) = rules.steps.skip_period(s, rate, &mut || self.period(work));
         work.saw(if s < 2.0 { Event::SkipWhole } else { Event::SkipPart });
         let step = Step { s, position: work.position, held: work.held(), period, k };
         if k == 0 {
-            return self.pass_over(work, step);
+            let used = self.pass_over(work, step);
+            work.sum = if used.is_some() { rules.sums.after_passing(sum, work.sum) } else { work.sum };
+            return used;
         }
         rules.steps.skip_frames(work, step);
         work.stream.time_error = rules.steps.error_skipped(&work.stream, step);

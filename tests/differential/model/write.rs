@@ -66,26 +66,27 @@ pub trait Write {
         (play_time * left as f32) / held as f32
     }
 
-    /// Puts what an accepted call gave into the areas, behind the frames waiting, and hands the stream back.
+    /// Puts what an accepted call gave into the areas, behind the frames waiting, and hands the stream back. The sum is told apart.
     fn commit(&self, work: Work, areas: Areas<'_>) -> Wrote {
         let (channels, from) = (work.channels(), work.stream.waiting * work.channels());
         areas.input[..work.input.len()].copy_from_slice(&work.input);
         areas.stage[..work.tail.len()].copy_from_slice(&work.tail);
         areas.output[from..from + work.made.len()].copy_from_slice(&work.made);
         let (held, tail, waiting) = (work.held(), work.tail.len() / channels, work.stream.waiting + work.made.len() / channels);
-        let told = Told { outcome: work.outcome, passed: work.passed };
+        let told = Told { outcome: work.outcome, passed: work.passed, sum: 0 };
         Wrote { refusal: 0, told, stream: Stream { held, tail, waiting, ..work.stream } }
     }
 }
 
 /// What a call needs: frames that the stage has to hold, frames that it makes, and what it adds to the totals; and the frames that it copies
-/// or stretches, and the periods that it passes over.
+/// or stretches, the periods that it passes over, and the sum that it tells.
 pub struct Needs {
     pub staged: usize,
     pub frames: usize,
     pub made: usize,
     pub counted: Balance,
     pub passed: usize,
+    pub sum: usize,
 }
 
 impl Model {
@@ -129,6 +130,7 @@ impl Model {
         let work = self.work(stream, held, &Added { samples: added.to_vec(), play_time }, tail);
         let work = self.process(work, Room { stage: stream.tail + cap, output: cap }).ok()?;
         let (frames, staged) = (work.staged, self.rules.order.stage_needed(&stream, work.staged));
-        Some(Needs { staged, frames, made: work.made.len() / work.channels(), counted: work.stream.balance, passed: work.passed })
+        let (made, sum) = (work.made.len() / work.channels(), self.rules.sums.told(&work));
+        Some(Needs { staged, frames, made, counted: work.stream.balance, passed: work.passed, sum })
     }
 }

@@ -31,7 +31,7 @@ edits! {
     }
     StreamAsItCame, "a write hands the stream back as it came", Write {
         fn commit(&self, work: Work, _: Areas<'_>) -> Wrote {
-            Wrote { refusal: 0, told: Told { outcome: work.outcome, passed: work.passed }, stream: work.entering }
+            Wrote { refusal: 0, told: Told { outcome: work.outcome, passed: work.passed, sum: 0 }, stream: work.entering }
         }
     }
     InventedFrame, "a frame more than was made", Write {

@@ -1,6 +1,6 @@
 //! The wrong edits, numbered from 1: each overrides one rule. They are in the order of the parts of docs/RULES.md; "Contracts" are the
 //! wrong programs of its "How firm each contract is", "Balance" is request C-16, "Stepping over" C-18, "Moving the rest down" C-13, "The tail
-//! at pitch 1" C-12.
+//! at pitch 1" C-12, "Ties" and "The sum" C-17.
 
 /// Makes the edits of a part and the table of them. Each has a name, its words, the rules that it overrides, and its method.
 macro_rules! edits {
@@ -26,7 +26,9 @@ mod search;
 mod settings;
 mod step_over;
 mod steps;
+mod sums;
 mod tail;
+mod ties;
 mod volume;
 mod write;
 
@@ -43,7 +45,8 @@ pub struct Edit {
 /// Every wrong edit, from number 1 on.
 pub fn edits() -> Vec<Edit> {
     let rules = [order::EDITS, settings::EDITS, write::EDITS, search::EDITS, steps::EDITS, rate::EDITS, volume::EDITS, flush::EDITS];
-    [rules.concat(), [contracts::EDITS, balance::EDITS, step_over::EDITS, removal::EDITS, tail::EDITS].concat()].concat()
+    let requests = [contracts::EDITS, balance::EDITS, step_over::EDITS, removal::EDITS, tail::EDITS, ties::EDITS, sums::EDITS];
+    [rules.concat(), requests.concat()].concat()
 }
 
 /// The rules with the wrong edit of a number; 0 is none.

@@ -16,14 +16,14 @@ fn exact(mean: Mean) -> f64 {
 edits! {
     "Period search";
     SilenceHasLongestPeriod, "silence has the longest period", Search {
-        fn search(&self, x: &[i16], low: usize, high: usize) -> Found {
-            let found = Right.search(x, low, high);
+        fn search(&self, x: &[i16], low: usize, high: usize, largest: bool) -> Found {
+            let found = Right.search(x, low, high, largest);
             if found.greatest.sum == 0 { Found { period: high, ..found } } else { found }
         }
     }
     MeansOfFirstSearch, "the means of the first search", Search {
-        fn second_search(&self, x: &[i16], rate: u32, first: Found) -> Found {
-            Found { period: Right.second_search(x, rate, first).period, ..first }
+        fn second_search(&self, x: &[i16], rate: u32, first: Found, largest: bool) -> Found {
+            Found { period: Right.second_search(x, rate, first, largest).period, ..first }
         }
     }
     MeansComparedExactly, "means compared with their fractions", Search {
@@ -42,8 +42,8 @@ edits! {
     SkipAboveEightThousand, "skip 1 up to 8,000 Hz", Search {
         fn skip(&self, rate: u32) -> usize { if rate as usize > 2 * COARSE_RATE { Right.skip(rate) } else { 1 } }
     }
-    TieToLaterPeriod, "a tie goes to the later period", Search {
-        fn better(&self, mean: Mean, least: Mean) -> bool { !least.below(mean) }
+    TieToLaterPeriod, "a tie goes to the later period by either choice", Search {
+        fn better(&self, mean: Mean, least: Mean, _: bool) -> bool { !least.below(mean) }
     }
     MeanRoundedDown, "the mean of negatives rounded down", Search {
         fn average(&self, samples: &[i16]) -> i16 {
@@ -75,6 +75,8 @@ edits! {
         }
     }
     LongestPeriodLeftOut, "the longest period left out", Search {
-        fn search(&self, x: &[i16], low: usize, high: usize) -> Found { Right.search(x, low, if high > low { high - 1 } else { high }) }
+        fn search(&self, x: &[i16], low: usize, high: usize, largest: bool) -> Found {
+            Right.search(x, low, if high > low { high - 1 } else { high }, largest)
+        }
     }
 }

@@ -30,15 +30,15 @@ edits! {
         }
     }
     GivenIsTheRate, "2 carries the rate", Settings {
-        fn opening(&self, rate: u32, channels: u32) -> Opened {
-            let opened = Right.opening(rate, channels);
+        fn opening(&self, rate: u32, channels: u32, ties: u32) -> Opened {
+            let opened = Right.opening(rate, channels, ties);
             if opened.refusal == 2 { Opened { given: rate, ..opened } } else { opened }
         }
     }
     RefusedOpeningIsFresh, "a refused opening hands back a fresh stream", Settings {
-        fn opening(&self, rate: u32, channels: u32) -> Opened {
-            let opened = Right.opening(rate, channels);
-            if opened.refusal == 0 { opened } else { Opened { stream: Right.fresh(rate.max(1), channels), ..opened } }
+        fn opening(&self, rate: u32, channels: u32, ties: u32) -> Opened {
+            let opened = Right.opening(rate, channels, ties);
+            if opened.refusal == 0 { opened } else { Opened { stream: Right.fresh(rate.max(1), channels, 0), ..opened } }
         }
     }
     LowestRateRefused, "1,000 Hz refused", Settings {

@@ -144,11 +144,11 @@ edits! {
         }
     }
     FreshStepsOver, "a fresh stream steps over", Settings {
-        fn fresh(&self, rate: u32, channels: u32) -> Stream { Stream { step_over: 1, ..Right.fresh(rate, channels) } }
+        fn fresh(&self, rate: u32, channels: u32, ties: u32) -> Stream { Stream { step_over: 1, ..Right.fresh(rate, channels, ties) } }
     }
     RefusedOpeningStepsOver, "a refused opening's stream steps over", Settings {
-        fn opening(&self, rate: u32, channels: u32) -> Opened {
-            let opened = Right.opening(rate, channels);
+        fn opening(&self, rate: u32, channels: u32, ties: u32) -> Opened {
+            let opened = Right.opening(rate, channels, ties);
             if opened.refusal == 0 { opened } else { Opened { stream: Stream { step_over: 1, ..opened.stream }, ..opened } }
         }
     }
