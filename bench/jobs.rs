@@ -1,6 +1,6 @@
 
 // ---- Whole jobs of Kelpladder beside the stream above. This text is joined to the original's, which is otherwise unchanged. A job that steps
-// over is beside a copy of the original's text with one return taken out, the module `passing`.
+// over is beside a copy of the original's text with one return taken out, in the module `judges`.
 // `jobs` compares the frames of both sides and prints for each job and reel: its name, our time over the original's (medians of
 // interleaved rounds over the whole reel), and both medians in milliseconds. Times are processor times of the thread, so that other work
 // on the machine counts less. Both sides read in their own way: the original gives a new vector, ours fills a slice that is lent.
@@ -15,8 +15,8 @@
 mod calls;
 #[path = "../../bench/jobs/instructions.rs"]
 mod instructions;
-#[path = "../passing.rs"]
-mod passing;
+#[path = "../judges.rs"]
+mod judges;
 #[path = "../../bench/jobs/reels.rs"]
 mod reels;
 #[path = "../../bench/jobs/sides.rs"]
@@ -30,6 +30,7 @@ mod times;
 #[path = "../../bench/jobs/tool.rs"]
 mod tool;
 
+use judges::stepping_over;
 use reels::{pairs, samples_of, Job, Reel};
 use sides::{Ours, Side};
 use std::hint::black_box;
@@ -89,7 +90,7 @@ fn beside<Original: Side>(job: Job, reel: Reel, samples: &[f32]) {
 /// The same with the original, or with its copy that steps over if the job does.
 fn beside_original(job: Job, reel: Reel) {
     let samples = samples_of(reel);
-    if job.step_over { beside::<passing::SonicStream>(job, reel, &samples) } else { beside::<SonicStream>(job, reel, &samples) }
+    if job.step_over { beside::<stepping_over::SonicStream>(job, reel, &samples) } else { beside::<SonicStream>(job, reel, &samples) }
 }
 
 fn find_job(name: &str) -> Job {

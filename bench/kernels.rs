@@ -14,12 +14,13 @@ struct Search {
     period: usize,
     min_diff: usize,
     max_diff: usize,
+    sum: usize,
 }
 
 extern "C" {
     fn kernel_samples_in(source: *const f32, source_len: usize, area: *mut i16, area_len: usize);
     fn kernel_samples_out(area: *const i16, area_len: usize, slice: *mut f32, slice_len: usize);
-    fn kernel_find_pitch_period_in_range(samples: *const i16, len: usize, low: usize, high: usize) -> Search;
+    fn kernel_find_pitch_period_in_range(samples: *const i16, len: usize, low: usize, high: usize, ties: u32) -> Search;
     fn kernel_down_sample_input(samples: *const i16, len: usize, out: *mut i16, out_len: usize, count: usize, per: usize);
     fn kernel_interpolate_frame(
         table: *const i16, table_len: usize, stage: *const i16, stage_len: usize, channels: usize, ratio: usize, width: usize, out: *mut i16, out_len: usize,
@@ -96,18 +97,24 @@ fn bench_samples_out() {
     assert_eq!(slice, given);
 }
 
+/// Searches of a voice without ties, in which both choices find what the original finds.
 fn bench_search() {
     for (low, high, period) in [(10, 61, 31), (20, 123, 62), (110, 678, 339)] {
         let x = voice(2 * high, 1, period);
         let theirs = find_pitch_period_in_range(&x, low as i32, high as i32);
-        let ours = unsafe { kernel_find_pitch_period_in_range(x.as_ptr(), x.len(), low, high) };
-        assert_eq!((ours.period as i32, ours.min_diff as i32, ours.max_diff as i32), theirs);
-        beside(
-            &format!("search {low}..{high}"),
-            if high > 200 { 20 } else { 400 },
-            || unsafe { black_box(kernel_find_pitch_period_in_range(black_box(x.as_ptr()), x.len(), low, high)).period; },
-            || { black_box(find_pitch_period_in_range(black_box(&x), black_box(low as i32), black_box(high as i32))); },
-        );
+        let differences = (0..theirs.0 as usize).map(|i| usize::from(x[i].abs_diff(x[i + theirs.0 as usize])));
+        let sum: usize = differences.sum();
+        for (ties, choice) in [(0, ""), (1, ", largest")] {
+            let search = || unsafe { kernel_find_pitch_period_in_range(black_box(x.as_ptr()), x.len(), low, high, ties) };
+            let ours = search();
+            assert_eq!((ours.period as i32, ours.min_diff as i32, ours.max_diff as i32, ours.sum), (theirs.0, theirs.1, theirs.2, sum));
+            beside(
+                &format!("search {low}..{high}{choice}"),
+                if high > 200 { 20 } else { 400 },
+                || { black_box(search()); },
+                || { black_box(find_pitch_period_in_range(black_box(&x), black_box(low as i32), black_box(high as i32))); },
+            );
+        }
     }
 }
 

@@ -19,6 +19,10 @@ ONE = f"skim: frames_in=40000 frames_out=1246 {UNSTALLED} skipped=39630 inserted
 TWO = f"skim: frames_in=40000 frames_out=1170 {UNSTALLED} skipped=39661 inserted=0 passed=99 passed_frames=3366 status=0"
 ONE_CUT = "stalls=0 stalled_at=none flush_stalled_at=39816 refusal=0 skipped=39184 inserted=0 passed=0 passed_frames=0 status=0"
 TWO_CUT = "stalls=14004 stalled_at=25732 flush_stalled_at=none refusal=0 skipped=25322 inserted=0 passed=0 passed_frames=0 status=1"
+# Those with the longest of several best periods.
+ONE_LONGEST = f"skim: frames_in=40000 frames_out=1258 {UNSTALLED} skipped=39616 inserted=0 passed=0 passed_frames=0 status=0"
+TWO_LONGEST = f"skim: frames_in=40000 frames_out=1182 {UNSTALLED} skipped=39767 inserted=0 passed=99 passed_frames=3366 status=0"
+SILENT_LONGEST = f"skim: frames_in=8000 frames_out=372 {UNSTALLED} skipped=8118 inserted=0 passed=0 passed_frames=0 status=0"
 HEAD = "first_frame\tframes\tstart_seconds\tlength_seconds"
 
 
@@ -73,6 +77,25 @@ def test_as_original():
     assert skim(reel("62:24000", "34:16000"))[0].startswith(two)
 
 
+def test_longest_period():
+    """Of several periods that fit equally well the longest: silence then has 123 frames in place of 20, and each period of it gives 3."""
+    for data, last in ((reel("62:40000"), ONE_LONGEST), (reel("62:24000", "34:16000"), TWO_LONGEST), (reel("0:8000"), SILENT_LONGEST)):
+        out, told, status = skim(data, "--longest-period")
+        assert (told[-1], status, f" frames_out={len(out) // 2} " in told[-1]) == (last, 0, True), told
+        assert skim(data, "--longest-period", *"8000 1 20 0.5".split()) == (out, told, status)
+    # Silence gives no line of the map, and does not stall either.
+    assert skim_with_map(reel("0:8000"), "--longest-period")[2] == []
+    for order in (("--as-original", "--longest-period"), ("--longest-period", "--as-original")):
+        out, told, status = skim(reel("0:8000"), *order)
+        assert (out, told[-1], status) == (bytes(2 * 372), SILENT_LONGEST, 0), told
+        out, told, status = skim(reel("62:24000", "34:16000"), *order)
+        assert told[-1] == f"skim: frames_in=40000 frames_out=796 {TWO_CUT}" and status == 1, told
+    # An exact repeat of 20 frames has the periods 20, 40 to 120: the shortest gives no frame, the longest gives 3.
+    repeats = samples(400 * (i % 20) for i in range(8000))
+    assert skim(repeats, "--as-original")[2] == 1
+    assert skim(repeats, "--as-original", "--longest-period")[2] == 0
+
+
 def samples(values):
     return b"".join(v.to_bytes(2, "little", signed=True) for v in values)
 
@@ -103,6 +126,7 @@ def test_stopped():
 
 
 def test_version():
+    assert skim(b"", "--longest-period", "--version") == skim(b"", "--version")
     assert skim(b"", "--version") == skim(b"", "--as-original", "--version") == (b"skim (kelpladder) 0.2.0\n", [], 0)
 
 
@@ -214,8 +238,12 @@ def test_bad_usage():
         "no room": ("500000 32 0.05 1", "--map /dev/null 500000 32 0.05 1"),
         "before the numbers may stand": ("--as-original --as-original", "--map /dev/null --map /dev/null", "--other", "--help --as-original", "--version 8000",
                                          "--as-original --status", "8000 1 1 1 --as-original", "8000 1 1 1 --map /dev/null",
-                                         "--as-original --map /dev/null --as-original 8000 1 1 1"),
-        "--map has to be followed": ("--map", "--as-original --map", "--map --as-original", "--map --help"),
+                                         "--as-original --map /dev/null --as-original 8000 1 1 1", "--longest-period --longest-period",
+                                         "--longest-period --as-original --longest-period 8000 1 1 1", "8000 1 1 1 --longest-period",
+                                         "--longest", "--longest-periods", "--longest-period=1", "--help --longest-period",
+                                         "--longest-period --status"),
+        "--map has to be followed": ("--map", "--as-original --map", "--map --as-original", "--map --help", "--map --longest-period",
+                                     "--longest-period --map"),
     }
     for name, lines in wrong.items():
         for line in lines:
@@ -227,7 +255,8 @@ def test_help():
     out, told, status = skim(b"", "--help")
     assert out.startswith(b"usage: skim ") and (told, status) == ([], 0), (out, told)
     assert all(len(line) <= 110 for line in out.splitlines()), out
-    assert skim(b"", "--as-original", "--help") == (out, [], 0)
+    assert skim(b"", "--as-original", "--help") == skim(b"", "--longest-period", "--help") == (out, [], 0)
+    assert b"--longest-period" in out, out
 
 
 def test_failed_read():

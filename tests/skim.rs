@@ -1,7 +1,7 @@
-// Joined to the text of the Rust original, or to the copy of it that steps over (tools/passing.py): either one driven through
-// the writes that the skim tool makes, with --as-original or without. Arguments and files are the tool's, and --map FILE may stand before
-// them; standard error gets the tool's last line, without its status. After a write that stalls the next one is tried, until a flush would
-// have no room behind another frame.
+// Joined to the text of the Rust original, or to a copy of it (tools/judges.py) that steps over, as the tool does without --as-original,
+// or finds the largest of several best periods, as it does with --longest-period, or both: driven through the writes that the skim tool
+// makes. Arguments and files are the tool's, and --map FILE may stand before them; standard error gets the tool's last line, without its
+// status. After a write that stalls the next one is tried, until a flush would have no room behind another frame.
 use std::io::{Read, Write};
 
 // The samples that are read at a time, and those of the tool's areas.

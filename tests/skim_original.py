@@ -1,9 +1,11 @@
 #!/usr/bin/env python3
-"""The skim tool beside the Rust original: skim_original.py TOOL ORIGINAL STEPPING ROUNDS [SEED].
+"""The skim tool beside the Rust original: skim_original.py TOOL ORIGINAL STEPPING LARGEST BOTH ROUNDS [SEED].
 
-TOOL is the proved program, ORIGINAL the original joined with tests/skim.rs, STEPPING the same with the copy of the original that steps
-over. Each round takes arguments and a reel at random, runs the tool beside STEPPING and, with --as-original, beside ORIGINAL, and compares
-every byte, the counts of the last line and the map. A job that the tool has no room for has to write nothing and end in status 2.
+TOOL is the proved program, ORIGINAL the original joined with tests/skim.rs; STEPPING, LARGEST and BOTH are the same with a copy of the
+original that steps over, that finds the largest of several best periods, and that does both. Each round takes arguments and a reel at
+random and runs the tool beside STEPPING and, with --as-original, beside ORIGINAL; or with --longest-period beside BOTH and, with
+--as-original too, beside LARGEST. It compares every byte, the counts of the last line and the map. A job that the tool has no room for has
+to write nothing and end in status 2.
 """
 import random
 import re
@@ -73,21 +75,21 @@ def job(r):
     return words, reel(r, r.choice(sizes) * r.choice((1, channels)))
 
 
-def run(folder, words, options, data):
-    """The bytes, standard error, and the map."""
+def run(folder, words, options, place, data):
+    """The bytes, standard error, and the map, which is asked for at that place among the options."""
     path = Path(folder, "map")
     path.unlink(missing_ok=True)
-    done = subprocess.run([words[0], *options, "--map", path, *words[1:]], input=data, capture_output=True)
+    done = subprocess.run([words[0], *options[:place], "--map", path, *options[place:], *words[1:]], input=data, capture_output=True)
     return done.stdout, done.stderr.decode(), path.read_text() if path.exists() else None
 
 
 def compare(folder, tool, options, judge, words, data):
     """What the tool says of a job, in which it is to do as the judge does; nothing of one that it has no room for."""
-    ours, said, our_map = run(folder, [tool] + words, options, data)
+    ours, said, our_map = run(folder, [tool] + words, options, len(data) % (len(options) + 1), data)
     if said.endswith("skim: status=2\n"):
         assert ours == b"" and "no room" in said and our_map is None, (words, said)
         return ""
-    theirs, counts, their_map = run(folder, [judge] + words, [], data)
+    theirs, counts, their_map = run(folder, [judge] + words, [], 0, data)
     assert ours == theirs, (words, options, len(ours), len(theirs), said, counts)
     assert LAST.search(said).group(1) == counts.strip(), (words, options, said, counts)
     assert our_map == their_map, (words, options, our_map, their_map)
@@ -95,25 +97,30 @@ def compare(folder, tool, options, judge, words, data):
 
 
 def main():
-    tool, original, stepping, rounds = *sys.argv[1:4], int(sys.argv[4])
-    r = random.Random(int(sys.argv[5]) if len(sys.argv) > 5 else 1)
-    served = stalls = left = passing = periods = 0
+    tool, original, stepping, largest, both, rounds = *sys.argv[1:6], int(sys.argv[6])
+    r = random.Random(int(sys.argv[7]) if len(sys.argv) > 7 else 1)
+    served = stalls = left = passing = periods = longest = others = 0
     with tempfile.TemporaryDirectory() as folder:
         # Two reels on which the original stalls and goes on: 10.5/0.5 and 17.85/0.35.
         for words, data in (edge(0.5, 20, 40000), edge(0.35, 50, 40000)):
             assert "the flush left the stall" in compare(folder, tool, ["--as-original"], original, words, data), words
         for _ in range(rounds):
             words, data = job(r)
-            said = compare(folder, tool, [], stepping, words, data)
+            options, stepping_judge, plain_judge = r.choice((([], stepping, original), (["--longest-period"], both, largest)))
+            said = compare(folder, tool, options, stepping_judge, words, data)
             if not said:
                 continue
             served += 1
+            if options:
+                longest, others = longest + 1, others + (run(folder, [stepping] + words, [], 0, data) != run(folder, [both] + words, [], 0, data))
             passed = int(re.search(r" passed=(\d+)", said).group(1))
             passing, periods = passing + (passed > 0), periods + passed
-            said = compare(folder, tool, ["--as-original"], original, words, data)
+            said = compare(folder, tool, r.sample(options + ["--as-original"], len(options) + 1), plain_judge, words, data)
             stalls, left = stalls + ("stalls=0 " not in said), left + ("the flush left the stall" in said)
+    assert 5 * others > longest, f"with the longest periods {others} tracks of {longest} are others"
     print(f"skim: {rounds} jobs, {served} served, the same bytes, counts and maps as the original, which stalled in {stalls} and in {left} of them left every stall,", end=" ")
-    print(f"and as its copy that steps over, which passed over {periods} pitch periods in {passing}")
+    print(f"and as its copy that steps over, which passed over {periods} pitch periods in {passing}; {longest} of the jobs with the longest of several best periods,", end=" ")
+    print(f"which gave another track in {others}")
 
 
 main()

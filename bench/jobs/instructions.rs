@@ -2,7 +2,8 @@
 
 use crate::reels::{job, pairs, Job, Reel, MINUTE};
 use crate::sides::{Ours, Side};
-use crate::{line_name, passing, run, SonicStream};
+use crate::judges::stepping_over;
+use crate::{line_name, run, SonicStream};
 use std::hint::black_box;
 use std::process::Command;
 
@@ -16,7 +17,7 @@ pub extern "C" fn measured(ours: bool, job: &Job, reel: &Reel, samples: &Vec<f32
     if ours {
         run::<Ours>(*job, *reel, samples, &mut sink);
     } else if job.step_over {
-        run::<passing::SonicStream>(*job, *reel, samples, &mut sink);
+        run::<stepping_over::SonicStream>(*job, *reel, samples, &mut sink);
     } else {
         run::<SonicStream>(*job, *reel, samples, &mut sink);
     }

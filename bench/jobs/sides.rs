@@ -1,7 +1,7 @@
 //! The two implementations, as a job uses them.
 
 use crate::calls;
-use crate::passing;
+use crate::judges::stepping_over;
 use crate::reels::{Job, Reel};
 use crate::SonicStream;
 use std::hint::black_box;
@@ -109,4 +109,4 @@ macro_rules! original_side {
 }
 
 original_side!(SonicStream);
-original_side!(passing::SonicStream);
+original_side!(stepping_over::SonicStream);

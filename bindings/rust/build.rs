@@ -13,8 +13,8 @@ const REPOSITORY: &str = "../..";
 /// The original, from this package; KELPLADDER_ORIGINAL names another place.
 const ORIGINAL: &str = "../../../shared/docs/src/src/lib.rs";
 
-/// What ends a call of the original at a step that gave no frame. Without it, the original steps over.
-const RETURN: &str = "                if new_samples == 0 {\n                    return;\n                }\n";
+/// The copies of the original that the tests compare with, as tools/judges.py names and makes them.
+const COPIES: [&str; 3] = ["stepping_over", "largest", "largest_stepping_over"];
 
 fn package() -> PathBuf {
     PathBuf::from(env::var_os("CARGO_MANIFEST_DIR").expect("cargo names the package's folder"))
@@ -58,14 +58,18 @@ fn link() {
     println!("cargo::rustc-link-lib=static=sonic_c");
 }
 
-/// Writes a copy of the original that steps over.
-fn write_passing(original: &Path, copy: &Path) {
-    let text = fs::read_to_string(original).expect("the original can be read");
-    assert_eq!(text.matches(RETURN).count(), 1, "one place of {} ends a call at a step that gave no frame", original.display());
-    fs::write(copy, text.replace(RETURN, "")).expect("the copy can be written");
+/// Writes a copy of the original to a folder, and gives its place.
+fn write_copy(original: &Path, name: &str, folder: &Path) -> PathBuf {
+    let tool = package().join(REPOSITORY).join("tools/judges.py");
+    println!("cargo::rerun-if-changed={}", tool.display());
+    let made = Command::new("python3").arg(&tool).arg(original).arg(name).output().expect("python3 runs tools/judges.py");
+    assert!(made.status.success(), "{}", String::from_utf8_lossy(&made.stderr));
+    let copy = folder.join(name).with_extension("rs");
+    fs::write(&copy, made.stdout).expect("the copy can be written");
+    copy
 }
 
-/// Writes the modules that the tests include: the original's text, in its place, if it is there, and a copy that steps over.
+/// Writes the modules that the tests include: the original's text, in its place, if it is there, and its copies.
 fn find_original() {
     let path = env::var_os("KELPLADDER_ORIGINAL").map_or_else(|| package().join(ORIGINAL), PathBuf::from);
     println!("cargo::rerun-if-env-changed=KELPLADDER_ORIGINAL");
@@ -73,10 +77,9 @@ fn find_original() {
     println!("cargo::rustc-check-cfg=cfg(original)");
     if let Ok(path) = path.canonicalize() {
         let folder = PathBuf::from(env::var_os("OUT_DIR").expect("cargo names a folder for this script"));
-        let passing = folder.join("passing.rs");
-        write_passing(&path, &passing);
         let module = |name, path: &Path| format!("#[allow(dead_code, unused_variables)]\n#[path = {path:?}]\nmod {name};\n");
-        let text = module("original", &path) + &module("passing", &passing);
+        let copies = COPIES.map(|name| module(name, &write_copy(&path, name, &folder)));
+        let text = module("original", &path) + &copies.concat();
         fs::write(folder.join("original.rs"), text).expect("the module can be written");
         println!("cargo::rustc-cfg=original");
     }

@@ -4,23 +4,30 @@
 mod common;
 
 use common::signals::{saw, Congruential};
-use common::{run, summary, Stretcher, CASES};
-use kelpladder::{Outcome, SonicStream};
+use common::{run, summary, Case, Stretcher, CASES};
+use kelpladder::{Outcome, SonicStream, Ties};
 
 include!(concat!(env!("OUT_DIR"), "/original.rs"));
 
 stretcher!(SonicStream);
 stretcher!(original::SonicStream);
-stretcher!(passing::SonicStream);
+stretcher!(stepping_over::SonicStream);
+stretcher!(largest::SonicStream);
+stretcher!(largest_stepping_over::SonicStream);
 
-/// Ours, stepping over from the opening on.
-struct SteppingOver(SonicStream);
+/// Ours, with a choice of ties, and stepping over from the opening on or not.
+struct Chosen<const LARGEST: bool, const OVER: bool>(SonicStream);
 
-impl Stretcher for SteppingOver {
+type SteppingOver = Chosen<false, true>;
+type Largest = Chosen<true, false>;
+type LargestSteppingOver = Chosen<true, true>;
+
+impl<const LARGEST: bool, const OVER: bool> Stretcher for Chosen<LARGEST, OVER> {
     fn open(rate: u32, channels: u32) -> Self {
-        let mut stream: SonicStream = Stretcher::open(rate, channels);
-        stream.set_step_over(true);
-        SteppingOver(stream)
+        let ties = if LARGEST { Ties::Largest } else { Ties::Smallest };
+        let mut stream = SonicStream::with_ties(rate, channels, ties).expect("in range");
+        stream.set_step_over(OVER);
+        Chosen(stream)
     }
 
     fn set(&mut self, speed: f32, pitch: f32, volume: f32) {
@@ -28,11 +35,11 @@ impl Stretcher for SteppingOver {
     }
 
     fn write(&mut self, samples: &[f32]) {
-        assert_ne!(self.0.write_f32(samples).outcome, Outcome::Stalled);
+        assert!(self.0.write_f32(samples).outcome != Outcome::Stalled || !OVER);
     }
 
     fn flush(&mut self) {
-        assert_ne!(self.0.flush().outcome, Outcome::Stalled);
+        assert!(self.0.flush().outcome != Outcome::Stalled || !OVER);
     }
 
     fn available(&self) -> usize {
@@ -55,9 +62,8 @@ struct Pair<A, B> {
     channels: usize,
 }
 
-/// Ours and the original; ours stepping over, and the original's copy that does.
+/// Ours and the original.
 type Plain = Pair<SonicStream, original::SonicStream>;
-type Passing = Pair<SteppingOver, passing::SonicStream>;
 
 impl<A: Stretcher, B: Stretcher> Pair<A, B> {
     fn open(rate: u32, channels: u32) -> Self {
@@ -137,12 +143,18 @@ fn pseudorandom_calls_give_the_same() {
 
 #[test]
 fn pseudorandom_calls_stepping_over_give_the_same() {
-    (0..50).for_each(random::<SteppingOver, passing::SonicStream>);
+    (0..50).for_each(random::<SteppingOver, stepping_over::SonicStream>);
 }
 
 #[test]
-fn skim_tracks_stepping_over_give_the_same() {
-    let mut pair = Passing::open(8_000, 1);
+fn pseudorandom_calls_with_the_largest_give_the_same() {
+    (0..50).for_each(random::<Largest, largest::SonicStream>);
+    (0..50).for_each(random::<LargestSteppingOver, largest_stepping_over::SonicStream>);
+}
+
+/// A skim track of voices and silence.
+fn skim_track<A: Stretcher, B: Stretcher>() {
+    let mut pair: Pair<A, B> = Pair::open(8_000, 1);
     pair.set(20.0, 0.5, 1.0);
     for (period, noise) in [(62, 0), (34, 300), (20, 0), (90, 3_000), (34, 0), (75, 300)] {
         saw(0, 9_000, 1, period, noise).chunks(700).for_each(|chunk| pair.write(chunk));
@@ -153,10 +165,24 @@ fn skim_tracks_stepping_over_give_the_same() {
 }
 
 #[test]
+fn skim_tracks_give_the_same() {
+    skim_track::<SteppingOver, stepping_over::SonicStream>();
+    skim_track::<Largest, largest::SonicStream>();
+    skim_track::<LargestSteppingOver, largest_stepping_over::SonicStream>();
+}
+
+/// Runs a case on both sides.
+fn same_run<A: Stretcher, B: Stretcher>(case: &Case) {
+    assert_eq!(bits(&run::<A>(case)), bits(&run::<B>(case)), "{}", case.name);
+}
+
+#[test]
 fn runs_give_the_same() {
     for case in &CASES {
-        assert_eq!(bits(&run::<SonicStream>(case)), bits(&run::<original::SonicStream>(case)), "{}", case.name);
-        assert_eq!(bits(&run::<SteppingOver>(case)), bits(&run::<passing::SonicStream>(case)), "{}, stepping over", case.name);
+        same_run::<SonicStream, original::SonicStream>(case);
+        same_run::<SteppingOver, stepping_over::SonicStream>(case);
+        same_run::<Largest, largest::SonicStream>(case);
+        same_run::<LargestSteppingOver, largest_stepping_over::SonicStream>(case);
     }
 }
 
