@@ -1,6 +1,6 @@
 -- What every call's work tells. Here:
---   told-exactly          it answers stalled exactly when stepping over is off and one of its steps gives no frame, and tells as many periods
---                         as its steps pass over
+--   told-exactly          it answers stalled exactly when stepping over is off and one of its steps gives no frame, tells as many periods
+--                         as its steps pass over, and the sum 0 if none of them searches
 --   passed-alone          of few frames, it takes one step where it passes over a period
 -- Assumes nothing.
 use mathlib.Core.Path.{_≡_, refl}
@@ -21,6 +21,7 @@ use Rattle.stretch.specs.Speed as Speed
 use Rattle.stretch.proofs.OneStep as OneStep
 use Rattle.stretch.proofs.Taken.{none-some}
 use Rattle.stretch.proofs.StepOver.{over-never-stalls, off-passes-none}
+use Rattle.stretch.proofs.Sums.{searched, sum-kept}
 use Rattle.stream.specs.State.{State, stepsOver}
 use Rattle.fill.specs.declared.Told.{Told}
 use Rattle.fill.specs.declared.Outcome.{Outcome}
@@ -39,12 +40,17 @@ PassesExactly over t =
 none-passed : {n : ℕ} {o : Outcome} → n ≡ 0 → 1 ≤ n → o ≡ Stretched
 none-passed e some = absurd (none-some e some)
 
+-- no sum is told without a search
+abbrev SumsExactly : Taken → Type 0
+SumsExactly t = searched (t .steps) ≡ false → t .told .sum ≡ 0
+
 -- what is told of a call, by its steps and by whether it steps over
 pub record ToldExactly (over : Bool) (o : Told) (steps : List Step) : Type 0 where
   pub stalled : StallsExactly over (o .outcome) steps
   pub passed : o .passed ≡ tally steps .passed
   pub off : over ≡ false → o .passed ≡ 0
   pub stretched : 1 ≤ o .passed → o .outcome ≡ Stretched
+  pub no-search : searched steps ≡ false → o .sum ≡ 0
 
 module _ (s : State) (h : Held s) where
   abbrev y : Float
@@ -52,6 +58,17 @@ module _ (s : State) (h : Held s) where
 
   abbrev on : Bool
   on = stepsOver (s .«step_over»)
+
+  -- what holds of each kind of work holds of the call's
+  by-kind : (P : Taken → Type 0) → ((o : Outcome) → P (nothing o s)) → P (stretched y s) → P (copied s) → P (taken s)
+  unfolding taken takenAt
+  by-kind P none some all = go (eqb (length (s .input)) 0) (speedChanges y) (ltb (length (s .input)) (maxRequired (s .rate)))
+    where
+      go : (empty changes few : Bool) → P (cond empty (nothing Empty s) (cond changes (cond few (nothing Waiting s) (stretched y s)) (copied s)))
+      go true changes few = none Empty
+      go false true true = none Waiting
+      go false true false = some
+      go false false few = all
 
   nothing-passed : (o : Outcome) → PassesExactly on (nothing o s)
   unfolding nothing tally
@@ -73,20 +90,17 @@ module _ (s : State) (h : Held s) where
       by true e some = rw (over-never-stalls (callAt y s) (flat (s .input)) (placeOf s) (held-ready s h) (h .prev) e)
       by false e some = none-passed (off-none e) some
 
-  at-passed : (none changes few : Bool) → PassesExactly on (cond none (nothing Empty s) (cond changes (cond few (nothing Waiting s) (stretched y s)) (copied s)))
-  at-passed true changes few = nothing-passed Empty
-  at-passed false true true = nothing-passed Waiting
-  at-passed false true false = stretched-passed
-  at-passed false false few = copied-passed
-
   taken-passed : PassesExactly on (taken s)
-  unfolding taken takenAt
-  taken-passed = at-passed (eqb (length (s .input)) 0) (speedChanges y) (ltb (length (s .input)) (maxRequired (s .rate)))
+  taken-passed = by-kind (PassesExactly on) nothing-passed stretched-passed copied-passed
+
+  taken-sum : SumsExactly (taken s)
+  unfolding nothing copied stretched
+  taken-sum = by-kind SumsExactly (λ o e. refl) (sum-kept (callAt y s) (flat (s .input)) (stepsAt y s) (placeOf s)) (λ e. refl)
 
   pub told-exactly : ToldExactly on (process s .told) (process s .steps)
   unfolding process finished
   told-exactly =
-      record { stalled = stalled-exactly s h; passed = taken-passed .0; off = taken-passed .1; stretched = taken-passed .2 }
+      record { stalled = stalled-exactly s h; passed = taken-passed .0; off = taken-passed .1; stretched = taken-passed .2; no-search = taken-sum }
 
   -- ---- with fewer frames than a search looks at and the shortest period more
 
@@ -106,12 +120,6 @@ module _ (s : State) (h : Held s) where
     unfolding stretched
     stretched-alone some = (_, OneStep.passed-alone (flat (s .input)) (held-ready s h) (placeOf s) (h .prev) (omega (arith, few)) some)
 
-    at-alone : (none changes small : Bool) → Alone (cond none (nothing Empty s) (cond changes (cond small (nothing Waiting s) (stretched y s)) (copied s)))
-    at-alone true changes small = nothing-alone Empty
-    at-alone false true true = nothing-alone Waiting
-    at-alone false true false = stretched-alone
-    at-alone false false small = copied-alone
-
     pub passed-alone : 1 ≤ process s .told .passed → (period : Frames) × (process s .steps ≡ Step.Passed period ∷ [])
-    unfolding process finished taken takenAt
-    passed-alone = at-alone (eqb (length (s .input)) 0) (speedChanges y) (ltb (length (s .input)) (maxRequired (s .rate)))
+    unfolding process finished
+    passed-alone = by-kind Alone nothing-alone stretched-alone copied-alone

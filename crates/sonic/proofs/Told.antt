@@ -1,6 +1,6 @@
--- Demand 1 and C-18: an accepted write or flush answers stalled exactly when stepping over is off and one of its stretch steps
--- gives no frame; it tells as many periods as its steps pass over, none if that is off; and where it tells one, it answers stretched. Assumes
--- nothing.
+-- Demand 1, C-17 and C-18: an accepted write or flush answers stalled exactly when stepping over is off and one of its stretch steps
+-- gives no frame; it tells as many periods as its steps pass over, none if that is off; where it tells one, it answers stretched; and it tells
+-- the sum 0 where none of its steps searches. Assumes nothing.
 use mathlib.Core.Path.{_≡_, refl, sym, subst}
 use mathlib.Core.List.{List, map}
 use Prim.Native.Nat.{ℕ, zero, suc, _*_}

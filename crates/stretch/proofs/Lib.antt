@@ -7,6 +7,7 @@ pub mod Outcome
 pub mod Taken
 pub mod Balance
 pub mod StepOver
+pub mod Sums
 pub mod OneStep
 pub mod Claims
 pub mod Growth
