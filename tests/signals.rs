@@ -295,6 +295,27 @@ pub fn pulses(frames: usize, period: usize) -> Vec<i16> {
     (0..frames).map(|at| if at % period == 0 { 9_000 } else { ((at % period) * 37) as i16 }).collect()
 }
 
+/// The offsets of six blocks, as multiples of a step d, at which the block, twice and three times it have the same mean of differences, d: one
+/// block differs from the next by d; two from the next two by d and d; three from the next three by 2d, 0 and d.
+pub const TIED: [i16; 6] = [0, 1, 1, 2, 1, 2];
+
+/// A voice of one block of samples, of a period in frames, that repeats, each repeat with an offset of its own.
+pub fn blocks(period: usize, frames: usize, offset: impl Fn(usize) -> i16) -> Vec<i16> {
+    let mut noise = Congruential(period as u32);
+    let block: Vec<i16> = (0..period).map(|_| 1_000 + noise.below(9_000) as i16).collect();
+    (0..frames).map(|i| block[i % period] + offset(i / period)).collect()
+}
+
+/// A choir of such blocks with the offsets of `TIED`; d is 0, or far below the differences inside a block.
+pub fn choir(period: usize, frames: usize, d: i16) -> Vec<i16> {
+    blocks(period, frames, |block| d * TIED[block % 6])
+}
+
+/// Samples of an area as a write takes them.
+pub fn to_write(samples: &[i16]) -> Vec<f32> {
+    samples.iter().map(|&sample| (f32::from(sample) + 0.5) / 32_767.0).collect()
+}
+
 /// A saw of a period in frames, from frame `from` on; each channel is weaker than the one before, and noise of `noise` levels is added. All
 /// its arithmetic is exact, so that it is the same on every machine.
 pub fn saw(from: usize, frames: usize, channels: usize, period: usize, noise: u32) -> Vec<f32> {

@@ -4,7 +4,7 @@ use crate::interface::{Balance, Stream};
 use crate::model::settings::{max_period, max_required, min_period, sample_period};
 use crate::model::Model;
 use crate::run::{Call, Kept};
-use crate::signals::{Random, Signal};
+use crate::signals::{Random, Signal, TIED};
 
 /// Play times and time errors at the ends of the floats.
 const TIMES: [f32; 16] = [
@@ -95,14 +95,13 @@ fn repeating(random: &mut Random, signal: &mut Signal, frames: usize, channels: 
     once.iter().copied().cycle().take(frames * channels).collect()
 }
 
-/// Samples that repeat after a short period, each repeat with an offset: at the first frame the period, twice and three times it have the
-/// same mean of differences, the step of the offsets.
+/// Samples that repeat after a short period, each repeat with an offset, so that several periods have the same mean at the first frame.
 fn repeating_beside(random: &mut Random, signal: &mut Signal, frames: usize, channels: usize, rate: u32) -> Vec<i16> {
     let (shortest, longest) = (min_period(rate), max_period(rate));
     let period = random.between(shortest, longest / 3);
     let step = random.one_of(&[0, 1, 2, 50]);
     let once: Vec<i16> = signal.samples(random, period, channels).iter().map(|sample| sample / 3 + 11_000).collect();
-    let offset = |place: usize| step * [0, 1, 1, 2, 1, 2][place / once.len() % 6];
+    let offset = |place: usize| step * TIED[place / once.len() % 6];
     (0..frames * channels).map(|place| once[place % once.len()] + offset(place)).collect()
 }
 

@@ -1,31 +1,15 @@
-//! Figures of ties with known periods and sums. A voice is one block of samples that repeats, each repeat with an offset of its own. With no
-//! offsets the block, twice and three times it have the mean of differences 0; with those of `TIED` all three have the mean d: the block
-//! differs from the next by d; two blocks from the next two by d and d; three from the next three by 2d, 0 and d.
+//! Figures of ties with known periods and sums. In a choir the block, twice and three times it have the same mean of differences: 0, or `D`.
 
 use crate::figures::{ample, areas, figure, fresh, holding, open, play_for, write, Figure};
 use crate::interface::{Balance, Setting, Stream, COPIED, EMPTY, STALLED, STRETCHED, WAITING};
 use crate::model::settings::{max_period, max_required, min_period};
 use crate::run::{Call, Kept, Lengths};
-use crate::signals::Congruential;
+use crate::signals::{blocks, choir, to_write, Congruential};
 
-/// The offsets of six blocks, as multiples of d.
-const TIED: [i16; 6] = [0, 1, 1, 2, 1, 2];
-/// A value of d, which is far below the differences inside a block.
+/// A mean of differences, far below those inside a block.
 const D: i16 = 30;
 
-/// Frames of a voice whose block has this period, with an offset for each block.
-fn blocks(period: usize, frames: usize, offset: impl Fn(usize) -> i16) -> Vec<i16> {
-    let mut noise = Congruential(period as u32);
-    let block: Vec<i16> = (0..period).map(|_| 1_000 + noise.below(9_000) as i16).collect();
-    (0..frames).map(|i| block[i % period] + offset(i / period)).collect()
-}
-
-/// Such a voice with the offsets of `TIED`.
-fn voice(period: usize, frames: usize, d: i16) -> Vec<i16> {
-    blocks(period, frames, |block| d * TIED[block % 6])
-}
-
-/// One with an offset of d more for each block: the block has the mean d, and longer periods have higher ones.
+/// A voice with an offset of `D` more for each block: the block has this mean, and longer periods have higher ones.
 fn rising(period: usize, frames: usize) -> Vec<i16> {
     blocks(period, frames, |block| D * block as i16)
 }
@@ -67,10 +51,10 @@ fn telling(name: &'static str, calls: Vec<Call>, wanted: (u32, u32, usize), sum:
     Figure { sum: Some(sum), ..figure(name, calls, wanted) }
 }
 
-/// The choir: blocks of 40 at 8,000 Hz, where each search has two parts, one skip at s = 2 that gives a period.
-fn choir() -> Vec<Figure> {
-    let repeats = |ties| at(with(8_000, ties), voice(40, 246, 0), 2.0);
-    let tied = |ties| at(with(8_000, ties), voice(40, 246, D), 2.0);
+/// Blocks of 40 at 8,000 Hz, where each search has two parts, one skip at s = 2 that gives a period.
+fn choirs() -> Vec<Figure> {
+    let repeats = |ties| at(with(8_000, ties), choir(40, 246, 0), 2.0);
+    let tied = |ties| at(with(8_000, ties), choir(40, 246, D), 2.0);
     vec![
         found("repeats, smallest", repeats(0), (STRETCHED, 40), 40, 0),
         found("repeats, largest", repeats(1), (STRETCHED, 120), 120, 0),
@@ -102,7 +86,7 @@ fn silences() -> Vec<Figure> {
 /// longer periods worse; one more in the second and the fourth makes the one of two blocks best.
 fn fractions() -> Vec<Figure> {
     let with_more = |places: &[usize]| {
-        let mut input = voice(20, 122, D);
+        let mut input = choir(20, 122, D);
         places.iter().for_each(|&place| input[place] += 1);
         input
     };
@@ -121,7 +105,7 @@ fn fractions() -> Vec<Figure> {
 fn sums() -> Vec<Figure> {
     let noise = noise(122);
     let previous = |prev_min_diff| Stream { prev_period: 33, prev_min_diff, ..with(4_000, 1) };
-    let (left, right) = (voice(20, 122, D), voice(40, 122, 0));
+    let (left, right) = (choir(20, 122, D), choir(40, 122, 0));
     let both: Vec<i16> = left.iter().zip(&right).flat_map(|(&l, &r)| [l, r]).collect();
     let averages: Vec<i16> = left.iter().zip(&right).map(|(&l, &r)| (l + r) / 2).collect();
     let stereo = Stream { channels: 2, ..with(4_000, 0) };
@@ -138,12 +122,12 @@ fn last_searches() -> Vec<Figure> {
     let d = D as usize;
     let at_32 = |step_over, ties, input| at(Stream { step_over, ..with(8_000, ties) }, input, 32.0);
     let then = |first: Vec<i16>, second: Vec<i16>| at(with(8_000, 0), [first, second].concat(), 2.0);
-    let slow = vec![open(8_000, 1), Call::Set(Setting::Speed(1.02)), said(&voice(40, 240, D), ample()), Call::Flush { areas: ample() }];
-    let copying = [&slow[..2], &[said(&voice(40, 400, D), ample())]].concat();
+    let slow = vec![open(8_000, 1), Call::Set(Setting::Speed(1.02)), said(&choir(40, 240, D), ample()), Call::Flush { areas: ample() }];
+    let copying = [&slow[..2], &[said(&choir(40, 400, D), ample())]].concat();
     let late = Stream { time_error: -0.05, ..with(8_000, 0) };
     let play = 300.0 * late.sample_period / 1.02;
     vec![
-        found("a voice, then silence", then(voice(40, 246, D), vec![0; 600]), (STRETCHED, 320), 20, 0),
+        found("a voice, then silence", then(choir(40, 246, D), vec![0; 600]), (STRETCHED, 320), 20, 0),
         found("silence, then a voice", then(vec![0; 240], rising(40, 286)), (STRETCHED, 160), 40, 40 * d),
         found("a stall", at_32(0, 0, rising(20, 246)), (STALLED, 0), 20, 20 * d),
         found("a stall by the largest", at_32(0, 1, rising(20, 246)), (STALLED, 0), 20, 20 * d),
@@ -152,31 +136,31 @@ fn last_searches() -> Vec<Figure> {
         found("silence gives frames by the largest", at_32(0, 1, vec![0; 246]), (STRETCHED, 3), 123, 0),
         telling("a search before copying steps", copying, (0, STRETCHED, 360), 40 * d),
         telling("a flush, a search before copying steps", slow, (0, STRETCHED, 235), 40 * d),
-        telling("copying steps alone", vec![holding(late, voice(40, 300, D), play), write(0, ample())], (0, STRETCHED, 300), 0),
+        telling("copying steps alone", vec![holding(late, choir(40, 300, D), play), write(0, ample())], (0, STRETCHED, 300), 0),
     ]
 }
 
 /// A write of samples.
 fn said(samples: &[i16], areas: Lengths) -> Call {
-    Call::Write { samples: samples.iter().map(|&sample| (f32::from(sample) + 0.5) / 32_767.0).collect(), areas }
+    Call::Write { samples: to_write(samples), areas }
 }
 
 /// Calls that make no search tell 0, and so do refused ones, also behind a call that told a sum.
 fn without_a_search() -> Vec<Figure> {
-    let behind = |more: &[Call]| [&at(Stream { speed: 2.0, ..with(8_000, 1) }, voice(40, 246, D), 2.0)[..], more].concat();
+    let behind = |more: &[Call]| [&at(Stream { speed: 2.0, ..with(8_000, 1) }, choir(40, 246, D), 2.0)[..], more].concat();
     let full = Stream { balance: Balance { skipped: u64::MAX, inserted: 0 }, ..with(8_000, 1) };
-    let tied = |areas| at_in(with(8_000, 1), voice(40, 246, D), 2.0, areas);
+    let tied = |areas| at_in(with(8_000, 1), choir(40, 246, D), 2.0, areas);
     let one = Call::Set(Setting::Speed(1.0));
     vec![
         telling("empty", vec![open(8_000, 1), write(0, ample())], (0, EMPTY, 0), 0),
         telling("waiting behind a sum", behind(&[write(3, ample())]), (0, WAITING, 0), 0),
         telling("copied behind a sum", behind(&[Call::Flush { areas: ample() }, one, write(9, ample())]), (0, COPIED, 9), 0),
-        telling("3 tells no sum", at(Stream { volume: 0.0, ..with(8_000, 1) }, voice(40, 246, D), 2.0), (3, 0, 0), 0),
+        telling("3 tells no sum", at(Stream { volume: 0.0, ..with(8_000, 1) }, choir(40, 246, D), 2.0), (3, 0, 0), 0),
         telling("4 tells no sum", tied(areas(246, 300, 300, 245)), (4, 0, 0), 0),
         telling("5 tells no sum", behind(&[write(300, areas(300, 300, 300, 246))]), (5, 0, 0), 0),
         telling("6 tells no sum", tied(areas(246, 119, 300, 246)), (6, 0, 0), 0),
         telling("7 tells no sum", tied(areas(246, 120, 119, 246)), (7, 0, 0), 0),
-        telling("12 tells no sum", at(full, voice(40, 246, D), 2.0), (12, 0, 0), 0),
+        telling("12 tells no sum", at(full, choir(40, 246, D), 2.0), (12, 0, 0), 0),
     ]
 }
 
@@ -222,5 +206,5 @@ fn choices() -> Vec<Figure> {
 
 /// Every figure of ties.
 pub fn ties() -> Vec<Figure> {
-    [choir(), silences(), fractions(), sums(), last_searches(), without_a_search(), choices()].into_iter().flatten().collect()
+    [choirs(), silences(), fractions(), sums(), last_searches(), without_a_search(), choices()].into_iter().flatten().collect()
 }

@@ -3,18 +3,14 @@
 
 mod common;
 
-use common::signals::Congruential;
+use common::signals::{choir, to_write};
 use kelpladder::{Outcome, SonicError, SonicStream, Ties, Told};
 
 const REQUIRED: usize = 246;
 
-/// A choir of one block of 40 samples that repeats, each repeat with an offset of its own: the block differs from the next by d; two blocks
-/// from the next two by d and d; three from the next three by 2d, 0 and d. So the periods 40, 80 and 120 have the same mean of differences, d.
-fn choir(d: usize) -> Vec<f32> {
-    let mut noise = Congruential(40);
-    let block: Vec<usize> = (0..40).map(|_| 1_000 + noise.below(9_000)).collect();
-    let sample = |i: usize| block[i % 40] + d * [0, 1, 1, 2, 1, 2][i / 40 % 6];
-    (0..REQUIRED).map(|i| (sample(i) as f32 + 0.5) / 32_767.0).collect()
+/// A choir in which the periods 40, 80 and 120 have the same mean of differences, d.
+fn voice(d: usize) -> Vec<f32> {
+    to_write(&choir(40, REQUIRED, d as i16))
 }
 
 fn stream(ties: Ties, speed: f32, pitch: f32) -> SonicStream {
@@ -36,7 +32,7 @@ fn step(mut stream: SonicStream, samples: &[f32]) -> (usize, Told) {
 fn a_choir_has_its_shortest_or_its_longest_period() {
     for d in [0, 30] {
         for (ties, period) in [(Ties::Smallest, 40), (Ties::Largest, 120)] {
-            let (found, told) = step(stream(ties, 2.0, 1.0), &choir(d));
+            let (found, told) = step(stream(ties, 2.0, 1.0), &voice(d));
             assert_eq!((found, told.sum), (period, period * d));
         }
     }
@@ -47,7 +43,7 @@ fn a_new_stream_has_the_smallest() {
     assert_eq!(Ties::default(), Ties::Smallest);
     let mut plain = SonicStream::new(8_000, 1).expect("in range");
     plain.set_speed(2.0);
-    assert_eq!(step(plain, &choir(30)).0, 40);
+    assert_eq!(step(plain, &voice(30)).0, 40);
 }
 
 #[test]
@@ -64,25 +60,25 @@ fn settings_flushes_and_reads_leave_the_choice() {
     let mut stream = stream(Ties::Largest, 2.0, 0.5);
     stream.set_volume(2.0);
     stream.set_step_over(true);
-    stream.write_f32(&choir(0));
+    stream.write_f32(&voice(0));
     stream.flush();
     stream.read_f32(usize::MAX);
     stream.set_step_over(false);
     stream.set_pitch(1.0);
-    assert_eq!((stream.write_f32(&choir(30)).sum, stream.available_frames()), (120 * 30, 120));
+    assert_eq!((stream.write_f32(&voice(30)).sum, stream.available_frames()), (120 * 30, 120));
 }
 
 #[test]
 fn only_a_call_that_searches_tells_a_sum() {
     let mut stream = stream(Ties::Largest, 2.0, 1.0);
-    let voice = choir(30);
+    let samples = voice(30);
     assert_eq!(stream.write_f32(&[]).sum, 0);
-    assert_eq!(stream.write_f32(&voice[..REQUIRED - 1]).sum, 0);
-    assert_eq!(stream.write_f32(&voice[REQUIRED - 1..]).sum, 120 * 30);
+    assert_eq!(stream.write_f32(&samples[..REQUIRED - 1]).sum, 0);
+    assert_eq!(stream.write_f32(&samples[REQUIRED - 1..]).sum, 120 * 30);
     assert_eq!(stream.write_f32(&[]).sum, 0);
     stream.flush();
     stream.set_speed(1.0);
-    let told = stream.write_f32(&voice);
+    let told = stream.write_f32(&samples);
     assert_eq!((told.outcome, told.sum), (Outcome::Copied, 0));
 }
 

@@ -10,6 +10,12 @@ use crate::model::settings::Settings;
 use crate::model::write::Write;
 use crate::model::Work;
 
+/// A stream with a setting changed, and the choice reset if so.
+fn reset_if(resets: bool, stream: Stream, setting: Setting) -> Stream {
+    let changed = Right.changed(stream, setting);
+    if resets { Stream { ties: 0, ..changed } } else { changed }
+}
+
 edits! {
     "Ties";
     AlwaysSmallest, "the smallest where the largest is asked for", Search {
@@ -95,28 +101,16 @@ edits! {
         fn in_order(&self, stream: &Stream, rates: (usize, usize)) -> bool { Right.in_order(stream, rates) && stream.ties < 2 }
     }
     SpeedResetsTies, "a speed resets the choice", Settings {
-        fn set_speed(&self, stream: &mut Stream, speed: f32) {
-            Right.set_speed(stream, speed);
-            stream.ties = 0;
-        }
+        fn changed(&self, stream: Stream, setting: Setting) -> Stream { reset_if(matches!(setting, Setting::Speed(_)), stream, setting) }
     }
     PitchResetsTies, "a pitch resets the choice", Settings {
-        fn set_pitch(&self, stream: &mut Stream, pitch: f32) {
-            Right.set_pitch(stream, pitch);
-            stream.ties = 0;
-        }
+        fn changed(&self, stream: Stream, setting: Setting) -> Stream { reset_if(matches!(setting, Setting::Pitch(_)), stream, setting) }
     }
     VolumeResetsTies, "a volume resets the choice", Settings {
-        fn set_volume(&self, stream: &mut Stream, volume: f32) {
-            Right.set_volume(stream, volume);
-            stream.ties = 0;
-        }
+        fn changed(&self, stream: Stream, setting: Setting) -> Stream { reset_if(matches!(setting, Setting::Volume(_)), stream, setting) }
     }
-    StepOverSetsTies, "stepping over sets the choice", Settings {
-        fn set_step_over(&self, stream: &mut Stream, on: u32) {
-            Right.set_step_over(stream, on);
-            stream.ties = stream.step_over;
-        }
+    StepOverResetsTies, "stepping over resets the choice", Settings {
+        fn changed(&self, stream: Stream, setting: Setting) -> Stream { reset_if(matches!(setting, Setting::StepOver(_)), stream, setting) }
     }
     SettingNormalizesTies, "a setting hands the value 7 back as 1", Settings {
         fn changed(&self, stream: Stream, setting: Setting) -> Stream { Right.changed(Stream { ties: stream.ties.min(1), ..stream }, setting) }
