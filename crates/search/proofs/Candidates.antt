@@ -1,11 +1,16 @@
--- Candidates of a search. Sections: sums of differences as the loops hold them, parts of a range, products, one period more and two.
+-- Candidates of a search. Sections: sums of differences as the loops hold them, parts of a range, products, the test of `better`, one period
+-- more and two.
 -- Assumes nothing.
 use mathlib.Core.Path.{_≡_, refl, ap, _∙_}
+use mathlib.Core.Bool.{Bool, true, false}
 use mathlib.Core.List.{List}
+use mathlib.Core.Logic.{_⊎_, inl, inr, ⊎-elim}
 use Prim.Native.Nat.{ℕ, suc, _+_, _-_, _*_, _≤_, _<_}
 use native.Mathlib.Nat.{le-refl, le-trans, mul-le-mul, mul-le-mul-left}
 use native.Mathlib.Numerals.{add-one}
 use native.Mathlib.Omega.{arith}
+use borrow.Author.Tests.{lt-ltb, le-ltb, le-leb, lt-leb, leb-true, leb-false}
+use lib.Dec.{leb}
 use lib.IntN.{ℤ, pos, natAbs, _-ℤ_}
 use lib.ListN.{getD}
 use lib.Signed.{mag}
@@ -13,8 +18,11 @@ use mir.Facts.{toZ-ofZ}
 use mir.Syntax.{w16}
 use mir.Val.{toZ, ofZ}
 use Rattle.laws.proofs.Integers.{natAbs-gap-tight}
+use Rattle.search.specs.declared.Ties.{Ties}
+use Rattle.search.specs.declared.Ties.the-variants.{Smallest, Largest}
 use Rattle.search.specs.declared.Candidate.{Candidate}
-use Rattle.search.specs.Search.{diffs, candidate, sweep, longestPeriod, widestGap, Searchable, Bounded}
+use Rattle.search.specs.Ties.{tiesOf, tiesNumber}
+use Rattle.search.specs.Search.{diffs, candidate, better, sweep, longestPeriod, widestGap, Searchable, Bounded}
 
 -- ---- s is the sum of the first n differences of period q
 pub record Sum (x : List ℤ) (q n s : ℕ) : Type 0 where
@@ -53,6 +61,31 @@ searchable-within s a b c =
 -- ---- products of two candidates
 pub product-le : {b c : Candidate} → Bounded b → Bounded c → b .diff * c .period ≤ widestGap * longestPeriod * longestPeriod
 product-le p q = mul-le-mul (le-trans (p .each) (mul-le-mul-left widestGap (p .short))) (q .short)
+
+-- ---- the test of `better`, with one more on the right for a tie
+at-tie-cases : (t : ℕ) → t ≤ 1 → (t ≡ 0) ⊎ (t ≡ 1)
+at-tie-cases t h = go (leb 1 t) refl
+  where
+    go : (b : Bool) → leb 1 t ≡ b → (t ≡ 0) ⊎ (t ≡ 1)
+    go true e = inr (omega (arith, leb-true 1 t e))
+    go false e = inl (omega (arith, leb-false 1 t e))
+
+pub better-at-tie : (t : ℕ) (old new : Candidate) → t ≤ 1 → new .diff * old .period < old .diff * new .period + t → better (tiesOf t) old new ≡ true
+unfolding better
+better-at-tie t old new h l =
+    ⊎-elim (λ z. rw z (lt-ltb (new .diff * old .period) (old .diff * new .period) (omega arith)))
+    (λ z. rw z (le-leb (new .diff * old .period) (old .diff * new .period) (omega arith))) (at-tie-cases t h)
+
+pub not-better-at-tie : (t : ℕ) (old new : Candidate) → t ≤ 1 → old .diff * new .period + t ≤ new .diff * old .period → better (tiesOf t) old new ≡ false
+unfolding better
+not-better-at-tie t old new h l =
+    ⊎-elim (λ z. rw z (le-ltb (new .diff * old .period) (old .diff * new .period) (omega arith)))
+    (λ z. rw z (lt-leb (new .diff * old .period) (old .diff * new .period) (omega arith))) (at-tie-cases t h)
+
+-- the number of a choice, and back
+pub ties-back : (ties : Ties) → (tiesNumber ties ≤ 1) × (tiesOf (tiesNumber ties) ≡ ties)
+ties-back Smallest = (omega arith, refl)
+ties-back Largest = (omega arith, refl)
 
 -- ---- one period more, and two: what the search holds after them
 module _ (pick : Candidate → Candidate → Candidate) (x : List ℤ) (low q : ℕ) (order : low ≤ q) {old : Candidate}

@@ -8,7 +8,8 @@ ghost use mathlib.Core.Path.{_≡_};
 ghost use Prim.Native.Nat.{_+_, _≤_};
 ghost use lib.IntN.{natAbs, _-ℤ_};
 ghost use lib.ListN.{length};
-ghost use Rattle.search.specs.Search.{candidate, better, lesser, greater, foundOf, findPitchPeriodInRange};
+ghost use Rattle.search.specs.Ties.{tiesOf};
+ghost use Rattle.search.specs.Search.{candidate, lesser, greater, foundOf, findPitchPeriodInRange};
 ghost use Rattle.search.specs.Search.{widestGap, Searchable, Bounded};
 
 // Of several periods with the same least mean difference, the one that a search finds.
@@ -98,23 +99,17 @@ fn neighbours_from(samples: &[i16], period: usize) -> Neighbours
     }
 }
 
-// Whether a new candidate has a smaller D(q)/q than an old one of a smaller period, or at a tie is the one to be found.
-fn better(ties: Ties, old: Candidate, new: Candidate) -> bool
-    requires { ⌜ Bounded old × Bounded new ⌝ }
-    ensures { λ r. ⌜ r ≡ better ties old new ⌝ }
+// Of two candidates the one with the smaller D(q)/q; at a tie the old one, whose period is smaller, or if `at_tie` is 1
+// the new one. The products are whole numbers, so that one more takes in a tie.
+fn lesser(at_tie: usize, old: Candidate, new: Candidate) -> Candidate
+    requires { ⌜ («at_tie» ≤ 1) × Bounded old × Bounded new ⌝ }
+    ensures { λ r. ⌜ (r ≡ lesser (tiesOf «at_tie») old new) × Bounded r ⌝ }
 {
-    match ties {
-        Ties::Smallest => new.diff * old.period < old.diff * new.period,
-        Ties::Largest => new.diff * old.period <= old.diff * new.period,
+    if new.diff * old.period < old.diff * new.period + at_tie {
+        new
+    } else {
+        old
     }
-}
-
-// Of two candidates the better one.
-fn lesser(ties: Ties, old: Candidate, new: Candidate) -> Candidate
-    requires { ⌜ Bounded old × Bounded new ⌝ }
-    ensures { λ r. ⌜ (r ≡ lesser ties old new) × Bounded r ⌝ }
-{
-    if better(ties, old, new) { new } else { old }
 }
 
 // Of two candidates the one with the greater D(q)/q, the old one at a tie.
@@ -155,6 +150,7 @@ pub fn find_pitch_period_in_range(
     ensures { λ r. ⌜ (r ≡ findPitchPeriodInRange ties (now (samples .entry)) «min_period» «max_period»)
         × (r .«min_diff» ≤ widestGap) ⌝ }
 {
+    let at_tie = ties_number(ties) as usize;
     let first = candidate_at(samples, min_period);
     let mut best = first;
     let mut worst = first;
@@ -163,13 +159,13 @@ pub fn find_pitch_period_in_range(
         let two = neighbours_from(samples, period + 1);
         let this = two.this;
         let next = two.next;
-        best = lesser(ties, lesser(ties, best, this), next);
+        best = lesser(at_tie, lesser(at_tie, best, this), next);
         worst = greater(greater(worst, this), next);
         period += 2;
     }
     if period < max_period {
         let last = candidate_at(samples, max_period);
-        return found_of(lesser(ties, best, last), greater(worst, last));
+        return found_of(lesser(at_tie, best, last), greater(worst, last));
     }
     found_of(best, worst)
 }

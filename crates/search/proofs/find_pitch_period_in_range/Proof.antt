@@ -5,25 +5,37 @@ use mathlib.Core.Path.{_≡_, _∙_, ap}
 use Prim.Native.Nat.{_+_, _-_, _≤_}
 use native.Mathlib.Nat.{le-refl}
 use native.Mathlib.Omega.{arith}
+use Rattle.search.specs.declared.Ties.{Ties}
+use Rattle.search.specs.Ties.{tiesOf}
 use Rattle.search.specs.Search.{lesser, greater, sweep, best, worst, foundOf, findPitchPeriodInRange, Bounded}
-use Rattle.search.proofs.Candidates.{searchable-within, sweep-one, sweep-two}
+use Rattle.search.proofs.Candidates.{searchable-within, ties-back, sweep-one, sweep-two}
 use Rattle.search.proofs.find_pitch_period_in_range.Statement.{statement}
 use Rattle.search.proofs.find_pitch_period_in_range.Tie as tie
 
 -- ---- the invariant
 
 abbrev Inv-loop : tie.InvT-loop
-Inv-loop samples min-period max-period ties best₀ worst₀ period₀ b w period =
-    (min-period ≤ period) × (period ≤ max-period) × (b ≡ best ties samples min-period period)
+Inv-loop samples min-period max-period at-tie best₀ worst₀ period₀ b w period =
+    (min-period ≤ period) × (period ≤ max-period) × (b ≡ best (tiesOf at-tie) samples min-period period)
     × (w ≡ worst samples min-period period) × Bounded b × Bounded w
 
 abbrev μ-loop : tie.MeasureT-loop
-μ-loop samples min-period max-period ties best₀ worst₀ period₀ b w period = max-period - period
+μ-loop samples min-period max-period at-tie best₀ worst₀ period₀ b w period = max-period - period
 
 -- ---- places, and what is known there
 
+-- the number of the choice
+abbrev numbered : tie.At-loop Inv-loop μ-loop → tie.After-ties-number Inv-loop μ-loop
+numbered c = c .before .before
+
 abbrev start : tie.At-loop Inv-loop μ-loop → tie.Start Inv-loop μ-loop
-start c = c .before .before
+start c = numbered c .before
+
+at-most-one : (c : tie.After-ties-number Inv-loop μ-loop) → c .ties-number .result ≤ 1
+at-most-one c = omega (arith, c .ties-number .ensures, ties-back (c .before .args .ties) .0)
+
+choice-is : (c : tie.After-ties-number Inv-loop μ-loop) → tiesOf (c .ties-number .result) ≡ c .before .args .ties
+choice-is c = ap tiesOf (c .ties-number .ensures) ∙ ties-back (c .before .args .ties) .1
 
 -- a turn: the candidates of the next two periods, and the loop
 module _ (c : tie.After-next Inv-loop μ-loop) where
@@ -51,15 +63,15 @@ last-period c = c .before .before .before
 -- ---- needs
 
 candidate-at-requires : tie.Need-candidate-at-requires Inv-loop μ-loop
-candidate-at-requires c κs = searchable-within (c .pre) (le-refl _) (le-refl _) (c .pre .order)
+candidate-at-requires c κs = searchable-within (c .before .pre) (le-refl _) (le-refl _) (c .before .pre .order)
 
 loop-holds : tie.Need-loop-holds Inv-loop μ-loop
 unfolding sweep
 loop-holds c =
-    let a = c .before .args in
+    let a = c .before .before .args in
     let r = c .candidate-at .ensures in
     let none : a .min-period - a .min-period ≡ 0 = omega arith in
-    (omega arith, omega (arith, c .before .pre .order), rw none (r .0), rw none (r .0), r .1, r .1)
+    (omega arith, omega (arith, c .before .before .pre .order), rw none (r .0), rw none (r .0), r .1, r .1)
 
 add-loop : tie.Need-add-loop Inv-loop μ-loop
 add-loop c = omega (arith, c .loop .inv .1, start c .pre .short)
@@ -71,10 +83,10 @@ neighbours-from-requires : tie.Need-neighbours-from-requires Inv-loop μ-loop
 neighbours-from-requires c κs = searchable-within (start (c .before) .pre) (omega (arith, c .before .loop .inv .0)) (omega arith) (omega arith)
 
 lesser-requires : tie.Need-lesser-requires Inv-loop μ-loop
-lesser-requires c κs = (turn c .loop .inv .4, neighbours c .neighbours-from .ensures .1)
+lesser-requires c κs = (at-most-one (numbered (turn c)), turn c .loop .inv .4, neighbours c .neighbours-from .ensures .1)
 
 lesser-requires-2 : tie.Need-lesser-requires-2 Inv-loop μ-loop
-lesser-requires-2 c κs = (c .lesser .ensures .1, neighbours (c .before) .neighbours-from .ensures .3)
+lesser-requires-2 c κs = (at-most-one (numbered (turn (c .before))), c .lesser .ensures .1, neighbours (c .before) .neighbours-from .ensures .3)
 
 greater-requires : tie.Need-greater-requires Inv-loop μ-loop
 greater-requires c κs =
@@ -99,10 +111,11 @@ loop-again c =
     let m = c .before .before in
     let low = m .before .lesser .ensures .0 in
     let high = c .before .greater .ensures .0 in
-    let x = a .samples .now in (
+    let x = a .samples .now in
+    let ties = tiesOf (numbered d .ties-number .result) in (
       omega (arith, l .inv .0),
       omega (arith, n .before .loop-test),
-      sweep-two (lesser (a .ties)) x (a .min-period) (l .period) (l .inv .0) (l .inv .2) (two .0) (two .2) low (m .lesser2 .ensures .0),
+      sweep-two (lesser ties) x (a .min-period) (l .period) (l .inv .0) (l .inv .2) (two .0) (two .2) low (m .lesser2 .ensures .0),
       sweep-two greater x (a .min-period) (l .period) (l .inv .0) (l .inv .3) (two .0) (two .2) high (c .greater2 .ensures .0),
       m .lesser2 .ensures .1,
       c .greater2 .ensures .1,
@@ -114,7 +127,7 @@ candidate-at-requires-2 c κs =
     searchable-within p (p .order) (le-refl _) (le-refl _)
 
 lesser-requires-3 : tie.Need-lesser-requires-3 Inv-loop μ-loop
-lesser-requires-3 c κs = (one-left c .loop .inv .4, c .candidate-at2 .ensures .1)
+lesser-requires-3 c κs = (at-most-one (numbered (one-left c)), one-left c .loop .inv .4, c .candidate-at2 .ensures .1)
 
 greater-requires-3 : tie.Need-greater-requires-3 Inv-loop μ-loop
 greater-requires-3 c κs = (one-left (c .before) .loop .inv .5, c .before .candidate-at2 .ensures .1)
@@ -130,9 +143,11 @@ returns c =
     let a = start d .args in
     let last = last-period c .candidate-at2 .ensures .0 in
     let e : l .period + 1 ≡ a .max-period = omega arith in
-    let b = sweep-one (lesser (a .ties)) (a .samples .now) (a .min-period) (l .period) (l .inv .0) (l .inv .2) e last (c .before .before .lesser3 .ensures .0) in
+    let ties = tiesOf (numbered d .ties-number .result) in
+    let b = sweep-one (lesser ties) (a .samples .now) (a .min-period) (l .period) (l .inv .0) (l .inv .2) e last (c .before .before .lesser3 .ensures .0) in
     let w = sweep-one greater (a .samples .now) (a .min-period) (l .period) (l .inv .0) (l .inv .3) e last (c .before .greater3 .ensures .0) in
-    (c .found-of .ensures .0 ∙ (λ i. foundOf (b i) (w i)), c .found-of .ensures .1)
+    let chosen = ap (λ (t : Ties). best t (a .samples .now) (a .min-period) (a .max-period)) (choice-is (numbered d)) in
+    (c .found-of .ensures .0 ∙ (λ i. foundOf ((b ∙ chosen) i) (w i)), c .found-of .ensures .1)
 
 found-of-requires-2 : tie.Need-found-of-requires-2 Inv-loop μ-loop
 found-of-requires-2 c κs = (none-left c .loop .inv .4, none-left c .loop .inv .5)
@@ -144,11 +159,19 @@ returns-2 c =
     let l = d .loop in
     let a = start d .args in
     let e : l .period ≡ a .max-period = omega arith in
-    let b = l .inv .2 ∙ ap (best (a .ties) (a .samples .now) (a .min-period)) e in
+    let reached = ap (best (tiesOf (numbered d .ties-number .result)) (a .samples .now) (a .min-period)) e in
+    let chosen = ap (λ (t : Ties). best t (a .samples .now) (a .min-period) (a .max-period)) (choice-is (numbered d)) in
+    let b = l .inv .2 ∙ reached ∙ chosen in
     let w = l .inv .3 ∙ ap (worst (a .samples .now) (a .min-period)) e in
     (c .found-of2 .ensures .0 ∙ (λ i. foundOf (b i) (w i)), c .found-of2 .ensures .1)
 
 -- ---- what search closes
+
+ties-number-requires : tie.Need-ties-number-requires Inv-loop μ-loop
+ties-number-requires c κs = search needs
+
+cast-at-tie : tie.Need-cast-at-tie Inv-loop μ-loop
+cast-at-tie c = search needs
 
 loop-less : tie.Need-loop-less Inv-loop μ-loop
 loop-less c = search needs
@@ -156,6 +179,6 @@ loop-less c = search needs
 pub find-pitch-period-in-range-spec : {M : Type 1} → statement M
 find-pitch-period-in-range-spec =
     tie.close
-    (tie.spec Inv-loop μ-loop candidate-at-requires loop-holds add-loop add-neighbours-from neighbours-from-requires lesser-requires lesser-requires-2
+    (tie.spec Inv-loop μ-loop ties-number-requires cast-at-tie candidate-at-requires loop-holds add-loop add-neighbours-from neighbours-from-requires lesser-requires lesser-requires-2
     greater-requires greater-requires-2 add-period loop-less loop-again candidate-at-requires-2 lesser-requires-3 greater-requires-3 found-of-requires
     returns found-of-requires-2 returns-2)
