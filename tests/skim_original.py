@@ -118,9 +118,9 @@ def main():
             said = compare(folder, tool, r.sample(options + ["--as-original"], len(options) + 1), plain_judge, words, data)
             stalls, left = stalls + ("stalls=0 " not in said), left + ("the flush left the stall" in said)
     assert 5 * others > longest, f"with the longest periods {others} tracks of {longest} are others"
-    print(f"skim: {rounds} jobs, {served} served, the same bytes, counts and maps as the original, which stalled in {stalls} and in {left} of them left every stall,", end=" ")
-    print(f"and as its copy that steps over, which passed over {periods} pitch periods in {passing}; {longest} of the jobs with the longest of several best periods,", end=" ")
-    print(f"which gave another track in {others}")
+    print(f"skim: {rounds} jobs, {served} served, the same bytes, counts and maps as the original and its copies. As the original, {stalls}", end=" ")
+    print(f"stalled, and {left} of them left every stall; stepping over, {passing} passed over {periods} pitch periods. {longest} jobs took", end=" ")
+    print(f"the longest of several best periods, which gave {others} of them another track")
 
 
 main()

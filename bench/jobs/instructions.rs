@@ -1,8 +1,8 @@
 //! Instructions, counted by valgrind in runs of this program.
 
+use crate::judges::stepping_over;
 use crate::reels::{job, pairs, Job, Reel, MINUTE};
 use crate::sides::{Ours, Side};
-use crate::judges::stepping_over;
 use crate::{line_name, run, SonicStream};
 use std::hint::black_box;
 use std::process::Command;

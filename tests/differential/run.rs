@@ -60,7 +60,8 @@ fn made_text(s: &Stream, kept: &Kept) -> String {
     let floats = [s.speed, s.pitch, s.volume, s.sample_period, s.input_play_time, s.time_error];
     let wholes = [s.old_rate_position, s.new_rate_position, s.prev_period, s.prev_min_diff, s.held, s.tail, s.waiting];
     let totals = [s.balance.skipped, s.balance.inserted];
-    let wholes = wholes.iter().map(usize::to_string).chain(totals.iter().map(u64::to_string)).chain([s.step_over, s.ties].map(|value| value.to_string()));
+    let choices = [s.step_over, s.ties].map(|value| value.to_string());
+    let wholes = wholes.iter().map(usize::to_string).chain(totals.iter().map(u64::to_string)).chain(choices);
     let fields: Vec<String> = floats.iter().map(|v| format!("{v:?}")).chain(wholes).collect();
     let parts = [("input", &kept.input), ("tail", &kept.tail), ("output", &kept.output)];
     let parts: Vec<String> = parts.iter().map(|(name, values)| format!("{name}{}", samples(values))).collect();

@@ -192,7 +192,7 @@ fn choices() -> Vec<Figure> {
         leaving("rate refused", vec![open_with(999, 1, 1)], (1, 0), 0),
         leaving("channels refused", vec![open_with(8_000, 33, 1)], (2, 0), 0),
         leaving("opened again", behind(&[open(8_000, 1)]), (0, 0), 0),
-        leaving("written, flushed, read", behind(&[settings.map(Call::Set).to_vec(), vec![flush.clone(), read.clone()]].concat()), (0, 0), 1),
+        leaving("set, flushed, read", behind(&[&settings.map(Call::Set)[..], &[flush.clone(), read.clone()]].concat()), (0, 0), 1),
         leaving("refused, value 7", on(7, write(9, areas(8, 8, 8, 246))), (5, 0), 7),
         leaving("out of order, value 7", vec![made(Stream { volume: 0.0, ..with(8_000, 7) }), write(9, ample())], (3, 0), 7),
         leaving("waiting, value 7", on(7, write(9, ample())), (0, WAITING), 7),

@@ -25,8 +25,9 @@ impl Model {
             Ok(work) => self.accept(work, areas),
             Err(5) => self.rules.order.refused(5, stream, areas),
             Err(refusal) => {
-                let passed = self.rules.step_over.passed_refused(&|| self.would_need(stream, samples, &areas).map_or(0, |needs| needs.passed));
-                let sum = self.rules.sums.sum_refused(&|| self.would_need(stream, samples, &areas).map_or(0, |needs| needs.sum));
+                let would = || self.would_need(stream, samples, &areas);
+                let passed = self.rules.step_over.passed_refused(&|| would().map_or(0, |needs| needs.passed));
+                let sum = self.rules.sums.sum_refused(&|| would().map_or(0, |needs| needs.sum));
                 let wrote = self.rules.order.refused(refusal, stream, areas);
                 Wrote { told: Told { passed, sum, ..wrote.told }, ..wrote }
             }
