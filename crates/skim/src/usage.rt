@@ -2,7 +2,7 @@
 use reports::say;
 
 pub(crate) fn version() {
-    say::line(b"skim (kelpladder) 0.2.0");
+    say::line(b"skim (kelpladder) 0.3.0");
 }
 
 pub(crate) fn usage() {
