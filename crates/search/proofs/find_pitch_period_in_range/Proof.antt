@@ -127,7 +127,7 @@ candidate-at-requires-2 c κs =
     searchable-within p (p .order) (le-refl _) (le-refl _)
 
 lesser-requires-3 : tie.Need-lesser-requires-3 Inv-loop μ-loop
-lesser-requires-3 c κs = (at-most-one (numbered (one-left c)), one-left c .loop .inv .4, c .candidate-at2 .ensures .1)
+lesser-requires-3 c κs = (omega (arith, at-most-one (numbered (one-left c))), one-left c .loop .inv .4, c .candidate-at2 .ensures .1)
 
 greater-requires-3 : tie.Need-greater-requires-3 Inv-loop μ-loop
 greater-requires-3 c κs = (one-left (c .before) .loop .inv .5, c .before .candidate-at2 .ensures .1)

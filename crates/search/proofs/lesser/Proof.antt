@@ -16,12 +16,12 @@ add-if1 c = let p = c .before .before .before .before .pre in record { fits = om
 returns : tie.Need-returns
 returns c =
     let s = c .before .before .before .before .before in
-    (rw (better-at-tie (s .args .at-tie) (s .args .old) (s .args .new) (s .pre .0) (c .if1 .taken)), s .pre .2)
+    (rw (better-at-tie (s .args .at-tie) (s .args .old) (s .args .new) (s .pre .0) (omega (arith, c .if1 .taken))), s .pre .2)
 
 returns-2 : tie.Need-returns-2
 returns-2 c =
     let s = c .before .before .before .before .before in
-    (rw (not-better-at-tie (s .args .at-tie) (s .args .old) (s .args .new) (s .pre .0) (c .if1 .left)), s .pre .1)
+    (rw (not-better-at-tie (s .args .at-tie) (s .args .old) (s .args .new) (s .pre .0) (omega (arith, c .if1 .left))), s .pre .1)
 
 pub lesser-spec : {M : Type 1} → statement M
 lesser-spec = tie.close (tie.spec mul-if1 mul-if1-2 add-if1 returns returns-2)
