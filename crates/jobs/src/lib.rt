@@ -11,8 +11,8 @@ pub use settling::open;
 pub use settling::settle;
 use stream::Ties;
 
-// What a run is to do: the opening and the settings of its stream, and the place of the argument that names the map's file, 0 if none
-// is wanted.
+// What a run is to do: the opening and the settings of its stream, and the place of the argument that names the map's
+// file, 0 if none is wanted.
 pub struct Job {
     pub rate: u32,
     pub channels: u32,

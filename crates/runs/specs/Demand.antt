@@ -1,6 +1,6 @@
 -- Demand 3: its four claims, each in the demand's own words, as types; before them what they speak of: a run of a rate,
--- channels and a choice of ties, its accepted calls, what is said of each of them, and joined frames. `proofs/Claims.antt` proves the
--- claims. Definitions only. Assumes nothing.
+-- channels and a choice of ties, its accepted calls, what is said of each of them, and joined frames.
+-- `proofs/Claims.antt` proves the claims. Definitions only. Assumes nothing.
 use mathlib.Core.Path.{_≡_}
 use mathlib.Core.Bool.{false, cond}
 use mathlib.Core.List.{List, [], _∷_, _++_, map}

@@ -1,7 +1,7 @@
 -- docs/RULES.md, "Period search" and "Ties to the longer period": `find_pitch_period_in_range`. For period q the sum
--- D(q) of |x[i] − x[i+q]|, i < q. Answer: the smallest or, by choice, the largest q with least D(q)/q, the whole parts of
--- the least and the greatest D(q)/q, and D(q). `proofs/SearchRule.antt` shows that the definition says this of every q of
--- the range. Definitions only. Assumes nothing.
+-- D(q) of |x[i] − x[i+q]|, i < q. Answer: the smallest or, by choice, the largest q with least D(q)/q, the whole parts
+-- of the least and the greatest D(q)/q, and D(q). `proofs/SearchRule.antt` shows that the definition says this of every
+-- q of the range. Definitions only. Assumes nothing.
 use Prim.Native.Nat.{ℕ, zero, suc, _+_, _-_, _*_, _/_, _≤_}
 use mathlib.Core.Bool.{Bool, cond}
 use mathlib.Core.List.{List}

@@ -87,7 +87,7 @@ pub(crate) fn wrong_argument(place: usize) {
         4 => say::text(b"skim: PITCH has to be a number from 0.05 to 20, as 2 or 0.5\n"),
         5 => say::text(b"skim: VOLUME has to be a number from 0.01 to 100, as 2 or 0.5\n"),
         6 => say::text(
-            b"skim: before the numbers may stand --status, which is first, and the options that --help tells, each once\n",
+            b"skim: before the numbers may stand --status, the first, and the options that --help tells, each once\n",
         ),
         _ => say::text(b"skim: --map has to be followed by the name of a file\n"),
     }

@@ -54,8 +54,8 @@ pub enum Turn {
     Went(Place, Frames, usize, bool),
 }
 
-// What a call gives: the frames made, the frames of the input used, the periods passed over, the sum of its last search,
-// the time error and the period record after it, whether it stalled.
+// What a call gives: the frames made, the frames of the input used, the periods passed over, the sum of its last
+// search, the time error and the period record after it, whether it stalled.
 pub struct Stretch {
     pub made: Frames,
     pub used: Frames,
