@@ -21,3 +21,4 @@ mod ExampleStall
 mod ExampleStepOver
 mod ExampleC
 mod ExampleTail
+mod ExampleTies
