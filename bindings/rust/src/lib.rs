@@ -149,8 +149,9 @@ impl SonicStream {
     /// Makes frames of what is held, filled up with silence, and clears what is held. In the middle of a word this can be heard.
     ///
     /// The outcome tells of the held frames and the silence together. Where speed over pitch is so high that the shortest period gives
-    /// no frame (above 21 at 8,000 frames a second), the silence alone answers [`Outcome::Stalled`], and nothing is amiss. A stream that
-    /// steps over passes over the silence's periods too, and [`Told::passed`] counts them with the others.
+    /// no frame (above 21 at 8,000 frames a second), or the longest with [`Ties::Largest`] (above 124), the silence alone answers
+    /// [`Outcome::Stalled`], and nothing is amiss. A stream that steps over passes over the silence's periods too, and [`Told::passed`]
+    /// counts them with the others.
     pub fn flush(&mut self) -> Told {
         self.work(calls::flush)
     }

@@ -32,6 +32,7 @@ unfoldable pub better : Ties → Candidate → Candidate → Bool
 better Smallest old new = ltb (new .diff * old .period) (old .diff * new .period)
 better Largest old new = leb (new .diff * old .period) (old .diff * new .period)
 
+-- of two candidates the one that goes before the other
 abbrev pub lesser : Ties → Candidate → Candidate → Candidate
 lesser ties old new = cond (better ties old new) new old
 

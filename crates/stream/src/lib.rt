@@ -140,7 +140,7 @@ impl SonicStream {
         SonicStream::with_ties(rate, channels, Ties::Smallest)
     }
 
-    // Opens a stream with the choice between these: refusals 1 and 2.
+    // Opens a stream with a choice of ties: refusals 1 and 2.
     pub fn with_ties(rate: u32, channels: u32, ties: Ties) -> Opened
         ensures { λ r. ⌜ r ≡ openCall rate channels ties ⌝ }
     {
