@@ -37,10 +37,13 @@ test:
 	$(MAKE) --no-print-directory compare; compared=$$?; \
 	wait $$refusals && test $$compared = 0; } && tail -n 1 "$$log"
 
-compare: target/tests/floats target/tests/narrowing target/tests/removal target/tests/header target/tests/environment differential rust tool
+compare: target/tests/floats target/tests/narrowing target/tests/removal target/tests/wave target/tests/wave_file target/tests/header \
+	target/tests/environment differential rust tool
 	target/tests/narrowing 20
 	target/tests/floats 5
 	target/tests/removal
+	target/tests/wave
+	tests/wave_files.py target/tests/wave_file
 	target/tests/header
 	target/tests/environment
 	tests/install.sh
@@ -74,6 +77,7 @@ SKIM_COPIES := $(addprefix target/tests/skim_,stepping_over largest largest_step
 tool: program target/tests/skim_in_c $(if $(AT_HAND),target/tests/skim $(SKIM_COPIES))
 	tools/make_reel.py 62:24000 34:16000 | cmp - crates/skim/stdin
 	tests/skim.py tools/skim.sh target/tests/skim_in_c tools/make_reel.py
+	tests/skim_wave.py tools/skim.sh tools/make_reel.py
 ifdef AT_HAND
 	tests/skim_original.py target/bin/skim target/tests/skim $(SKIM_COPIES) $(JOBS)
 else
@@ -139,10 +143,13 @@ target/tests/floats: tests/floats.rs kernels
 target/tests/removal: tests/removal.rs tests/signals.rs kernels stream
 	$(RUSTC) $< -o $@ $(LINK_KERNELS) $(LINK_STREAM)
 
+target/tests/wave: tests/wave.rs tests/signals.rs $(wildcard tests/wave/*.rs) bindings/rust/src/calls.rs stream
+	$(RUSTC) $< -o $@ $(LINK_STREAM)
+
 target/tests/narrowing: tests/narrowing.c kernels
 	$(CC) -O2 -Wall -Wextra -Werror $< target/staticlib/libkernels_c.a -o $@ -lm
 
-target/tests/header target/tests/environment: target/tests/%: tests/%.c include/kelpladder.h stream
+target/tests/header target/tests/environment target/tests/wave_file: target/tests/%: tests/%.c include/kelpladder.h stream
 	$(CC) -std=c99 -O2 -Wall -Wextra -Wpedantic -Werror -I include $< target/staticlib/libsonic_c.a -o $@
 
 target/tests/skim_in_c: examples/skim.c include/kelpladder.h stream

@@ -4,11 +4,12 @@
 // `jobs` compares the frames of both sides and prints for each job and reel: its name, our time over the original's (medians of
 // interleaved rounds over the whole reel), and both medians in milliseconds. Times are processor times of the thread, so that other work
 // on the machine counts less. Both sides read in their own way: the original gives a new vector, ours fills a slice that is lent.
-// Then it times the skim tool beside the library, counts instructions by valgrind, where that is there, and paints a stack to see how much
-// of it the calls use.
+// Then it times the skim tool beside the library and the reading of a WAVE file's head, counts instructions by valgrind, where that is
+// there, and paints a stack to see how much of it the calls use.
 // ROUNDS in the environment gives the rounds, 15 if it is not set; with fewer, instructions are not counted.
-// `jobs JOB REEL` times one job only, `jobs tool` the tool, `jobs stack` measures the stack only. `jobs SIDE JOB REEL SECONDS` runs one job
-// on one side (ours, original), `jobs read LENGTH` a read that takes all, out of an output of that length, for a profiler.
+// `jobs JOB REEL` times one job only, `jobs tool` the tool, `jobs wave` the heads, `jobs stack` measures the stack only. `jobs SIDE JOB REEL
+// SECONDS` runs one job on one side (ours, original), `jobs read LENGTH` a read that takes all, out of an output of that length, for a
+// profiler.
 
 #[path = "../../bindings/rust/src/calls.rs"]
 #[allow(dead_code)]
@@ -29,6 +30,8 @@ mod stack;
 mod times;
 #[path = "../../bench/jobs/tool.rs"]
 mod tool;
+#[path = "../../bench/jobs/wave.rs"]
+mod wave;
 
 use judges::stepping_over;
 use reels::{pairs, samples_of, Job, Reel};
@@ -106,6 +109,7 @@ fn everything() {
         beside_original(job, reel);
     }
     tool::beside_library();
+    wave::read_heads();
     if rounds() >= ROUNDS {
         instructions::count_instructions();
         instructions::count_read_all();
@@ -124,6 +128,7 @@ fn main() {
         ["read", length] => instructions::read_all(length.parse().expect("samples")),
         [job, reel] => beside_original(find_job(job), find_reel(reel)),
         ["tool"] => tool::beside_library(),
+        ["wave"] => wave::read_heads(),
         ["stack"] => stack::measure_stack(),
         _ => everything(),
     }

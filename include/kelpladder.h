@@ -10,7 +10,7 @@
  * The caller passes the stream and the areas of the call before, and changes neither. Areas may be longer or shorter from call to call.
  * A refused call changes nothing that is kept.
  *
- * What the caller owes, and no call can test. During a call each area, the samples and the slice are valid for their lengths and aligned
+ * What the caller owes, and no call can test. During a call each area, the samples, slices and bytes are valid for their lengths and aligned
  * as their type, no two of them overlap, and nobody else uses them. A null pointer with length 0 is an empty area or slice like any other:
  * nothing is read or written through it (a scratch of length 0 is refused with 4). A null pointer with another length is not allowed.
  * Any stream value and any lengths are allowed: bad ones are refused. The floating-point environment is the default one: round to
@@ -39,6 +39,9 @@ enum kelpladder_refusal {
     KELPLADDER_INPUT_FULL = 5,   /* frames held plus frames added exceed the input area */
     KELPLADDER_STAGE_FULL = 6,   /* tail plus frames copied or stretched exceed the stage; at pitch 1 these frames alone */
     KELPLADDER_OUTPUT_FULL = 7,  /* frames waiting plus frames made exceed the output area */
+    KELPLADDER_NOT_WAVE = 8,     /* WAVE, reading: no RIFF and WAVE at its head */
+    KELPLADDER_BAD_SIZE = 9,     /* WAVE, reading: a chunk ends past the file; writing: above 16,777,216 samples, or a destination too short */
+    KELPLADDER_BAD_FORMAT = 10,  /* WAVE, reading: no data chunk, or its samples are not of a format that is read */
     KELPLADDER_TOTAL_FULL = 12   /* a total of the balance would pass 64 bits */
 };
 
@@ -160,6 +163,35 @@ kelpladder_gave kelpladder_read_f32(kelpladder_stream stream, size_t most_frames
 /* Makes frames of what is held and of silence, keeps those expected, and clears what is held. Refusals 3 to 7 and 12. */
 kelpladder_wrote kelpladder_flush(kelpladder_stream stream, int16_t *input, size_t input_length, int16_t *stage, size_t stage_length,
                                   int16_t *output, size_t output_length, int16_t *scratch, size_t scratch_length);
+
+/* What reading a WAVE file answers; every field but the first is 0 if refused. */
+typedef struct kelpladder_wave {
+    uint32_t refusal;
+    uint32_t rate;            /* frames a second */
+    uint32_t channels;
+    size_t frames;            /* whole frames; a partial last frame is left out */
+    size_t begin;             /* the byte at which their samples begin: 16 bits each, the low byte first, channels interleaved */
+} kelpladder_wave;
+
+/* What writing a WAVE file answers. */
+typedef struct kelpladder_wave_written {
+    uint32_t refusal;
+    uint32_t given;           /* with 1 the rate, with 2 the channels given; otherwise 0 */
+    size_t bytes;             /* of the file: 44 and two for each sample; 0 if refused */
+} kelpladder_wave_written;
+
+/* Reads the head of a RIFF/WAVE file of 16-bit PCM, up to its data chunk, and no sample. Refused, in this order: 8 without RIFF and WAVE at
+ * its head; 9 if a chunk up to and including data ends past the file, where the eight bytes of a chunk's head count, and the byte of padding
+ * behind an odd size, but not that of data; 10 without a data chunk, without a fmt chunk of 16 bytes or more before it, or if the first such
+ * chunk has a tag other than 1, bits other than 16, or a rate or channels that no stream takes. Not read: the size behind RIFF, the byte
+ * rate, the block size, and anything behind the samples. */
+kelpladder_wave kelpladder_wave_read(const uint8_t *bytes, size_t bytes_length);
+
+/* Writes a file of the whole frames of the samples to the front of the destination. Refusals 1 and 2 as at opening, then 9. Behind the file,
+ * and if refused, the destination stays as it is. The sample n of a file goes into kelpladder_write_f32 as n/32767.0f; each comes back as
+ * itself, but -32768 as -32767. */
+kelpladder_wave_written kelpladder_wave_write(uint8_t *dest, size_t dest_length, uint32_t rate, uint32_t channels,
+                                              const int16_t *samples, size_t samples_length);
 
 #ifdef __cplusplus
 }

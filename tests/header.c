@@ -1,5 +1,5 @@
 /* The C interface as a C program sees it: include/kelpladder.h is compiled as C99, and the calls are held to the examples of
-   docs/RULES.md, "Areas and refusals" and "Figures". Exits at the first failure. */
+   docs/RULES.md, "Areas and refusals", "Figures" and "WAVE files". Exits at the first failure. */
 #include "kelpladder.h"
 
 #include <math.h>
@@ -722,6 +722,148 @@ static void skims_silence(void)
     CHECK(wrote.told.outcome == KELPLADDER_STRETCHED && wrote.stream.prev_period == 123);
 }
 
+/* A file of two frames of two channels at 44,100 frames a second, with a partial frame left out. */
+static const int16_t reel[5] = {-32768, 32767, -2, 258, 9};
+static const uint8_t file[52] = {
+    'R', 'I', 'F', 'F', 44, 0, 0, 0, 'W', 'A', 'V', 'E', 'f', 'm', 't', ' ', 16, 0, 0, 0, 1, 0, 2, 0, 0x44, 0xac, 0, 0, 0x10, 0xb1, 2, 0,
+    4, 0, 16, 0, 'd', 'a', 't', 'a', 8, 0, 0, 0, 0x00, 0x80, 0xff, 0x7f, 0xfe, 0xff, 0x02, 0x01
+};
+
+static int wave_is(kelpladder_wave wave, uint32_t refusal, uint32_t rate, uint32_t channels, size_t frames, size_t begin)
+{
+    return wave.refusal == refusal && wave.rate == rate && wave.channels == channels && wave.frames == frames && wave.begin == begin;
+}
+
+static int written_is(kelpladder_wave_written written, uint32_t refusal, uint32_t given, size_t bytes)
+{
+    return written.refusal == refusal && written.given == given && written.bytes == bytes;
+}
+
+/* Whether all bytes have this value. */
+static int all_are(const uint8_t *bytes, size_t length, uint8_t value)
+{
+    size_t i;
+    for (i = 0; i < length && bytes[i] == value; i++)
+        ;
+    return i == length;
+}
+
+/* The file is written byte by byte as above and reads back; behind it the destination stays. */
+static void writes_waves(void)
+{
+    uint8_t dest[64];
+    memset(dest, 7, sizeof dest);
+    CHECK(written_is(kelpladder_wave_write(dest, sizeof dest, 44100, 2, reel, 5), KELPLADDER_ACCEPTED, 0, 52));
+    CHECK(memcmp(dest, file, sizeof file) == 0);
+    CHECK(all_are(dest + 52, sizeof dest - 52, 7));
+    CHECK(wave_is(kelpladder_wave_read(dest, 52), KELPLADDER_ACCEPTED, 44100, 2, 2, 44));
+    CHECK(wave_is(kelpladder_wave_read(dest, sizeof dest), KELPLADDER_ACCEPTED, 44100, 2, 2, 44));
+    memset(dest, 7, sizeof dest);
+    CHECK(written_is(kelpladder_wave_write(dest, 52, 44100, 2, reel, 4), KELPLADDER_ACCEPTED, 0, 52));
+    CHECK(memcmp(dest, file, sizeof file) == 0 && all_are(dest + 52, sizeof dest - 52, 7));
+    CHECK(written_is(kelpladder_wave_write(dest, 44, 1000, 32, reel, 5), KELPLADDER_ACCEPTED, 0, 44));
+    CHECK(wave_is(kelpladder_wave_read(dest, 44), KELPLADDER_ACCEPTED, 1000, 32, 0, 44));
+    CHECK(written_is(kelpladder_wave_write(dest, sizeof dest, 500000, 1, reel, 5), KELPLADDER_ACCEPTED, 0, 54));
+    CHECK(wave_is(kelpladder_wave_read(dest, sizeof dest), KELPLADDER_ACCEPTED, 500000, 1, 5, 44));
+    CHECK(dest[44] == 0x00 && dest[45] == 0x80 && dest[52] == 9 && dest[53] == 0);
+}
+
+static void refuses_wave(uint32_t rate, uint32_t channels, size_t samples, size_t room, uint32_t refusal, uint32_t given)
+{
+    uint8_t dest[64];
+    memset(dest, 7, sizeof dest);
+    CHECK(written_is(kelpladder_wave_write(dest, room, rate, channels, reel, samples), refusal, given, 0));
+    CHECK(all_are(dest, sizeof dest, 7));
+}
+
+/* 1, then 2, then 9; beside each, what is accepted is above. */
+static void refuses_writing_waves(void)
+{
+    refuses_wave(999, 0, 5, 0, KELPLADDER_BAD_RATE, 999);
+    refuses_wave(500001, 1, 5, 64, KELPLADDER_BAD_RATE, 500001);
+    refuses_wave(0, 33, 5, 64, KELPLADDER_BAD_RATE, 0);
+    refuses_wave(UINT32_MAX, 2, 0, 64, KELPLADDER_BAD_RATE, UINT32_MAX);
+    refuses_wave(1000, 0, 5, 0, KELPLADDER_BAD_CHANNELS, 0);
+    refuses_wave(500000, 33, 5, 64, KELPLADDER_BAD_CHANNELS, 33);
+    refuses_wave(44100, 65537, 5, 64, KELPLADDER_BAD_CHANNELS, 65537);
+    refuses_wave(44100, 2, 5, 51, KELPLADDER_BAD_SIZE, 0);
+    refuses_wave(44100, 1, 5, 53, KELPLADDER_BAD_SIZE, 0);
+    refuses_wave(44100, 32, 5, 43, KELPLADDER_BAD_SIZE, 0);
+    refuses_wave(44100, 2, 0, 0, KELPLADDER_BAD_SIZE, 0);
+}
+
+/* The most samples of a file; a partial frame behind them does not count. */
+static void limits_waves(void)
+{
+    int16_t *samples = calloc(LONGEST + 2, sizeof *samples);
+    uint8_t *dest = calloc(44 + 2 * ((size_t)LONGEST + 2), 1);
+    check(samples != NULL && dest != NULL, "room for the longest file", __LINE__);
+    CHECK(written_is(kelpladder_wave_write(dest, 44 + 2 * ((size_t)LONGEST + 2), RATE, 1, samples, LONGEST + 1), KELPLADDER_BAD_SIZE, 0, 0));
+    CHECK(written_is(kelpladder_wave_write(dest, 44 + 2 * ((size_t)LONGEST + 2), RATE, 2, samples, LONGEST + 2), KELPLADDER_BAD_SIZE, 0, 0));
+    CHECK(dest[0] == 0);
+    CHECK(written_is(kelpladder_wave_write(dest, 44 + 2 * (size_t)LONGEST, RATE, 2, samples, LONGEST + 1), KELPLADDER_ACCEPTED, 0,
+                     44 + 2 * (size_t)LONGEST));
+    CHECK(wave_is(kelpladder_wave_read(dest, 44 + 2 * (size_t)LONGEST), KELPLADDER_ACCEPTED, RATE, 2, LONGEST / 2, 44));
+    free(samples);
+    free(dest);
+}
+
+/* The file with one byte changed. */
+static kelpladder_wave read_changed(size_t place, uint8_t byte)
+{
+    uint8_t changed[52];
+    memcpy(changed, file, sizeof file);
+    changed[place] = byte;
+    return kelpladder_wave_read(changed, sizeof changed);
+}
+
+/* 8, 9 and 10, in which every other field is 0; and fields that are not read. */
+static void refuses_reading_waves(void)
+{
+    size_t length;
+    for (length = 0; length < 52; length++)
+        CHECK(wave_is(kelpladder_wave_read(file, length),
+                      length < 12 ? KELPLADDER_NOT_WAVE : length == 12 || length == 36 ? KELPLADDER_BAD_FORMAT : KELPLADDER_BAD_SIZE, 0, 0, 0, 0));
+    CHECK(wave_is(read_changed(3, 'X'), KELPLADDER_NOT_WAVE, 0, 0, 0, 0));
+    CHECK(wave_is(read_changed(8, 'w'), KELPLADDER_NOT_WAVE, 0, 0, 0, 0));
+    CHECK(wave_is(read_changed(16, 255), KELPLADDER_BAD_SIZE, 0, 0, 0, 0));
+    CHECK(wave_is(read_changed(43, 255), KELPLADDER_BAD_SIZE, 0, 0, 0, 0));
+    CHECK(wave_is(read_changed(15, 0), KELPLADDER_BAD_FORMAT, 0, 0, 0, 0));
+    CHECK(wave_is(read_changed(20, 3), KELPLADDER_BAD_FORMAT, 0, 0, 0, 0));
+    CHECK(wave_is(read_changed(22, 0), KELPLADDER_BAD_FORMAT, 0, 0, 0, 0));
+    CHECK(wave_is(read_changed(23, 1), KELPLADDER_BAD_FORMAT, 0, 0, 0, 0));
+    CHECK(wave_is(read_changed(26, 255), KELPLADDER_BAD_FORMAT, 0, 0, 0, 0));
+    CHECK(wave_is(read_changed(34, 8), KELPLADDER_BAD_FORMAT, 0, 0, 0, 0));
+    CHECK(wave_is(read_changed(4, 0), KELPLADDER_ACCEPTED, 44100, 2, 2, 44));
+    CHECK(wave_is(read_changed(28, 0), KELPLADDER_ACCEPTED, 44100, 2, 2, 44));
+    CHECK(wave_is(read_changed(32, 0), KELPLADDER_ACCEPTED, 44100, 2, 2, 44));
+    CHECK(wave_is(read_changed(40, 7), KELPLADDER_ACCEPTED, 44100, 2, 1, 44));
+}
+
+/* A null pointer with length 0, as bytes, as destination and as samples. */
+static void takes_null_pointers_of_waves(void)
+{
+    uint8_t dest[44];
+    CHECK(wave_is(kelpladder_wave_read(NULL, 0), KELPLADDER_NOT_WAVE, 0, 0, 0, 0));
+    CHECK(written_is(kelpladder_wave_write(NULL, 0, RATE, 1, reel, 5), KELPLADDER_BAD_SIZE, 0, 0));
+    CHECK(written_is(kelpladder_wave_write(NULL, 0, RATE, 1, NULL, 0), KELPLADDER_BAD_SIZE, 0, 0));
+    CHECK(written_is(kelpladder_wave_write(NULL, 0, 999, 1, NULL, 0), KELPLADDER_BAD_RATE, 999, 0));
+    CHECK(written_is(kelpladder_wave_write(dest, sizeof dest, RATE, 1, NULL, 0), KELPLADDER_ACCEPTED, 0, 44));
+    CHECK(wave_is(kelpladder_wave_read(dest, sizeof dest), KELPLADDER_ACCEPTED, RATE, 1, 0, 44));
+}
+
+/* A file's samples, each as n/32767 into a write, wait as they are, but -32768 as -32767. */
+static void writes_the_samples_of_a_wave(void)
+{
+    kelpladder_wave wave = kelpladder_wave_read(file, sizeof file);
+    float samples[4];
+    size_t i;
+    for (i = 0; i < 4; i++)
+        samples[i] = (float)(int16_t)(file[wave.begin + 2 * i] | file[wave.begin + 2 * i + 1] << 8) / 32767.0f;
+    CHECK(write_all(fresh(2), samples, 4).stream.waiting == 2);
+    CHECK(output[0] == -32767 && output[1] == 32767 && output[2] == -2 && output[3] == 258);
+}
+
 int main(void)
 {
     speak(0, AREA, 62);
@@ -753,6 +895,12 @@ int main(void)
     breaks_ties();
     tells_no_sum();
     skims_silence();
+    writes_waves();
+    refuses_writing_waves();
+    limits_waves();
+    refuses_reading_waves();
+    takes_null_pointers_of_waves();
+    writes_the_samples_of_a_wave();
     printf("header: %u checks of the C interface hold\n", checks);
     return 0;
 }

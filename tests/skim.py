@@ -127,7 +127,7 @@ def test_stopped():
 
 def test_version():
     assert skim(b"", "--longest-period", "--version") == skim(b"", "--version")
-    assert skim(b"", "--version") == skim(b"", "--as-original", "--version") == (b"skim (kelpladder) 0.3.0\n", [], 0)
+    assert skim(b"", "--version") == skim(b"", "--as-original", "--version") == (b"skim (kelpladder) 0.4.0\n", [], 0)
 
 
 def test_map():
@@ -171,11 +171,17 @@ def test_map_not_taken():
     out, told, status = skim(data, "--map", "/dev/full")
     assert (out, status, told[0]) == (b"", 1, "skim: the map: No space left on device") and "frames_in=0 " in told[-1], told
     # A closed descriptor does not become the map's.
-    for closed in ("0<&-", "2>&-"):
+    for closed in ("--raw 0<&-", "2>&-"):
         with tempfile.TemporaryDirectory() as folder:
             path = Path(folder, "map")
             done = subprocess.run(["sh", "-c", f'"$0" --map "$1" {closed}', COMMAND, path], input=data, capture_output=True)
             assert (done.returncode, path.read_text()) == (2, ""), (closed, done)
+    # An input that cannot be read is told before the map is opened.
+    with tempfile.TemporaryDirectory() as folder:
+        path = Path(folder, "map")
+        done = subprocess.run(["sh", "-c", '"$0" --map "$1" 0<&-', COMMAND, path], input=data, capture_output=True)
+        assert done.stderr == b"skim: standard input: Bad file descriptor\nskim: status=1\n" and done.returncode == 1, done
+        assert not path.exists(), done
 
 
 def test_balance():
@@ -229,15 +235,17 @@ def test_partial_frame():
 
 def test_bad_usage():
     wrong = {
-        "RATE": ("999 1 1 1", "500001 1 1 1", "8000.0 1 1 1", "x 1 1 1", "99999999999999999999 1 1 1"),
+        "RATE": ("999 1 1 1", "500001 1 1 1", "8000.0 1 1 1", "99999999999999999999 1 1 1"),
         "CHANNELS": ("8000 0 1 1", "8000 33 1 1", "8000 -1 1 1"),
-        "SPEED": ("8000 1 0.04 1", "8000 1 20.01 1", "8000 1 nan 1", "8000 1 .5 1", "8000 1 1. 1", "8000 1 1e1 1"),
+        "SPEED": ("8000 1 1", "8000 1 0.04 1", "8000 1 20.01 1", "8000 1 nan 1", "8000 1 .5 1", "8000 1 1. 1", "8000 1 1e1 1"),
         "PITCH": ("8000 1 1 0", "8000 1 1 21", "8000 1 1 1,5"),
         "VOLUME": ("8000 1 1 1 0", "8000 1 1 1 100.1"),
-        "arguments": ("8000", "8000 1 1", "8000 1 1 1 1 1", "-h", "--map /dev/null 8000", "8000 1 1 1 1 --map /dev/null"),
+        "numbers behind the options": ("8000", "8000 1 1 1 1 1", "--map /dev/null 8000"),
+        "with names give": ("-h", "8000x", "--raw x y", "x y 8000 1 1 1"),
         "no room": ("500000 32 0.05 1", "--map /dev/null 500000 32 0.05 1"),
         "before the numbers may stand": ("--as-original --as-original", "--map /dev/null --map /dev/null", "--other", "--help --as-original", "--version 8000",
                                          "--as-original --status", "8000 1 1 1 --as-original", "8000 1 1 1 --map /dev/null",
+                                         "8000 1 1 1 1 --map /dev/null",
                                          "--as-original --map /dev/null --as-original 8000 1 1 1", "--longest-period --longest-period",
                                          "--longest-period --as-original --longest-period 8000 1 1 1", "8000 1 1 1 --longest-period",
                                          "--longest", "--longest-periods", "--longest-period=1", "--help --longest-period",

@@ -2,6 +2,7 @@
 
 use crate::instructions::measured;
 use crate::reels::{pairs, samples_of, Job, Reel, Sound, JOBS, OWN_REELS};
+use crate::wave::both_calls;
 use std::alloc::{alloc, dealloc, Layout};
 use std::ffi::c_void;
 use std::ptr::null_mut;
@@ -27,11 +28,12 @@ fn cases() -> Vec<Case> {
     reels.chain(flushes).collect()
 }
 
-/// The cases that it is handed, on our side.
+/// The cases that it is handed, on our side, and a WAVE file.
 extern "C" fn every_call(cases: *mut c_void) -> *mut c_void {
     for (job, reel, samples) in unsafe { &*cases.cast::<Vec<Case>>() } {
         measured(true, job, reel, samples);
     }
+    both_calls();
     null_mut()
 }
 

@@ -89,6 +89,26 @@ pub struct Gave {
     pub stream: Stream,
 }
 
+/// What reading a WAVE file answers; every field but the first is 0 if refused.
+#[repr(C)]
+#[derive(Debug, Default, Clone, Copy, PartialEq, Eq)]
+pub struct Wave {
+    pub refusal: u32,
+    pub rate: u32,
+    pub channels: u32,
+    pub frames: usize,
+    pub begin: usize,
+}
+
+/// What writing a WAVE file answers.
+#[repr(C)]
+#[derive(Debug, Default, Clone, Copy, PartialEq, Eq)]
+pub struct WaveWritten {
+    pub refusal: u32,
+    pub given: u32,
+    pub bytes: usize,
+}
+
 /// The four areas lent to a write or a flush.
 pub struct Areas<'a> {
     pub input: &'a mut [i16],
@@ -137,6 +157,15 @@ extern "C" {
         scratch: *mut i16,
         scratch_length: usize,
     ) -> Wrote;
+    fn kelpladder_wave_read(bytes: *const u8, bytes_length: usize) -> Wave;
+    fn kelpladder_wave_write(
+        dest: *mut u8,
+        dest_length: usize,
+        rate: u32,
+        channels: u32,
+        samples: *const i16,
+        samples_length: usize,
+    ) -> WaveWritten;
 }
 
 // The calls take any value of a stream and any lengths: a bad one is refused. They read and write within the lengths given, and keep no
@@ -212,4 +241,14 @@ pub fn flush(stream: Stream, areas: Areas<'_>) -> Wrote {
             scratch.len(),
         )
     }
+}
+
+/// Reads the head of a WAVE file.
+pub fn wave_read(bytes: &[u8]) -> Wave {
+    unsafe { kelpladder_wave_read(bytes.as_ptr(), bytes.len()) }
+}
+
+/// Writes a WAVE file to the front of the destination.
+pub fn wave_write(dest: &mut [u8], rate: u32, channels: u32, samples: &[i16]) -> WaveWritten {
+    unsafe { kelpladder_wave_write(dest.as_mut_ptr(), dest.len(), rate, channels, samples.as_ptr(), samples.len()) }
 }

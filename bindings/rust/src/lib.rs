@@ -29,6 +29,7 @@
 //! - [`with_ties`](SonicStream::with_ties) is not in libsonic-rs: where several periods fit a voice equally well, such a stream takes the
 //!   largest in place of the smallest. [`new`](SonicStream::new) opens one that takes the smallest. Nor is [`Told::sum`], which says how
 //!   well the last period found fits.
+//! - [`read_wave`] and [`write_wave`] are not in libsonic-rs: they read and write WAVE files of 16-bit samples.
 //! - A stream has a limit. Frames held, frames between two steps and frames waiting each have at most [`MAX_SAMPLES`] samples, and a
 //!   write or flush that would pass this answers [`Outcome::Full`] and changes nothing. In libsonic-rs they grow until memory ends.
 //! - The texts of [`SonicError`] are worded differently.
@@ -54,12 +55,14 @@ mod outcome;
 #[cfg(test)]
 mod tests;
 mod ties;
+mod wave;
 
 pub use areas::MAX_SAMPLES;
 pub use calls::Balance;
 pub use error::SonicError;
 pub use outcome::{Outcome, Told};
 pub use ties::Ties;
+pub use wave::{read_wave, write_wave, WaveError, WaveFile};
 
 use areas::OwnedAreas;
 use calls::{Areas, Opened, Stream, Wrote};
@@ -68,9 +71,12 @@ use std::fmt;
 // Numbers of refusal.
 const ACCEPTED: u32 = 0;
 const BAD_RATE: u32 = 1;
+const BAD_CHANNELS: u32 = 2;
 const INPUT_FULL: u32 = 5;
 const STAGE_FULL: u32 = 6;
 const OUTPUT_FULL: u32 = 7;
+const NOT_WAVE: u32 = 8;
+const BAD_SIZE: u32 = 9;
 const TOTAL_FULL: u32 = 12;
 
 /// A stream of frames whose speed, pitch and volume are changed. A frame is one sample per channel; frames are interleaved.

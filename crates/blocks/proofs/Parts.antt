@@ -5,6 +5,7 @@
 --   CountShows, read-serving, read-none-waits, samples-whole, turned    a block read; and written
 -- Assumes nothing.
 use mathlib.Core.Path.{_≡_, refl, sym, ap, _∙_, subst}
+use mathlib.Core.List.{List}
 use mathlib.Core.Bool.{Bool, true, false, cond}
 use Prim.Native.Nat.{ℕ, _+_, _*_, _/_, _%_, _^_, _≤_, _<_}
 use native.Mathlib.Nat.{mod-eq-of-lt, mul-mod-left, mul-div-cancel}
@@ -13,6 +14,7 @@ use borrow.Author.Tests.{ltb-false}
 use Rattle.stream.specs.declared.SonicStream.{SonicStream}
 use Rattle.adding.specs.declared.Wrote.{Wrote}
 use Rattle.passes.specs.declared.Passes.{Passes}
+use Rattle.inputs.proofs.Begun.{block-most}
 use Rattle.plans.specs.declared.Plan.{Plan}
 use Rattle.reels.specs.declared.reading.BlockRead.{BlockRead}
 use Rattle.reels.specs.declared.reel.Reel.{Reel}
@@ -40,6 +42,7 @@ module _ (t : Reel) (written : ℕ) (flushed : Bool) (stalls : Stalls) (passes :
         «frames_in» = t .«frames_in»;
         written = written;
         «frames_out» = t .«frames_out»;
+        source = t .source;
         partial = t .partial;
         state = t .state;
         stalls = stalls;
@@ -73,6 +76,7 @@ module _ (t : Reel) (written : ℕ) (flushed : Bool) (stalls : Stalls) (passes :
         input-kept =
             record {
               frames-same = x .input-kept .frames-same;
+              source-same = x .input-kept .source-same;
               partial-same = x .input-kept .partial-same;
               ended-same = x .input-kept .ended-same;
             };
@@ -153,7 +157,7 @@ record CountShows (p : Plan) (r : Reel) (b : BlockRead) : Type 0 where
   still : takesMore p (b .reel) ≡ true → takesMore p r ≡ true
   partial-last : p .block % p .channels ≡ 0 → b .reel .ended ≡ false → b .reel .partial ≡ 0
 
-count-shows : (p : Plan) (r : Reel) (b : BlockRead) → 1 ≤ p .channels → BlockReadAs p r b → CountShows p r b
+count-shows : (p : Plan) (r : Reel) {bytes : List ℕ} (b : BlockRead) → 1 ≤ p .channels → BlockReadAs p r bytes b → CountShows p r b
 count-shows p r b h x =
     let f = x .filled in
     let c = x .counted in
@@ -165,12 +169,12 @@ count-shows p r b h x =
       still = stays-takes p r (b .reel) (ap (λ (s : SonicStream). s .held .0) (c .stream-kept)) (read-stays (f .failed) (c .state-is));
       partial-last =
           λ w e. let full : f .bytes ≡ 2 * p .block =
-          omega (arith, x .fits, ltb-false (f .bytes) (2 * p .block) (sym (c .ended-is) ∙ e)) in
+          omega (arith, x .fits, block-most (r .source) (2 * p .block), ltb-false (f .bytes) (2 * p .block) (sym (c .ended-is) ∙ e)) in
           c .partial-is ∙ full-whole (p .block) (f .bytes) (p .channels) w full;
     }
 
 -- a reel of a served job stays one, and no frame waits
-pub read-serving : (p : Plan) (r : Reel) (b : BlockRead) → BlockReadAs p r b → Serving p r → Serving p (b .reel)
+pub read-serving : (p : Plan) (r : Reel) {bytes : List ℕ} (b : BlockRead) → BlockReadAs p r bytes b → Serving p r → Serving p (b .reel)
 read-serving p r b x =
     let c = x .counted in
     serving-stays p r (b .reel) (read-stays (x .filled .failed) (c .state-is))
@@ -180,17 +184,17 @@ read-serving p r b x =
     only s true o = only-kept s RunState.ReadFailed tt o
     only s false o = o
 
-pub read-none-waits : (p : Plan) (r : Reel) (b : BlockRead) → BlockReadAs p r b → NoneWaits r → NoneWaits (b .reel)
+pub read-none-waits : (p : Plan) (r : Reel) {bytes : List ℕ} (b : BlockRead) → BlockReadAs p r bytes b → NoneWaits r → NoneWaits (b .reel)
 read-none-waits p r b x n e =
     let c = x .counted in
     ap (λ (s : SonicStream). s .waiting .0) (c .stream-kept) ∙ n (ap sound (sym (read-stays {s = r .state} (x .filled .failed) (c .state-is) e)) ∙ e)
 
 -- its samples are whole frames
-pub samples-whole : (p : Plan) (r : Reel) (b : BlockRead) → BlockReadAs p r b → b .samples % p .channels ≡ 0
+pub samples-whole : (p : Plan) (r : Reel) {bytes : List ℕ} (b : BlockRead) → BlockReadAs p r bytes b → b .samples % p .channels ≡ 0
 samples-whole p r b x =
     ap (λ (k : ℕ). k % p .channels) (x .samples-are) ∙ mul-mod-left (x .filled .bytes / (2 * p .channels)) (p .channels)
 
-pub turned : (p : Plan) (r : Reel) (b : BlockRead) (r' : Reel) → 1 ≤ p .channels → p .block % p .channels ≡ 0 → BlockReadAs p r b
+pub turned : (p : Plan) (r : Reel) {bytes : List ℕ} (b : BlockRead) (r' : Reel) → 1 ≤ p .channels → p .block % p .channels ≡ 0 → BlockReadAs p r bytes b
     → BlockWritten p (b .samples / p .channels) (b .reel) r' → Turned p r r'
 turned p r b r' h w x y =
     let c = x .counted in

@@ -70,7 +70,7 @@ module _ (G E a b : ℕ) (low : G * b < a * (2 * E)) (high : a * (2 * E) < suc G
           sym (closest-below a b (keep (k tt))) ∙ whole-is ∙ sym (div-eq-of-lt-le (2 * E) (omega (arith, parts)) (omega (arith, parts, k tt)))
 
 -- ---- the number of digits
-size-more : (n j : ℕ) → 2 ^ j ≤ n → j < size n
+pub size-more : (n j : ℕ) → 2 ^ j ≤ n → j < size n
 size-more n j h = lt-of-not-le (λ (g : size n ≤ j). not-le-of-lt (lt-of-lt-of-le (size-lt n) (pow-mono g)) h)
 
 -- w is G with h more digits

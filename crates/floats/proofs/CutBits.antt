@@ -172,7 +172,7 @@ signed-fits w true (suc m) h = record { sfits = le-of-lt h }
 signed-fits w false m h = record { sfits = h }
 
 -- by any fraction that x equals, below 2 ^ 15
-signed-val : (x : Float) (s : Bool) (a c : ℕ) → 0 < c → HasValue x s a c → a / c < 2 ^ 15 → toSigned 15 x ≡ signed s (a / c)
+pub signed-val : (x : Float) (s : Bool) (a c : ℕ) → 0 < c → HasValue x s a c → a / c < 2 ^ 15 → toSigned 15 x ≡ signed s (a / c)
 unfolding toSigned
 signed-val nan s a c C v h = absurd v
 signed-val (inf t) s a c C v h = absurd v

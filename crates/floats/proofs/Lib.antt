@@ -26,3 +26,4 @@ pub mod Facts
 pub mod Figures
 pub mod CutBits
 pub mod SampleOut
+pub mod SampleBack

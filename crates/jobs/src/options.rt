@@ -1,14 +1,15 @@
-// The options, which stand before the numbers: `--as-original`, `--longest-period` and `--map FILE`, in any order, each
-// once or not at all.
+// The options, which stand before the names and numbers: `--as-original`, `--longest-period`, `--raw` and `--map FILE`,
+// in any order, each once or not at all.
 use crate::arguments::is_word;
 ghost use Prim.Native.Nat.{_+_, _≤_};
 
 // What was found so far: whether to stop as the original does, whether to find the longest of several periods with the
-// same mean, the place of the map's name, 0 if there is none, and the arguments that stand before the next one, without
-// the program's name.
+// same mean, whether the input is raw PCM, the place of the map's name, 0 if there is none, and the arguments that
+// stand before the next one, without the program's name.
 pub struct Options {
     pub as_original: bool,
     pub longest_period: bool,
+    pub raw: bool,
     pub map: usize,
     pub before: usize,
 }
@@ -29,6 +30,11 @@ fn one_more(mut found: Options) -> Options
         found.before = next;
         return found;
     }
+    if !found.raw && is_word(next, b"--raw") {
+        found.raw = true;
+        found.before = next;
+        return found;
+    }
     if found.map == 0 && is_word(next, b"--map") {
         found.map = next + 1;
         found.before = next + 1;
@@ -38,15 +44,16 @@ fn one_more(mut found: Options) -> Options
 
 // The options, behind `--status` if that is the first argument.
 pub(crate) fn given(with_status: bool) -> Options
-    ensures { λ r. ⌜ r .before ≤ 7 ⌝ }
+    ensures { λ r. ⌜ r .before ≤ 9 ⌝ }
 {
     let none = Options {
         as_original: false,
         longest_period: false,
+        raw: false,
         map: 0,
         before: if with_status { 1 } else { 0 },
     };
-    one_more(one_more(one_more(none)))
+    one_more(one_more(one_more(one_more(none))))
 }
 
 // Whether an argument begins as options do.

@@ -8,7 +8,27 @@ ghost use mathlib.Core.Path.{_≡_};
 ghost use mathlib.Core.Bool.{true};
 ghost use Rattle.stream.specs.Refusals.{inOrder};
 ghost use Rattle.stream.specs.Settings.{openCall};
-ghost use Rattle.jobs.specs.Settings.{withOne, settled};
+ghost use Rattle.jobs.specs.Settings.{withFormat, withOne, settled};
+
+// The same job with the rate and channels of a WAVE file.
+pub fn with_format(job: Job, rate: u32, channels: u32) -> Job
+    ensures { λ r. ⌜ r ≡ withFormat job rate channels ⌝ }
+{
+    let choice = job.ties;
+    Job {
+        rate,
+        channels,
+        speed: job.speed,
+        pitch: job.pitch,
+        volume: job.volume,
+        step_over: job.step_over,
+        ties: choice,
+        map: job.map,
+        input: job.input,
+        output: job.output,
+        raw: job.raw,
+    }
+}
 
 // Opens the stream of a job.
 pub fn open(job: Job) -> Opened

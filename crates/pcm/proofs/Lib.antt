@@ -1,1 +1,2 @@
 mod Coding
+pub mod Back

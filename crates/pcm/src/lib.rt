@@ -31,7 +31,7 @@ pub fn decode(bytes: &[u8], count: usize, values: &mut [f32])
 }
 
 // The bytes of a sample, as a number.
-fn pair(v: i16) -> u16
+pub fn pair(v: i16) -> u16
     ensures { λ r. ⌜ r ≡ pairOf v ⌝ }
 {
     if v < 0 {

@@ -52,10 +52,11 @@ input-trans a b =
       frames-same = b .frames-same ∙ a .frames-same;
       partial-same = b .partial-same ∙ a .partial-same;
       ended-same = b .ended-same ∙ a .ended-same;
+      source-same = b .source-same ∙ a .source-same;
     }
 
 pub same-input : {r : Reel} → SameInput r r
-same-input = record { frames-same = refl; partial-same = refl; ended-same = refl }
+same-input = record { frames-same = refl; source-same = refl; partial-same = refl; ended-same = refl }
 
 pub notes-trans : {r s t : Reel} → SameNotes r s → SameNotes s t → SameNotes r t
 notes-trans a b =

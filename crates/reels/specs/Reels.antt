@@ -8,7 +8,8 @@
 -- Definitions only. Assumes nothing.
 use mathlib.Core.Path.{_≡_}
 use mathlib.Core.Bool.{Bool, true, false, not, cond, _&&_}
-use Prim.Native.Nat.{ℕ, _+_, _-_, _*_, _/_, _%_, _^_, _≤_, _<_}
+use mathlib.Core.List.{List}
+use Prim.Native.Nat.{ℕ, _+_, _-_, _*_, _/_, _%_, _^_, _≤_, _<_, min}
 use lib.Dec.{ltb}
 use Rattle.stream.specs.declared.SonicStream.{SonicStream}
 use Rattle.adding.specs.declared.Wrote.{Wrote}
@@ -18,7 +19,9 @@ use Rattle.read.specs.Reading.{streamAfterRead}
 use Rattle.passes.specs.declared.Passes.{Passes}
 use Rattle.passes.specs.Passes.{none}
 use Rattle.plans.specs.declared.Plan.{Plan}
-use Rattle.reels.specs.declared.reading.BlockBytes.{BlockBytes}
+use Rattle.inputs.specs.declared.Source.{Source}
+use Rattle.inputs.specs.declared.BlockBytes.{BlockBytes}
+use Rattle.inputs.specs.Sources.{blockOf, sourceAfter, Begins}
 use Rattle.reels.specs.declared.reading.BlockRead.{BlockRead}
 use Rattle.reels.specs.declared.reel.Reel.{Reel}
 use Rattle.reels.specs.declared.state.RunState.{RunState}
@@ -34,14 +37,15 @@ takesMore p r = takes p (r .stream .held .0) (r .state)
 abbrev pub readsMore : Reel → Bool
 readsMore r = not (r .ended) && not (failed (r .state))
 
--- a run that has not begun, and the descriptor of its map
-unfoldable pub freshReel : SonicStream → ℕ → Reel
-freshReel stream map =
+-- a run that has not begun, with its input and the descriptor of its map
+unfoldable pub freshReel : SonicStream → Source → ℕ → Reel
+freshReel stream source map =
     record {
       stream = stream;
       «frames_in» = 0;
       written = 0;
       «frames_out» = 0;
+      source = source;
       partial = 0;
       state = RunState.Going;
       stalls = record { count = 0; first = 0 };
@@ -58,6 +62,7 @@ freshReel stream map =
 -- what is known of the input is as it was
 pub record SameInput (r r' : Reel) : Type 0 where
   pub frames-same : r' .«frames_in» ≡ r .«frames_in»
+  pub source-same : r' .source ≡ r .source
   pub partial-same : r' .partial ≡ r .partial
   pub ended-same : r' .ended ≡ r .ended
 
@@ -114,6 +119,7 @@ pub record Answered (stall : RunState) (written : ℕ) (flushed : Bool) (stalls 
 -- full is the last
 pub record BlockCounted (p : Plan) (r : Reel) (f : BlockBytes) (r' : Reel) : Type 0 where
   pub frames-is : r' .«frames_in» ≡ (r .«frames_in» + f .bytes / (2 * p .channels)) % 2 ^ 64
+  pub source-is : r' .source ≡ sourceAfter (f .bytes) (r .source)
   pub partial-is : r' .partial ≡ f .bytes % (2 * p .channels)
   pub ended-is : r' .ended ≡ ltb (f .bytes) (2 * p .block)
   pub state-is : r' .state ≡ cond (f .failed) (kept (r .state) RunState.ReadFailed) (r .state)
@@ -154,10 +160,11 @@ pub record Drained (few : ℕ) (r r' : Reel) : Type 0 where
 
 -- ---- a block read
 
--- after a block was read: the bytes that it was filled with are counted, and its samples are those of their whole
--- frames
-pub record BlockReadAs (p : Plan) (r : Reel) (b : BlockRead) : Type 0 where
+-- after a block was read to these bytes: those that it was filled with, which begin with what stood ready, are counted,
+-- and its samples are those of their whole frames; of a WAVE file no more are read than its data chunk has
+pub record BlockReadAs (p : Plan) (r : Reel) (bytes : List ℕ) (b : BlockRead) : Type 0 where
   pub filled : BlockBytes
-  pub fits : filled .bytes ≤ 2 * p .block
+  pub fits : filled .bytes ≤ blockOf (r .source) (2 * p .block)
+  pub begins : Begins (r .source .first) (min (r .source .ready) (blockOf (r .source) (2 * p .block))) bytes
   pub counted : BlockCounted p r filled (b .reel)
   pub samples-are : b .samples ≡ filled .bytes / (2 * p .channels) * p .channels

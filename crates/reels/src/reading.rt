@@ -2,7 +2,8 @@
 use crate::reel::Reel;
 use crate::state::RunState;
 use frames::Frames;
-use libc::STDIN_FILENO;
+use inputs::BlockBytes;
+use inputs::fill;
 use plans::Plan;
 ghost use mathlib.Core.Path.{_≡_};
 ghost use Prim.Native.Nat.{_≤_};
@@ -10,35 +11,6 @@ ghost use lib.ListN.{length};
 ghost use Rattle.pcm.specs.Pcm.{Decoded};
 ghost use Rattle.plans.specs.Plans.{blockSamples, blockBytes, Usable};
 ghost use Rattle.reels.specs.Reels.{BlockCounted, BlockReadAs};
-
-// What a block was filled with, and whether a read failed.
-pub struct BlockBytes {
-    pub bytes: usize,
-    pub failed: bool,
-}
-
-// Reads until the block is full, the input ends or a read fails.
-fn fill(block: &mut [u8]) -> BlockBytes
-    ensures { λ r. ⌜ r .bytes ≤ length (now (block .entry)) ⌝ }
-{
-    let mut have: usize = 0;
-    while have < block.len() {
-        let part = &mut block[have..];
-        let got = libc::read(STDIN_FILENO, part);
-        let n = io::count(got, part);
-        if n == 0 {
-            return BlockBytes {
-                bytes: have,
-                failed: got < 0,
-            };
-        }
-        have += n;
-    }
-    BlockBytes {
-        bytes: have,
-        failed: false,
-    }
-}
 
 // A reel with a block read, and the block's samples.
 pub struct BlockRead {
@@ -55,22 +27,26 @@ fn count(mut reel: Reel, filled: BlockBytes, plan: Plan) -> Reel
     reel.frames_in = std::num::wrapping_add_u64(reel.frames_in, (filled.bytes / frame) as u64);
     reel.partial = filled.bytes % frame;
     reel.ended = filled.bytes < 2 * plan.block;
+    let source = reel.source;
+    let next = source.after(filled.bytes);
+    reel.source = next;
     if filled.failed {
         return reel.stopped(RunState::ReadFailed);
     }
     reel
 }
 
-// Reads a block.
+// Reads a block. Of a WAVE file no more is read than its data chunk has.
 pub fn read_block(reel: Reel, plan: Plan, block: &mut [f32], bytes: &mut [u8]) -> BlockRead
     requires { ⌜ Usable plan × (reel .partial ≡ 0) × (blockSamples ≡ length (now block))
         × (blockBytes ≡ length (now bytes)) ⌝ }
-    ensures { λ r. ⌜ (r .samples ≤ length (now (block .exit))) × BlockReadAs plan reel r
+    ensures { λ r. ⌜ (r .samples ≤ length (now (block .exit))) × BlockReadAs plan reel (now (bytes .exit)) r
         × Decoded (r .samples) (now (bytes .exit)) (now (block .exit)) ⌝ }
 {
     let channels = plan.channels;
-    let size = 2 * plan.block;
-    let filled = fill(&mut bytes[..size]);
+    let source = reel.source;
+    let size = source.block(2 * plan.block);
+    let filled = fill(&mut bytes[..size], source.first, source.ready);
     let frames = Frames(filled.bytes / (2 * channels));
     let samples = frames.samples(channels).0;
     pcm::decode(bytes, samples, block);

@@ -9,6 +9,7 @@ use crate::state::stream_after;
 use crate::state::then;
 use adding::Wrote;
 use frames::Frames;
+use inputs::Source;
 use libc::STDOUT_FILENO;
 use passes::Passes;
 use plans::BLOCK_SAMPLES;
@@ -31,6 +32,8 @@ pub struct Reel {
     pub frames_in: u64,
     pub written: u64,
     pub frames_out: u64,
+    // What the input is, and what is left of it.
+    pub source: Source,
     // The bytes at the end of the input that are no whole frame.
     pub partial: usize,
     // How the run goes, and the writes that stalled.
@@ -72,14 +75,15 @@ impl Reel {
     // The descriptor of standard input, which no map is written to.
     pub const NO_MAP: u32 = 0;
 
-    pub fn new(stream: SonicStream, map: u32) -> Reel
-        ensures { λ r. ⌜ r ≡ freshReel stream map ⌝ }
+    pub fn new(stream: SonicStream, source: Source, map: u32) -> Reel
+        ensures { λ r. ⌜ r ≡ freshReel stream source map ⌝ }
     {
         Reel {
             stream,
             frames_in: 0,
             written: 0,
             frames_out: 0,
+            source,
             partial: 0,
             state: RunState::Going,
             stalls: Stalls { count: 0, first: 0 },
@@ -118,11 +122,13 @@ impl Reel {
         let stalls = self.stalls;
         let tail = self.tail;
         let passes = self.passes;
+        let source = self.source;
         Reel {
             stream,
             frames_in: self.frames_in,
             written: self.written,
             frames_out: self.frames_out,
+            source,
             partial: self.partial,
             state,
             stalls,

@@ -44,7 +44,7 @@ fn is_stalled(outcome: Outcome) -> bool
 }
 
 // Whether nothing was refused and nothing failed.
-fn is_sound(state: RunState) -> bool
+pub fn is_sound(state: RunState) -> bool
     ensures { λ r. ⌜ r ≡ sound state ⌝ }
 {
     match state {

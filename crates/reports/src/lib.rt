@@ -1,7 +1,5 @@
-// What is told of a run of the skim tool, on standard error: `progress` while it goes on, and at its end what became of
-// it; the last line is that of `summary`. `specs/Report.antt` says what the status is.
-pub mod progress;
-pub mod say;
+// What is told of a run of the skim tool at its end, on standard error: what became of it; the last line is that of
+// `summary`. `specs/Report.antt` says what the status is.
 mod stalls;
 mod summary;
 
@@ -9,25 +7,12 @@ use passes::Passes;
 use plans::Plan;
 use reels::reel::Reel;
 use reels::state::RunState;
+use reels::state::is_sound;
+use say::waves;
 use stream::refusals;
 ghost use mathlib.Core.Path.{_≡_};
 ghost use Rattle.period.specs.Rates.{InLimits};
-ghost use Rattle.reports.specs.Report.{statusOf};
-
-// A refusal's number, and what it means.
-pub fn refused(number: u32) {
-    say::number(b"skim: refused with number ", number as u64);
-    match number {
-        refusals::BAD_RATE => say::text(b": the rate is out of range\n"),
-        refusals::BAD_CHANNELS => say::text(b": the channels are out of range\n"),
-        refusals::BAD_STREAM => say::text(b": the stream is not in order\n"),
-        refusals::BAD_AREAS => say::text(b": an area is too short for what the stream holds\n"),
-        refusals::INPUT_FULL => say::text(b": the input area is full\n"),
-        refusals::STAGE_FULL => say::text(b": the stage area is full\n"),
-        refusals::OUTPUT_FULL => say::text(b": the output area is full\n"),
-        _ => say::text(b": a total of frames skipped or inserted would pass 64 bits\n"),
-    }
-}
+ghost use Rattle.reports.specs.Report.{wholeOf, statusOf};
 
 // The time of so many frames, in seconds.
 fn say_time(frames: u64, plan: Plan)
@@ -116,19 +101,27 @@ fn say_cleared(reel: Reel) {
     }
 }
 
-// A read or a write that failed, with what the system says of it, which the next call that fails changes. `map` is the
-// descriptor of the map that was wanted: a run whose map was not taken is without one.
-fn say_failure(reel: Reel, map: u32) {
+// A read or a write that failed, with what the system says of it, which the next call that fails changes. A run whose
+// map was not taken is without one.
+fn say_failure(reel: Reel, files: Files) {
     let state = reel.state;
     match state {
         RunState::Going => (),
         RunState::Stalled(_) => (),
         RunState::FlushStalled(_) => (),
         RunState::Refused(_) => (),
-        RunState::ReadFailed => os::fail(b"skim: standard input"),
+        RunState::ReadFailed => fail(
+            b"skim: standard input",
+            b"skim: the input file",
+            files.named,
+        ),
         RunState::WriteFailed => {
-            if reel.map == map {
-                os::fail(b"skim: standard output");
+            if reel.map == files.map {
+                fail(
+                    b"skim: standard output",
+                    b"skim: the output file",
+                    files.named,
+                );
             } else {
                 os::fail(b"skim: the map");
             }
@@ -145,19 +138,60 @@ fn say_end(reel: Reel, plan: Plan)
         RunState::Going => (),
         RunState::Stalled(at) => stalls::say_stall(reel, at, plan),
         RunState::FlushStalled(at) => stalls::say_flush_stall(reel, at, plan),
-        RunState::Refused(number) => refused(number),
+        RunState::Refused(number) => {
+            if number == refusals::BAD_SIZE {
+                waves::say_too_long();
+            } else {
+                say::refused(number);
+            }
+        }
         RunState::ReadFailed => (),
         RunState::WriteFailed => (),
     }
 }
 
-// Tells what became of a run, with the descriptor of the map that was wanted, and answers the status.
-pub fn run(reel: Reel, plan: Plan, map: u32) -> u64
+// The files of a run: the descriptor of the map that was wanted, whether input and output are files that were named,
+// and whether the output is a WAVE file whose sizes could not be set.
+pub struct Files {
+    pub map: u32,
+    pub named: bool,
+    pub unset: bool,
+}
+
+// Tells what failed on a standard stream, or on the file that takes its place.
+pub fn fail(stream: &[u8], file: &[u8], named: bool) {
+    if named {
+        os::fail(file);
+    } else {
+        os::fail(stream);
+    }
+}
+
+// Whether the track of a run is whole: nothing was refused, nothing failed, and the data chunk of a WAVE file came
+// whole.
+pub fn is_whole(reel: Reel) -> bool
+    ensures { λ r. ⌜ r ≡ wholeOf reel ⌝ }
+{
+    let state = reel.state;
+    if reel.source.left > 0 {
+        return false;
+    }
+    is_sound(state)
+}
+
+// Tells what became of a run, and answers the status.
+pub fn run(reel: Reel, plan: Plan, files: Files) -> u64
     requires { ⌜ InLimits (plan .rate) (plan .channels) ⌝ }
     ensures { λ r. ⌜ r ≡ statusOf reel ⌝ }
 {
-    say_failure(reel, map);
+    say_failure(reel, files);
     progress::end(plan, reel.frames_in);
+    if summary::is_cut(reel) {
+        waves::say_cut(reel.source.size, reel.source.left);
+    }
+    if files.unset {
+        waves::say_unset();
+    }
     say_partial(reel.partial as u64);
     stalls::say_stalls(reel, plan);
     say_end(reel, plan);

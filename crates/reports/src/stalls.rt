@@ -1,5 +1,4 @@
 // What is told of stalls. A stall may be left by a later write: s of a call, which is rounded, changes with each.
-use crate::say;
 use crate::say_place;
 use plans::Plan;
 use reels::reel::Reel;

@@ -1,8 +1,7 @@
-// A whole reel of the skim tool: the turns of `skimming`, a few at a time, since between them `reports` tells how far
-// the run is, and nothing below `reports` tells anything.
+// A whole reel of the skim tool: the turns of `skimming`, a few at a time, since between them `progress` tells how
+// far the run is.
 use plans::Plan;
 use reels::reel::Reel;
-use reports::progress;
 ghost use mathlib.Core.Path.{_≡_};
 ghost use lib.ListN.{length};
 ghost use Rattle.plans.specs.Plans.{blockSamples, blockBytes, Usable};

@@ -12,14 +12,15 @@ use Rattle.reels.specs.declared.reel.Reel.{Reel}
 use Rattle.stream.proofs.InOrder.{limits-of}
 use Rattle.serving.specs.Steady.{Fresh}
 use Rattle.serving.proofs.Fresh.{steady-unheld}
+use Rattle.inputs.specs.declared.Source.{Source}
 use Rattle.reels.specs.States.{sound}
 use Rattle.reels.specs.Reels.{freshReel}
 use Rattle.maps.specs.Maps.{MapWritten}
 use Rattle.maps.proofs.Kept.{map-takes, map-serving}
 use Rattle.skimming.specs.Skimming.{Underway}
 
-module _ (s : SonicStream) (map : ℕ) where
-  fresh-ready : Fresh s → served s ≡ true → Underway (planOf s) (freshReel s map)
+module _ (s : SonicStream) (source : Source) (map : ℕ) where
+  fresh-ready : Fresh s → served s ≡ true → Underway (planOf s) (freshReel s source map)
   unfolding freshReel
   fresh-ready f v =
       record {
@@ -38,12 +39,12 @@ module _ (s : SonicStream) (map : ℕ) where
         none-waits = λ e. f .waiting;
       }
 
-  pub ready-of : (p : Plan) → Fresh s → serviceOf s ≡ Service.Planned p → Underway p (freshReel s map)
+  pub ready-of : (p : Plan) → Fresh s → serviceOf s ≡ Service.Planned p → Underway p (freshReel s source map)
   unfolding serviceOf
   ready-of p f = go (served s) refl
     where
-      go : (b : Bool) → served s ≡ b → cond b (Service.Planned (planOf s)) Service.None ≡ Service.Planned p → Underway p (freshReel s map)
-      go true v e = let same : planOf s ≡ p = cc in subst (λ (q : Plan). Underway q (freshReel s map)) same (fresh-ready f v)
+      go : (b : Bool) → served s ≡ b → cond b (Service.Planned (planOf s)) Service.None ≡ Service.Planned p → Underway p (freshReel s source map)
+      go true v e = let same : planOf s ≡ p = cc in subst (λ (q : Plan). Underway q (freshReel s source map)) same (fresh-ready f v)
       go false v e = let z : _≡_ {A = ℕ} 0 1 = cc in absurd (omega arith)
 
 pub ready-mapped : {p : Plan} {r t : Reel} → Underway p r → MapWritten r t → Underway p t

@@ -1,8 +1,9 @@
 // The stream for C: each function calls `stream` or `sonic` and hands its answer over as a struct.
 // include/kelpladder.h has the declarations; `specs/Answers.antt` says what numbers stand for an answer. The stream
-// is `SonicStream` itself.
+// is `SonicStream` itself. `waves` has the calls for WAVE files.
 mod answers;
 mod calls;
+mod waves;
 
 use frames::Frames;
 use stream::SonicStream;

@@ -45,6 +45,15 @@ stageFull = 6
 abbrev pub outputFull : ℕ
 outputFull = 7
 
+abbrev pub notWave : ℕ
+notWave = 8
+
+abbrev pub badSize : ℕ
+badSize = 9
+
+abbrev pub badFormat : ℕ
+badFormat = 10
+
 abbrev pub totalFull : ℕ
 totalFull = 12
 

@@ -21,5 +21,13 @@ pub const STAGE_FULL: u32 = 6;
 
 pub const OUTPUT_FULL: u32 = 7;
 
+// Of a WAVE file: it has no RIFF and WAVE at its head; a chunk ends past it, or the samples do not fit the file or the
+// destination; it has no samples of a format that is read.
+pub const NOT_WAVE: u32 = 8;
+
+pub const BAD_SIZE: u32 = 9;
+
+pub const BAD_FORMAT: u32 = 10;
+
 // A total of the balance would pass 64 bits.
 pub const TOTAL_FULL: u32 = 12;

@@ -19,7 +19,7 @@ returns c =
     let k = c .stopped .ensures in
     let unsound : sound (c .stopped .result .state) ≡ false = ap sound (k .state-is) ∙ kept-unsound (r .state) _ refl in
     record {
-      input-kept = input-trans (record { frames-same = refl; partial-same = refl; ended-same = refl }) (k .input-kept);
+      input-kept = input-trans (record { frames-same = refl; source-same = refl; partial-same = refl; ended-same = refl }) (k .input-kept);
       stream-kept = k .stream-kept;
       written-kept = k .written-kept;
       out-kept = k .out-kept;

@@ -19,9 +19,21 @@ one-more-requires-2 c κs = omega (arith, c .one-more .ensures, first (c .before
 one-more-requires-3 : tie.Need-one-more-requires-3
 one-more-requires-3 c κs = omega (arith, c .one-more2 .ensures, c .before .one-more .ensures, first (c .before .before))
 
-returns : tie.Need-returns
-returns c =
+one-more-requires-4 : tie.Need-one-more-requires-4
+one-more-requires-4 c κs =
     omega (arith, c .one-more3 .ensures, c .before .one-more2 .ensures, c .before .before .one-more .ensures, first (c .before .before .before))
 
+returns : tie.Need-returns
+returns c =
+    let b = c .before in
+    omega (
+      arith,
+      c .one-more4 .ensures,
+      b .one-more3 .ensures,
+      b .before .one-more2 .ensures,
+      b .before .before .one-more .ensures,
+      first (b .before .before .before),
+    )
+
 pub given-spec : {M : Type 1} → statement M
-given-spec = tie.close (tie.spec one-more-requires one-more-requires-2 one-more-requires-3 returns)
+given-spec = tie.close (tie.spec one-more-requires one-more-requires-2 one-more-requires-3 one-more-requires-4 returns)

@@ -19,16 +19,20 @@ rem-reel c = search needs
 mul-reel : tie.Need-mul-reel
 mul-reel c = search needs
 
+after-requires : tie.Need-after-requires
+after-requires c κs = search needs
+
 stopped-requires : tie.Need-stopped-requires
 stopped-requires c κs = search needs
 
 returns : tie.Need-returns
 returns c =
     let i = c .before in
-    let w = i .before .before .before .before in
+    let w = i .before .before .before .before .before .before in
     let k = c .stopped .ensures in
     record {
       frames-is = k .input-kept .frames-same ∙ w .wrapping-add-u64 .ensures;
+      source-is = k .input-kept .source-same ∙ i .before .after .ensures;
       partial-is = k .input-kept .partial-same;
       ended-is = k .input-kept .ended-same;
       state-is = rw (i .if1 .taken) (k .state-is);
@@ -50,9 +54,10 @@ returns c =
 
 returns-2 : tie.Need-returns-2
 returns-2 c =
-    let w = c .before .before .before .before in
+    let w = c .before .before .before .before .before .before in
     record {
       frames-is = w .wrapping-add-u64 .ensures;
+      source-is = c .before .after .ensures;
       partial-is = refl;
       ended-is = refl;
       state-is = rw (c .if1 .left);
@@ -74,6 +79,7 @@ count-spec =
     wrapping-add-u64-requires
     rem-reel
     mul-reel
+    after-requires
     stopped-requires
     returns
     returns-2)

@@ -48,6 +48,7 @@ returns c =
       input-kept =
           record {
             frames-same = k .input-kept .frames-same;
+            source-same = k .input-kept .source-same;
             partial-same = k .input-kept .partial-same;
             ended-same = k .input-kept .ended-same;
           };

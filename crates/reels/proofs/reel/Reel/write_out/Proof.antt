@@ -82,7 +82,7 @@ returns c =
     record {
       out =
           record {
-            input-kept = input-trans (record { frames-same = refl; partial-same = refl; ended-same = refl }) (k .input-kept);
+            input-kept = input-trans (record { frames-same = refl; source-same = refl; partial-same = refl; ended-same = refl }) (k .input-kept);
             written-kept = k .written-kept;
             flushed-kept = k .flushed-kept;
             notes-kept = notes-trans
@@ -108,7 +108,7 @@ returns-2 c =
     record {
       out =
           record {
-            input-kept = record { frames-same = refl; partial-same = refl; ended-same = refl };
+            input-kept = record { frames-same = refl; source-same = refl; partial-same = refl; ended-same = refl };
             written-kept = refl;
             flushed-kept = refl;
             notes-kept =
@@ -137,7 +137,7 @@ returns-3 c =
     record {
       out =
           record {
-            input-kept = input-trans (record { frames-same = refl; partial-same = refl; ended-same = refl }) (k .input-kept);
+            input-kept = input-trans (record { frames-same = refl; source-same = refl; partial-same = refl; ended-same = refl }) (k .input-kept);
             written-kept = k .written-kept;
             flushed-kept = k .flushed-kept;
             notes-kept = notes-trans

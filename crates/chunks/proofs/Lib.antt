@@ -1,0 +1,3 @@
+mod Laying
+pub mod Bounds
+pub mod Reading

@@ -1,0 +1,4 @@
+mod Walking
+mod Sampling
+mod Writing
+pub mod Back
