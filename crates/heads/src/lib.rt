@@ -11,6 +11,7 @@ use stream::refusals;
 ghost use mathlib.Core.Path.{_≡_};
 ghost use Prim.Native.Nat.{_≤_};
 ghost use lib.ListN.{length};
+ghost use Rattle.heads.specs.Inputs.{Taken};
 
 // Raw PCM; a WAVE file with samples of this format; one that is refused with this number, where the format and the size
 // of the data chunk are told as far as they are known; or a read failed.
@@ -159,7 +160,9 @@ fn rest(looked: Looked, count: usize) -> usize {
 }
 
 // Walks from chunk to chunk. A proved loop has to end, and nothing says that the input does.
-fn walk(start: Left) -> Input {
+fn walk(start: Left) -> Input
+    ensures { λ r. ⌜ Taken r ⌝ }
+{
     let mut left = start;
     let mut format = Format::NONE;
     let mut block = io::buffer();
@@ -205,6 +208,7 @@ pub fn open(name: &[u8]) -> bool {
 // What the input is, with its first 12 bytes in `head`. Standard input is raw PCM unless it begins with RIFF.
 fn begin_in(head: &mut [u8], named: bool) -> Input
     requires { ⌜ length (now head) ≡ 12 ⌝ }
+    ensures { λ r. ⌜ Taken r ⌝ }
 {
     let left = input_left();
     let first = fill(&mut head[..4], 0, 0);
@@ -226,7 +230,9 @@ fn begin_in(head: &mut [u8], named: bool) -> Input
 }
 
 // What the input is: a WAVE file if it is named, or begins with RIFF.
-pub fn begin(named: bool) -> Input {
+pub fn begin(named: bool) -> Input
+    ensures { λ r. ⌜ Taken r ⌝ }
+{
     let mut head = [0u8; chunks::FILE_HEAD];
     begin_in(&mut head, named)
 }

@@ -1,10 +1,18 @@
 -- The bytes of an input that are read. Definitions only. Assumes nothing.
 use mathlib.Core.Path.{_≡_}
-use mathlib.Core.Bool.{cond}
+use mathlib.Core.Bool.{true, false, cond}
 use mathlib.Core.List.{List}
 use Prim.Native.Nat.{ℕ, _-_, _/_, _%_, _^_, _<_, min}
 use lib.ListN.{getD}
 use Rattle.inputs.specs.declared.Source.{Source}
+
+-- raw PCM of which the first bytes stand ready, as a number and their count
+abbrev pub rawSource : ℕ → ℕ → Source
+rawSource first ready = record { wave = false; size = 0; left = 0; first = first; ready = ready }
+
+-- a WAVE file, of whose data chunk nothing was read
+abbrev pub waveSource : ℕ → Source
+waveSource size = record { wave = true; size = size; left = size; first = 0; ready = 0 }
 
 -- the bytes of a block that are read: `most`, or what is left of a WAVE file
 unfoldable pub blockOf : Source → ℕ → ℕ

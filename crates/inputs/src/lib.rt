@@ -4,7 +4,7 @@ use libc::STDIN_FILENO;
 ghost use mathlib.Core.Path.{_≡_};
 ghost use Prim.Native.Nat.{_+_, _≤_, min};
 ghost use lib.ListN.{length, take};
-ghost use Rattle.inputs.specs.Sources.{blockOf, sourceAfter, Begins};
+ghost use Rattle.inputs.specs.Sources.{rawSource, waveSource, blockOf, sourceAfter, Begins};
 
 // What the input is: raw PCM, or a WAVE file. Of that `size` is the size of its data chunk, and `left` are the bytes of
 // it that were not read yet; of raw PCM both are 0. The first bytes of raw PCM, up to four, are read to see what it is:
@@ -28,7 +28,9 @@ impl Source {
     };
 
     // Raw PCM of which these bytes were read.
-    pub fn begun(first: u32, ready: usize) -> Source {
+    pub fn begun(first: u32, ready: usize) -> Source
+        ensures { λ r. ⌜ r ≡ rawSource first ready ⌝ }
+    {
         Source {
             wave: false,
             size: 0,
@@ -39,7 +41,9 @@ impl Source {
     }
 
     // A WAVE file whose samples come next.
-    pub fn of_wave(size: u64) -> Source {
+    pub fn of_wave(size: u64) -> Source
+        ensures { λ r. ⌜ r ≡ waveSource size ⌝ }
+    {
         Source {
             wave: true,
             size,

@@ -1,7 +1,11 @@
+-- `heads::walk` meets its contract: a data chunk is met with a format that is read. Assumes nothing.
 use borrow.Author.Needs.{needs}
-use mathlib.Core.Path.{_≡_}
+use mathlib.Core.Path.{_≡_, sym, ap, _∙_}
 use native.Mathlib.Omega.{arith}
 use lib.ListN.{length}
+use Rattle.inputs.specs.declared.Source.{Source}
+use Rattle.inputs.specs.Sources.{waveSource}
+use Rattle.chunks.proofs.Bounds.{data-bounds}
 use Rattle.heads.proofs.walk.Statement.{statement}
 use Rattle.heads.proofs.walk.Tie as tie
 
@@ -48,7 +52,11 @@ of-wave-requires : tie.Need-of-wave-requires Inv-loop μ-loop
 of-wave-requires c κs = search needs
 
 returns-3 : tie.Need-returns-3 Inv-loop μ-loop
-returns-3 c = search needs
+returns-3 c =
+    let k = c .before .before in
+    let r = k .before .before in
+    let e = c .of-wave .ensures in
+    (data-bounds _ _ _ _ (sym (r .read-chunk .ensures) ∙ k .size .given .1) .0, e ∙ ap waveSource (sym (ap (λ (s : Source). s .size) e)))
 
 enum-known-count : tie.Need-enum-known-count Inv-loop μ-loop
 enum-known-count c = search needs
