@@ -25,12 +25,15 @@ impl Frames {
 }
 
 impl Samples {
-    // The whole frames of these samples.
+    // The whole frames of these samples. A call has many such counts, and with one channel none takes a division.
     pub fn frames(self, channels: usize) -> Frames
         requires { ⌜ 0 < channels ⌝ }
         ensures { λ r. ⌜ r .0 ≡ self .0 / channels ⌝ }
     {
         let n = self.0;
+        if channels == 1 {
+            return Frames(n);
+        }
         Frames(n / channels)
     }
 }
