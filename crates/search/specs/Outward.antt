@@ -1,5 +1,6 @@
--- What a search for one candidate is to find: of docs/RULES.md, "Period search", the period with the least D(q)/q, or that
--- with the greatest. The period from which it looks says nothing on what it finds. Definitions only. Assumes nothing.
+-- What a search for one candidate is to find: of docs/RULES.md, "Period search", the period with the least D(q)/q, or
+-- that with the greatest. What it finds does not hang on the period from which it looks. Definitions only. Assumes
+-- nothing.
 use Prim.Native.Nat.{ℕ}
 use mathlib.Core.List.{List}
 use lib.IntN.{ℤ}

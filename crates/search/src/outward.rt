@@ -70,9 +70,9 @@ fn held(value: usize, low: usize, high: usize) -> usize
     if high < value { high } else { value }
 }
 
-// Of the periods low..=high the one with the least D(q)/q, of several the smallest or the largest: first `near`, held to
-// the range, and those above it, then those below it, downward. There the new period is the smaller one: a tie goes the
-// other way.
+// Of the periods low..=high the one with the least D(q)/q, of several the smallest or the largest: first `near`, held
+// to the range, and those above it, then those below it, downward. There the new period is the smaller one: a tie goes
+// the other way.
 pub fn best_in_range(samples: &[i16], low: usize, high: usize, near: usize, ties: Ties) -> Candidate
     requires { ⌜ Searchable (length (now samples)) low high ⌝ }
     ensures { λ r. ⌜ (r ≡ best ties (now (samples .entry)) low high) × Bounded r ⌝ }

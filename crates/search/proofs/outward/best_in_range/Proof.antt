@@ -48,7 +48,8 @@ loop-again c =
     let a = n .before .args in
     let i = d .loop .inv in
     let ties = tiesOf (n .ties-number .result) in
-    let turned = ap (λ (t : Ties). lesser t (d .loop .best) (candidate (a .samples .now) (d .loop .period - 1))) (other-is (a .ties) (n .ties-number .ensures)) in
+    let new = candidate (a .samples .now) (d .loop .period - 1) in
+    let turned = ap (λ (t : Ties). lesser t (d .loop .best) new) (other-is (a .ties) (n .ties-number .ensures)) in
     let r = c .contest .ensures in
     (search needs, search needs, best-less ties (a .samples .now) (omega (arith, n .before .pre .some)) (omega arith) (i .1) (i .2) (r .0 ∙ turned), r .1)
 
