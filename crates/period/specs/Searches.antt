@@ -1,5 +1,5 @@
--- The searches of `find_pitch_period` for one candidate each (specs/Pitch.antt has them with both means), and what is
--- known on the previous period without the greatest mean. Definitions only. Assumes nothing.
+-- The searches of `find_pitch_period` for one candidate each (specs/Pitch.antt has them with both means), and the tests
+-- of the previous period that need no greatest mean. Definitions only. Assumes nothing.
 use Prim.Native.Nat.{ℕ, _+_, _-_, _*_, _/_, min, max}
 use mathlib.Core.Bool.{Bool, not, cond, _&&_}
 use mathlib.Core.List.{List}
@@ -31,7 +31,8 @@ unfoldable pub lastSearch : Wanted → List ℤ → ℕ → ℕ → ℕ → Cand
 lastSearch wanted x channels R q =
     cond (eqb (skip R) 1) (firstSearch wanted x channels R) (secondSearch wanted x channels R q)
 
--- the period near which the second search looks, and the candidate with the least mean of the last search
+-- the period near which the second search looks, and the candidate with the least mean of the last search, from
+-- whatever period it is looked for
 unfoldable pub nearOf : Ties → List ℤ → ℕ → ℕ → ℕ
 nearOf ties x channels R = firstSearch (Least ties 0) x channels R .period * skip R
 

@@ -39,7 +39,7 @@ upward-requires c κs =
     (number-is (c .before) .0, searchable-within s (omega (arith, h)) (omega (arith, h, s .order)) (le-refl _))
 
 sub-contest : tie.Need-sub-contest Inv-loop μ-loop
-sub-contest c = number-is (numbered (c .before)) .0
+sub-contest c = omega (arith, number-is (numbered (c .before)) .0)
 
 loop-again : tie.Need-loop-again Inv-loop μ-loop
 loop-again c =
