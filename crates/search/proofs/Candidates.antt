@@ -7,7 +7,6 @@ use mathlib.Core.List.{List}
 use mathlib.Core.Logic.{_⊎_, inl, inr, ⊎-elim}
 use Prim.Native.Nat.{ℕ, zero, suc, _+_, _-_, _*_, _/_, _≤_, _<_}
 use native.Mathlib.Nat.{le-refl, le-trans, mul-le-mul, mul-le-mul-left, mul-le-mul-right, mul-comm, div-le-of-le-mul}
-use native.Mathlib.Numerals.{add-one}
 use native.Mathlib.Omega.{arith}
 use borrow.Author.Tests.{lt-ltb, le-ltb, le-leb, lt-leb, leb-true, leb-false}
 use lib.Dec.{leb}
@@ -54,10 +53,9 @@ sum-join {x} {q} {from} {n} {k} {m} a b next =
     record { is = rw f (omega (arith, a .is, b .is, ap (diffs x q) next)); each = omega (arith, a .each, b .each) }
 
 -- a sum from the first difference on
-module _ {x : List ℤ} {q n s : ℕ} (sum : Sum x q 0 n s) where
-  pub sum-first : s ≡ diffs x q n
-  unfolding diffs
-  sum-first = let z : 0 + n ≡ n = omega arith in omega (arith, sum .is, ap (diffs x q) z)
+sum-first : {x : List ℤ} {q n s : ℕ} → Sum x q 0 n s → s ≡ diffs x q n
+unfolding diffs
+sum-first {x} {q} {n} sum = let z : 0 + n ≡ n = omega arith in omega (arith, sum .is, ap (diffs x q) z)
 
 -- fewer differences make no greater sum
 diffs-le : (x : List ℤ) (q n k : ℕ) → diffs x q n ≤ diffs x q (n + k)
