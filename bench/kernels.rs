@@ -17,10 +17,17 @@ struct Search {
     sum: usize,
 }
 
+#[repr(C)]
+struct Best {
+    period: usize,
+    sum: usize,
+}
+
 extern "C" {
     fn kernel_samples_in(source: *const f32, source_len: usize, area: *mut i16, area_len: usize);
     fn kernel_samples_out(area: *const i16, area_len: usize, slice: *mut f32, slice_len: usize);
     fn kernel_find_pitch_period_in_range(samples: *const i16, len: usize, low: usize, high: usize, ties: u32) -> Search;
+    fn kernel_best_in_range(samples: *const i16, len: usize, low: usize, high: usize, near: usize, ties: u32) -> Best;
     fn kernel_down_sample_input(samples: *const i16, len: usize, out: *mut i16, out_len: usize, count: usize, per: usize);
     fn kernel_interpolate_frame(
         table: *const i16, table_len: usize, stage: *const i16, stage_len: usize, channels: usize, ratio: usize, width: usize, out: *mut i16, out_len: usize,
@@ -59,6 +66,12 @@ fn beside(name: &str, calls: u32, mut ours: impl FnMut(), mut original: impl FnM
 /// A voice of a period in frames, as samples of an area.
 fn voice(frames: usize, channels: usize, period: usize) -> Vec<i16> {
     signals::voice(period, frames, channels).iter().map(|x| (x * 30_000.0) as i16).collect()
+}
+
+/// A voice of one channel with noise.
+fn noisy_voice(frames: usize, period: usize) -> Vec<i16> {
+    let mut noise = signals::Congruential(1);
+    voice(frames, 1, period).iter().map(|s| s / 2 + noise.below(2_048) as i16 - 1_024).collect()
 }
 
 fn bench_samples_in() {
@@ -110,6 +123,27 @@ fn bench_search() {
             assert_eq!((ours.period as i32, ours.min_diff as i32, ours.max_diff as i32, ours.sum), (theirs.0, theirs.1, theirs.2, sum));
             beside(
                 &format!("search {low}..{high}{choice}"),
+                if high > 200 { 20 } else { 400 },
+                || { black_box(search()); },
+                || { black_box(find_pitch_period_in_range(black_box(&x), black_box(low as i32), black_box(high as i32))); },
+            );
+        }
+    }
+}
+
+/// Searches for the least mean alone, of a noisy voice: from its period outward, as a step's first search looks from the previous period, and
+/// over 4·skip on both sides of a period, as the second search does.
+fn bench_best() {
+    for (low, high, period) in [(10, 61, 31), (20, 123, 62), (295, 383, 339), (110, 678, 339)] {
+        let x = noisy_voice(2 * high, period);
+        let theirs = find_pitch_period_in_range(&x, low as i32, high as i32);
+        let sum = (0..theirs.0 as usize).map(|i| usize::from(x[i].abs_diff(x[i + theirs.0 as usize]))).sum::<usize>();
+        for (near, from) in [(period, ""), (0, " from below")] {
+            let search = || unsafe { kernel_best_in_range(black_box(x.as_ptr()), x.len(), low, high, black_box(near), 0) };
+            let ours = search();
+            assert_eq!((ours.period as i32, ours.sum), (theirs.0, sum));
+            beside(
+                &format!("least mean {low}..{high}{from}"),
                 if high > 200 { 20 } else { 400 },
                 || { black_box(search()); },
                 || { black_box(find_pitch_period_in_range(black_box(&x), black_box(low as i32), black_box(high as i32))); },
@@ -236,6 +270,7 @@ fn main() {
     bench_samples_in();
     bench_samples_out();
     bench_search();
+    bench_best();
     bench_averages();
     bench_interpolation();
     bench_crossfade();

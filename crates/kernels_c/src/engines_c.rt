@@ -12,7 +12,7 @@ ghost use Rattle.floats.specs.Settings.{minVolume, maxVolume};
 ghost use Rattle.floats.specs.Write.{sampleIn, sampleOut};
 ghost use Rattle.averages.specs.Averages.{downSampleInput, Averageable};
 ghost use Rattle.search.specs.Ties.{tiesOf};
-ghost use Rattle.search.specs.Search.{findPitchPeriodInRange, longestPeriod, Searchable};
+ghost use Rattle.search.specs.Search.{best, findPitchPeriodInRange, longestPeriod, Searchable};
 ghost use Rattle.sinc.specs.Sinc.{interpolateFrame};
 ghost use Rattle.sinc.specs.SincTable.{sincTable};
 ghost use Rattle.crossfade.specs.Crossfade.{overlapAdd};
@@ -24,6 +24,13 @@ pub struct Search {
     pub period: usize,
     pub min_diff: usize,
     pub max_diff: usize,
+    pub sum: usize,
+}
+
+// A period with its sum of differences.
+#[repr(C)]
+pub struct Best {
+    pub period: usize,
     pub sum: usize,
 }
 
@@ -64,6 +71,25 @@ pub extern "C" fn kernel_find_pitch_period_in_range(
         min_diff: found.min_diff,
         max_diff: found.max_diff,
         sum: found.sum,
+    }
+}
+
+#[no_mangle]
+pub extern "C" fn kernel_best_in_range(
+    samples: &[i16],
+    low: usize,
+    high: usize,
+    near: usize,
+    ties: u32,
+) -> Best
+    requires { ⌜ Searchable (length (now samples)) low high ⌝ }
+    ensures { λ r. ⌜ (r .period ≡ best (tiesOf ties) (now (samples .entry)) low high .period)
+        × (r .sum ≡ best (tiesOf ties) (now (samples .entry)) low high .diff) ⌝ }
+{
+    let found = search::best_in_range(samples, low, high, near, search::ties_of(ties));
+    Best {
+        period: found.period,
+        sum: found.diff,
     }
 }
 

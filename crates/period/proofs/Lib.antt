@@ -1,2 +1,3 @@
 pub mod Ranges
 pub mod Record
+pub mod Halves

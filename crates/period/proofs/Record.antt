@@ -21,7 +21,7 @@ second-true true false c e = absurd (false≢true e)
 second-true false b c e = absurd (false≢true e)
 
 -- the previous period is used only where there is one
-pub prev-in : {R : ℕ} (prev : PeriodRecord) (f : Found) → PeriodIn R prev → prevPeriodBetter prev f ≡ true → InRange R (prev .period)
+prev-in : {R : ℕ} (prev : PeriodRecord) (f : Found) → PeriodIn R prev → prevPeriodBetter prev f ≡ true → InRange R (prev .period)
 unfolding prevPeriodBetter
 prev-in prev f p e =
     let n : not (eqb (prev .period) 0) ≡ true = second-true (not (eqb (f .«min_diff») 0)) _ _ e in

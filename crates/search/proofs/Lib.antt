@@ -1,2 +1,4 @@
 pub mod Candidates
+pub mod Extremes
+pub mod Downward
 pub mod SearchRule

@@ -1,2 +1,3 @@
 pub mod Ties
 pub mod Search
+pub mod Outward

@@ -1,15 +1,20 @@
 // The search over a range of periods: D(q) of a period, and the period with the least D(q)/q. `specs/Search.antt` says
-// what each function gives; `choice` has the choice of ties as a number.
+// what each function gives; `choice` has the choice of ties as a number, `outward` the search for one candidate from a
+// period nearby outward.
 mod choice;
+mod outward;
 
 pub use choice::ties_number;
 pub use choice::ties_of;
+pub use outward::Wanted;
+pub use outward::best_in_range;
+pub use outward::candidate_in_range;
 ghost use mathlib.Core.Path.{_≡_};
-ghost use Prim.Native.Nat.{_+_, _≤_};
+ghost use Prim.Native.Nat.{_+_, _*_, _≤_};
 ghost use lib.IntN.{natAbs, _-ℤ_};
 ghost use lib.ListN.{length};
 ghost use Rattle.search.specs.Ties.{tiesOf};
-ghost use Rattle.search.specs.Search.{candidate, lesser, greater, foundOf, findPitchPeriodInRange};
+ghost use Rattle.search.specs.Search.{diffs, candidate, lesser, greater, foundOf, findPitchPeriodInRange};
 ghost use Rattle.search.specs.Search.{widestGap, Searchable, Bounded};
 
 // Of several periods with the same least mean difference, the one that a search finds.
@@ -47,22 +52,32 @@ fn gap(a: i16, b: i16) -> u32
     if d < 0 { (0 - d) as u32 } else { d as u32 }
 }
 
+// The sum of `count` differences of a period, from difference `from` on.
+fn gaps_from(samples: &[i16], period: usize, from: usize, count: usize) -> u32
+    requires { ⌜ (from + count ≤ period) × Searchable (length (now samples)) period period ⌝ }
+    ensures { λ r. ⌜
+        (diffs (now (samples .entry)) period from + r ≡ diffs (now (samples .entry)) period (from + count))
+        × (r ≤ widestGap * count) ⌝ }
+{
+    let mut sum: u32 = 0;
+    let mut i: usize = 0;
+    while i < count {
+        let a = samples[from + i];
+        let b = samples[from + i + period];
+        sum += gap(a, b);
+        i += 1;
+    }
+    sum
+}
+
 // A period with its D(q), the sum of |x[i] − x[i + q]|, i < q.
 fn candidate_at(samples: &[i16], period: usize) -> Candidate
     requires { ⌜ Searchable (length (now samples)) period period ⌝ }
     ensures { λ r. ⌜ (r ≡ candidate (now (samples .entry)) period) × Bounded r ⌝ }
 {
-    let mut sum: u32 = 0;
-    let mut i: usize = 0;
-    while i < period {
-        let a = samples[i];
-        let b = samples[i + period];
-        sum += gap(a, b);
-        i += 1;
-    }
     Candidate {
         period,
-        diff: sum as usize,
+        diff: gaps_from(samples, period, 0, period) as usize,
     }
 }
 

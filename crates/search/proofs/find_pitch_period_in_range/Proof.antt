@@ -7,8 +7,8 @@ use native.Mathlib.Nat.{le-refl}
 use native.Mathlib.Omega.{arith}
 use Rattle.search.specs.declared.Ties.{Ties}
 use Rattle.search.specs.Ties.{tiesOf}
-use Rattle.search.specs.Search.{lesser, greater, sweep, best, worst, foundOf, findPitchPeriodInRange, Bounded}
-use Rattle.search.proofs.Candidates.{searchable-within, ties-back, sweep-one, sweep-two}
+use Rattle.search.specs.Search.{lesser, greater, best, worst, foundOf, findPitchPeriodInRange, Bounded}
+use Rattle.search.proofs.Candidates.{searchable-within, ties-back, sweep-first, sweep-one, sweep-two}
 use Rattle.search.proofs.find_pitch_period_in_range.Statement.{statement}
 use Rattle.search.proofs.find_pitch_period_in_range.Tie as tie
 
@@ -31,11 +31,8 @@ numbered c = c .before .before
 abbrev start : tie.At-loop Inv-loop μ-loop → tie.Start Inv-loop μ-loop
 start c = numbered c .before
 
-at-most-one : (c : tie.After-ties-number Inv-loop μ-loop) → c .ties-number .result ≤ 1
-at-most-one c = omega (arith, c .ties-number .ensures, ties-back (c .before .args .ties) .0)
-
-choice-is : (c : tie.After-ties-number Inv-loop μ-loop) → tiesOf (c .ties-number .result) ≡ c .before .args .ties
-choice-is c = ap tiesOf (c .ties-number .ensures) ∙ ties-back (c .before .args .ties) .1
+number-is : (c : tie.After-ties-number Inv-loop μ-loop) → (c .ties-number .result ≤ 1) × (tiesOf (c .ties-number .result) ≡ c .before .args .ties)
+number-is c = ties-back (c .before .args .ties) (c .ties-number .ensures)
 
 -- a turn: the candidates of the next two periods, and the loop
 module _ (c : tie.After-next Inv-loop μ-loop) where
@@ -66,12 +63,11 @@ candidate-at-requires : tie.Need-candidate-at-requires Inv-loop μ-loop
 candidate-at-requires c κs = searchable-within (c .before .pre) (le-refl _) (le-refl _) (c .before .pre .order)
 
 loop-holds : tie.Need-loop-holds Inv-loop μ-loop
-unfolding sweep
 loop-holds c =
     let a = c .before .before .args in
     let r = c .candidate-at .ensures in
-    let none : a .min-period - a .min-period ≡ 0 = omega arith in
-    (omega arith, omega (arith, c .before .before .pre .order), rw none (r .0), rw none (r .0), r .1, r .1)
+    let b = sweep-first (lesser (tiesOf (c .before .ties-number .result))) (a .samples .now) (a .min-period) (r .0) in
+    (omega arith, omega (arith, c .before .before .pre .order), b, sweep-first greater (a .samples .now) (a .min-period) (r .0), r .1, r .1)
 
 add-loop : tie.Need-add-loop Inv-loop μ-loop
 add-loop c = omega (arith, c .loop .inv .1, start c .pre .short)
@@ -83,10 +79,10 @@ neighbours-from-requires : tie.Need-neighbours-from-requires Inv-loop μ-loop
 neighbours-from-requires c κs = searchable-within (start (c .before) .pre) (omega (arith, c .before .loop .inv .0)) (omega arith) (omega arith)
 
 lesser-requires : tie.Need-lesser-requires Inv-loop μ-loop
-lesser-requires c κs = (at-most-one (numbered (turn c)), turn c .loop .inv .4, neighbours c .neighbours-from .ensures .1)
+lesser-requires c κs = (number-is (numbered (turn c)) .0, turn c .loop .inv .4, neighbours c .neighbours-from .ensures .1)
 
 lesser-requires-2 : tie.Need-lesser-requires-2 Inv-loop μ-loop
-lesser-requires-2 c κs = (at-most-one (numbered (turn (c .before))), c .lesser .ensures .1, neighbours (c .before) .neighbours-from .ensures .3)
+lesser-requires-2 c κs = (number-is (numbered (turn (c .before))) .0, c .lesser .ensures .1, neighbours (c .before) .neighbours-from .ensures .3)
 
 greater-requires : tie.Need-greater-requires Inv-loop μ-loop
 greater-requires c κs =
@@ -127,7 +123,7 @@ candidate-at-requires-2 c κs =
     searchable-within p (p .order) (le-refl _) (le-refl _)
 
 lesser-requires-3 : tie.Need-lesser-requires-3 Inv-loop μ-loop
-lesser-requires-3 c κs = (omega (arith, at-most-one (numbered (one-left c))), one-left c .loop .inv .4, c .candidate-at2 .ensures .1)
+lesser-requires-3 c κs = (omega (arith, number-is (numbered (one-left c)) .0), one-left c .loop .inv .4, c .candidate-at2 .ensures .1)
 
 greater-requires-3 : tie.Need-greater-requires-3 Inv-loop μ-loop
 greater-requires-3 c κs = (one-left (c .before) .loop .inv .5, c .before .candidate-at2 .ensures .1)
@@ -146,7 +142,7 @@ returns c =
     let ties = tiesOf (numbered d .ties-number .result) in
     let b = sweep-one (lesser ties) (a .samples .now) (a .min-period) (l .period) (l .inv .0) (l .inv .2) e last (c .before .before .lesser3 .ensures .0) in
     let w = sweep-one greater (a .samples .now) (a .min-period) (l .period) (l .inv .0) (l .inv .3) e last (c .before .greater3 .ensures .0) in
-    let chosen = ap (λ (t : Ties). best t (a .samples .now) (a .min-period) (a .max-period)) (choice-is (numbered d)) in
+    let chosen = ap (λ (t : Ties). best t (a .samples .now) (a .min-period) (a .max-period)) (number-is (numbered d) .1) in
     (c .found-of .ensures .0 ∙ (λ i. foundOf ((b ∙ chosen) i) (w i)), c .found-of .ensures .1)
 
 found-of-requires-2 : tie.Need-found-of-requires-2 Inv-loop μ-loop
@@ -160,7 +156,7 @@ returns-2 c =
     let a = start d .args in
     let e : l .period ≡ a .max-period = omega arith in
     let reached = ap (best (tiesOf (numbered d .ties-number .result)) (a .samples .now) (a .min-period)) e in
-    let chosen = ap (λ (t : Ties). best t (a .samples .now) (a .min-period) (a .max-period)) (choice-is (numbered d)) in
+    let chosen = ap (λ (t : Ties). best t (a .samples .now) (a .min-period) (a .max-period)) (number-is (numbered d) .1) in
     let b = l .inv .2 ∙ reached ∙ chosen in
     let w = l .inv .3 ∙ ap (worst (a .samples .now) (a .min-period)) e in
     (c .found-of2 .ensures .0 ∙ (λ i. foundOf (b i) (w i)), c .found-of2 .ensures .1)

@@ -7,10 +7,10 @@ use Rattle.search.proofs.greater.Statement.{statement}
 use Rattle.search.proofs.greater.Tie as tie
 
 mul-if1 : tie.Need-mul-if1
-mul-if1 c = record { fits = omega (arith, product-le (c .before .before .pre .0) (c .before .before .pre .1)) }
+mul-if1 c = record { fits = omega (arith, product-le (c .before .before .pre .0) (c .before .before .pre .1 .short)) }
 
 mul-if1-2 : tie.Need-mul-if1-2
-mul-if1-2 c = record { fits = omega (arith, product-le (c .before .before .before .before .pre .1) (c .before .before .before .before .pre .0)) }
+mul-if1-2 c = record { fits = omega (arith, product-le (c .before .before .before .before .pre .1) (c .before .before .before .before .pre .0 .short)) }
 
 returns : tie.Need-returns
 unfolding greater

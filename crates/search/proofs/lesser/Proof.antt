@@ -5,13 +5,13 @@ use Rattle.search.proofs.lesser.Statement.{statement}
 use Rattle.search.proofs.lesser.Tie as tie
 
 mul-if1 : tie.Need-mul-if1
-mul-if1 c = let p = c .before .before .pre in record { fits = omega (arith, product-le (p .2) (p .1)) }
+mul-if1 c = let p = c .before .before .pre in record { fits = omega (arith, product-le (p .2) (p .1 .short)) }
 
 mul-if1-2 : tie.Need-mul-if1-2
-mul-if1-2 c = let p = c .before .before .before .before .pre in record { fits = omega (arith, product-le (p .1) (p .2)) }
+mul-if1-2 c = let p = c .before .before .before .before .pre in record { fits = omega (arith, product-le (p .1) (p .2 .short)) }
 
 add-if1 : tie.Need-add-if1
-add-if1 c = let p = c .before .before .before .before .pre in record { fits = omega (arith, product-le (p .1) (p .2), p .0) }
+add-if1 c = let p = c .before .before .before .before .pre in record { fits = omega (arith, product-le (p .1) (p .2 .short), p .0) }
 
 returns : tie.Need-returns
 returns c =

@@ -9,7 +9,7 @@ use Rattle.search.proofs.neighbours_from.Tie as tie
 -- ---- the invariant
 
 abbrev Inv-loop : tie.InvT-loop
-Inv-loop samples period after this₀ next₀ i₀ this next i = (i ≤ period) × Sum samples period i this × Sum samples after i next
+Inv-loop samples period after this₀ next₀ i₀ this next i = (i ≤ period) × Sum samples period 0 i this × Sum samples after 0 i next
 
 abbrev μ-loop : tie.MeasureT-loop
 μ-loop samples period after this₀ next₀ i₀ this next i = period - i
@@ -27,16 +27,16 @@ module _ (c : tie.After-gap Inv-loop μ-loop) where
   abbrev start : tie.Start Inv-loop μ-loop
   start = turn .before
 
-  more-this : Sum (start .args .samples .now) (start .args .period) (turn .loop .i + 1) (turn .loop .this + c .gap .result)
-  more-this = sum-more (turn .loop .inv .1) (read .a .given) (c .before .before .b .given) (c .gap .ensures)
+  more-this : Sum (start .args .samples .now) (start .args .period) 0 (turn .loop .i + 1) (turn .loop .this + c .gap .result)
+  more-this = sum-more (turn .loop .inv .1) (read .a .given) (c .before .before .b .given) (c .gap .ensures) (omega arith)
 
 -- the second sum after it
 module _ (c : tie.After-gap2 Inv-loop μ-loop) where
   abbrev gap : tie.After-gap Inv-loop μ-loop
   gap = c .before
 
-  more-next : Sum (start gap .args .samples .now) (start gap .args .period + 1) (turn gap .loop .i + 1) (turn gap .loop .next + c .gap2 .result)
-  more-next = sum-more (turn gap .loop .inv .2) (read gap .a .given) (gap .before .c .given) (c .gap2 .ensures)
+  more-next : Sum (start gap .args .samples .now) (start gap .args .period + 1) 0 (turn gap .loop .i + 1) (turn gap .loop .next + c .gap2 .result)
+  more-next = sum-more (turn gap .loop .inv .2) (read gap .a .given) (gap .before .c .given) (c .gap2 .ensures) (omega arith)
 
 -- the loop has ended: the second sum with its last difference
 module _ (c : tie.After-gap3 Inv-loop μ-loop) where
@@ -46,15 +46,15 @@ module _ (c : tie.After-gap3 Inv-loop μ-loop) where
   abbrev begun : tie.Start Inv-loop μ-loop
   begun = ended .before
 
-  last-next : Sum (begun .args .samples .now) (begun .args .period + 1) (begun .args .period + 1) (ended .loop .next + c .gap3 .result)
+  last-next : Sum (begun .args .samples .now) (begun .args .period + 1) 0 (begun .args .period + 1) (ended .loop .next + c .gap3 .result)
   last-next =
       let sum = sum-at {m = begun .args .period} (omega arith) (ended .loop .inv .2) in
-      sum-more sum (c .before .before .a2 .given) (c .before .c2 .given) (c .gap3 .ensures)
+      sum-more sum (c .before .before .a2 .given) (c .before .c2 .given) (c .gap3 .ensures) (omega arith)
 
 -- ---- needs
 
 loop-holds : tie.Need-loop-holds Inv-loop μ-loop
-loop-holds c = (search needs, sum-none _ _, sum-none _ _)
+loop-holds c = (search needs, sum-none _ _ _, sum-none _ _ _)
 
 add-this : tie.Need-add-this Inv-loop μ-loop
 add-this c = omega (arith, more-this c .each)

@@ -5,8 +5,9 @@ use Prim.Native.Nat.{ℕ, _*_, _/_}
 use native.Mathlib.Omega.{arith}
 use native.Mathlib.Nat.{mul-le-mul}
 use Rattle.period.specs.Rates.{skip}
-use Rattle.search.specs.Search.{findPitchPeriodInRange}
-use Rattle.period.specs.Pitch.{valuesOf, coarse}
+use Rattle.search.specs.Outward.{wantedIn}
+use Rattle.period.specs.Pitch.{valuesOf}
+use Rattle.period.specs.Searches.{firstSearch}
 use Rattle.period.proofs.Ranges.{Skip, skip-in, coarse-searchable, coarse-averageable}
 use Rattle.period.proofs.pitch.coarse_search.Statement.{statement}
 use Rattle.period.proofs.pitch.coarse_search.Tie as tie
@@ -58,7 +59,7 @@ search-values-requires c κs =
     )
 
 returns : tie.Need-returns
-unfolding coarse
+unfolding firstSearch
 returns c =
     let v = c .before in
     let a = v .before .before in
@@ -70,7 +71,7 @@ returns c =
     let per : a .samples .result .0 ≡ skip (start m .args .rate) * channels = a .samples .ensures ∙ ap (λ (t : ℕ). t * channels) k in
     let l = low m .min-period .ensures in
     let h = high m .max-period .ensures in (
-      v .search-values .ensures .0 ∙ (λ i. findPitchPeriodInRange (start m .args .ties) (valuesOf x (n i / k i) (per i)) (l i / k i) (h i / k i)),
+      v .search-values .ensures .0 ∙ (λ i. wantedIn (start m .args .wanted) (valuesOf x (n i / k i) (per i)) (l i / k i) (h i / k i)),
       v .search-values .ensures .1,
     )
 

@@ -5,8 +5,9 @@ use mathlib.Core.Path.{_≡_, _∙_}
 use Prim.Native.Nat.{_+_, _-_, _*_, min, max}
 use native.Mathlib.Omega.{arith}
 use Rattle.period.specs.Rates.{minPeriod, maxPeriod, skip}
-use Rattle.search.specs.Search.{findPitchPeriodInRange}
-use Rattle.period.specs.Pitch.{valuesOf, fine}
+use Rattle.search.specs.Outward.{wantedIn}
+use Rattle.period.specs.Pitch.{valuesOf}
+use Rattle.period.specs.Searches.{secondSearch}
 use Rattle.period.proofs.Ranges.{skip-in, fine-searchable, fine-averageable}
 use Rattle.period.proofs.pitch.fine_search.Statement.{statement}
 use Rattle.period.proofs.pitch.fine_search.Tie as tie
@@ -55,7 +56,7 @@ search-values-requires c κs =
     )
 
 returns : tie.Need-returns
-unfolding fine
+unfolding secondSearch
 returns c =
     let v = c .before in
     let a = v .before .before in
@@ -64,7 +65,7 @@ returns c =
     let x = start r .args .samples .now in
     let per : a .samples .result .0 ≡ start r .args .channels = omega (arith, a .samples .ensures) in
     let n = m .max-required .ensures in (
-      v .search-values .ensures .0 ∙ (λ i. findPitchPeriodInRange (start r .args .ties) (valuesOf x (n i) (per i)) (low-is r i) (high-is r i)),
+      v .search-values .ensures .0 ∙ (λ i. wantedIn (start r .args .wanted) (valuesOf x (n i) (per i)) (low-is r i) (high-is r i)),
       v .search-values .ensures .1,
     )
 
