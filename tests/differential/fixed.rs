@@ -6,6 +6,7 @@ use crate::borders::{openings, orders, rooms, tails, Border};
 use crate::figures::{every_rate, figures, large, rate_borders, Figure};
 use crate::run::{parse, text};
 use crate::runner::{Bench, Failure};
+use crate::searches::high_rates;
 use crate::shrink::shrink;
 use crate::{model_with, subject};
 
@@ -59,9 +60,10 @@ pub fn first_runs(bench: &mut Bench<'_>, random_runs: u64) -> Result<(), Failure
     (0..random_runs).try_for_each(|seed| bench.random(seed))
 }
 
-/// The fixed runs: the first ones, then every rate and the longest inputs.
+/// The fixed runs: the first ones, then sounds at high rates, every rate and the longest inputs.
 pub fn fixed_runs(bench: &mut Bench<'_>) -> Result<(), Failure> {
     first_runs(bench, FIXED_RUNS)?;
+    high_rates().try_for_each(|calls| bench.play(&calls).map(|_| ()))?;
     every_rate().try_for_each(|call| bench.play(&[call]).map(|_| ()))?;
     large().into_iter().try_for_each(|figure| play_figure(bench, figure))
 }
