@@ -76,12 +76,6 @@ fn begin(rate: u32, channels: u32, pitch: f32) -> Vec<Call> {
     [open(rate, channels)].into_iter().chain(set).chain([say(rate, channels, TAPS, 0)]).collect()
 }
 
-/// A read of all.
-fn read_all(rate: u32, channels: u32) -> Call {
-    let room = 2 * rate as usize * channels as usize;
-    Call::Read { most: usize::MAX, slice: room, output: room }
-}
-
 /// Writes of a frame less than two rounds, two rounds, a frame more, one frame, and five rounds and some frames.
 fn rounds() -> Vec<Figure> {
     let of_case = |(rate, channels, pitch): (u32, u32, Pitch)| {
@@ -127,7 +121,8 @@ fn changes() -> Vec<Figure> {
                 let frames = 2 * pitch.round() + phases % 3;
                 made = pitch.made(frames);
                 calls.extend([Call::Set(Setting::Pitch(pitch.pitch)), Call::Set(Setting::Speed(pitch.pitch))]);
-                calls.extend([say(rate, channels, frames, made), read_all(rate, channels)]);
+                let samples = made * channels as usize;
+                calls.extend([say(rate, channels, frames, made), Call::Read { most: made, slice: samples, output: samples }]);
             }
         }
         calls.pop();

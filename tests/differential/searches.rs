@@ -15,8 +15,10 @@ use crate::signals::{blocks, to_write, Congruential, Random, Signal, Sound, TIED
 const RATES: [u32; 13] =
     [16_000, 22_050, 32_000, 44_100, 48_000, 96_000, 192_000, 500_000, 16_001, 23_457, 37_123, 99_991, 333_333];
 
-/// The highest rate at which a run has every sound in mono and in several channels; above it, searches being long, it is one of both.
-const ALL_SOUNDS: u32 = 60_000;
+/// Above this rate, searches being long, there are fewer figures and runs.
+const FEWER_ABOVE: u32 = 60_000;
+/// Runs of each sound up to that rate, in mono and in several channels; above it there is one, of either.
+const RUNS: usize = 3;
 
 /// Areas for so many frames, with room for what a run makes of them.
 fn room(rate: u32, channels: u32, frames: usize) -> Lengths {
@@ -52,10 +54,16 @@ fn stairs(rate: u32, c: i16) -> Vec<i16> {
     (0..max_required(rate)).map(step).collect()
 }
 
-/// Previous periods at the ends of the range, in it, and none.
-fn starts(rate: u32) -> [usize; 5] {
+/// A period in the middle of the range.
+fn middle(rate: u32) -> usize {
+    (min_period(rate) + max_period(rate)) / 2
+}
+
+/// Previous periods: none, those at the ends of the range, and others in it.
+fn starts(rate: u32) -> Vec<usize> {
     let (shortest, longest) = (min_period(rate), max_period(rate));
-    [0, shortest, longest, (shortest + longest) / 2, shortest + Right.skip(rate)]
+    let all = [0, shortest, longest, middle(rate), shortest + Right.skip(rate)];
+    all[..if rate > FEWER_ABOVE { 3 } else { 5 }].to_vec()
 }
 
 /// The shortest or the longest period of stairs, wherever a search begins; the previous one is used if the least mean was lower by a third.
@@ -85,7 +93,7 @@ fn of_spoilt_stairs() -> Vec<Figure> {
         let near = [shortest + 1, shortest + 15, shortest + 2 * skip, shortest / skip * skip + 4 * skip];
         let far = [longest, longest - 1, longest - 16, longest - 2 * skip];
         for (ties, periods) in [(0, near), (1, far)] {
-            for (period, start) in periods.into_iter().zip([0, shortest, longest, period_between(rate)]) {
+            for (period, start) in periods.into_iter().zip([0, shortest, longest, middle(rate)]) {
                 let mut input = stairs(rate, 20);
                 input[period - 1] += 1;
                 let calls = one_step(stream(rate, 1, ties, (start, 65_535)), &input);
@@ -96,11 +104,6 @@ fn of_spoilt_stairs() -> Vec<Figure> {
     all
 }
 
-/// A period in the middle of the range.
-fn period_between(rate: u32) -> usize {
-    (min_period(rate) + max_period(rate)) / 2
-}
-
 /// A block that repeats, with the offsets of `TIED` on some of its frames alone: the block, twice and three times it have the same mean. The
 /// block and these frames are whole averages of the first search.
 fn of_blocks() -> Vec<Figure> {
@@ -109,7 +112,9 @@ fn of_blocks() -> Vec<Figure> {
     for (rate, channels) in RATES.into_iter().zip([1, 1, 2].into_iter().cycle()) {
         let skip = Right.skip(rate);
         let period = max_period(rate) / 3 / skip * skip;
-        for places in [0..period, 0..skip, period - skip..period, period / skip / 2 * skip..period / skip / 2 * skip + 2 * skip] {
+        let half = period / skip / 2 * skip;
+        let places = [0..skip, period - skip..period, 0..period, half..half + 2 * skip];
+        for places in places.into_iter().take(if rate > FEWER_ABOVE { 2 } else { 4 }) {
             let offset = |i: usize| if places.contains(&(i % period)) { D as i16 * TIED[i / period % 6] } else { 0 };
             let input: Vec<i16> = blocks(period, max_required(rate), |_| 0).into_iter().enumerate().map(|(i, x)| x + offset(i)).collect();
             for (ties, blocks) in [(0, 1), (1, 3)] {
@@ -127,7 +132,7 @@ fn of_blocks() -> Vec<Figure> {
 fn faint(rate: u32, seed: u32) -> Vec<i16> {
     let mut noise = Congruential(seed.wrapping_mul(2_654_435_761) | 1);
     let (loud, under) = (6 + noise.below(24), 4 + noise.below(8));
-    let block: Vec<i16> = (0..period_between(rate)).map(|_| noise.below(loud) as i16).collect();
+    let block: Vec<i16> = (0..middle(rate)).map(|_| noise.below(loud) as i16).collect();
     (0..max_required(rate)).map(|i| block[i % block.len()] + noise.below(under) as i16).collect()
 }
 
@@ -231,21 +236,22 @@ fn run(random: &mut Random, kind: Kind, rate: u32, channels: u32) -> Vec<Call> {
     let (ties, step_over) = (Some(random.below(2) as u32), random.below(2) as u32);
     let settings = [Setting::Speed(speed), Setting::Pitch(pitch), Setting::StepOver(step_over)].map(Call::Set);
     let room = room(rate, channels, 8 * required);
-    let long = if rate > ALL_SOUNDS { required / 2 } else { 2 * required };
+    let long = if rate > FEWER_ABOVE { required / 2 } else { 2 * required };
     let writes = [required + random.below(long), random.below(required)];
     let writes: Vec<Call> = writes.map(|frames| Call::Write { samples: say(random, kind, rate, channels, frames), areas: room }).into();
     let read = Call::Read { most: required, slice: room.output, output: room.output };
-    let end = if rate > ALL_SOUNDS { vec![read] } else { vec![read, Call::Flush { areas: room }] };
+    let end = if rate > FEWER_ABOVE { vec![read] } else { vec![read, Call::Flush { areas: room }] };
     [Call::Open { rate, channels, ties }].into_iter().chain(settings).chain(writes).chain(end).collect()
 }
 
 /// Runs of every kind of sound at every rate, in mono and in several channels.
 pub fn high_rates() -> impl Iterator<Item = Vec<Call>> {
     let mut random = Random::new(19);
-    let kinds = RATES.into_iter().flat_map(|rate| KINDS.map(|kind| (rate, kind)));
-    kinds.flat_map(move |(rate, kind)| {
-        let several = random.between(2, if rate > ALL_SOUNDS { 2 } else { 5 }) as u32;
-        let channels = if rate > ALL_SOUNDS { vec![random.one_of(&[1, 1, several])] } else { vec![1, several] };
-        channels.into_iter().map(|channels| run(&mut random, kind, rate, channels)).collect::<Vec<_>>()
+    let times = |rate: u32| 0..if rate > FEWER_ABOVE { 1 } else { 2 * RUNS };
+    let all = RATES.into_iter().flat_map(move |rate| KINDS.into_iter().flat_map(move |kind| times(rate).map(move |_| (rate, kind))));
+    all.map(move |(rate, kind)| {
+        let several = if rate > FEWER_ABOVE { 2 } else { random.between(2, 5) as u32 };
+        let channels = random.one_of(&[1, several]);
+        run(&mut random, kind, rate, channels)
     })
 }
