@@ -35,8 +35,8 @@ reach: 1.15.
 The line of WAVE files: reading the head of a file of one hour over one of one second, 44,100 Hz stereo; no sample is touched.
 Instructions are counted by valgrind; the last column shows that cost grows in proportion to the reel's length. Not so for long-write, as in
 the original, because a read moves what remains to the front; a read that takes all moves nothing, and its instructions are the same
-whatever the output could hold. The stack is that of a call, a few frames of the benchmark among it; calls of all jobs are tried, and of a pitch
-with 32 phases (N/gcd(N, O), docs/RULES.md, "Rate").
+whatever the output could hold. The stack is that of a call, a few frames of the benchmark among it; tried are calls of all jobs, and of a
+pitch with 32 phases (N/gcd(N, O), docs/RULES.md, "Rate").
 
 ```
 {jobs}```

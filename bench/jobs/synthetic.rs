@@ -26,7 +26,7 @@ pub fn beside_stepping_over() {
     let reel = Reel { name: "espeak", ..SPEECH };
     let missing: Vec<&str> = MAKERS.into_iter().filter(|program| !is_there(program)).collect();
     if !missing.is_empty() {
-        println!("{:18} not timed: {} is not there", line_name(STEPPING, reel), missing.join(" and "));
+        println!("{:18} not timed; not there: {}", line_name(STEPPING, reel), missing.join(", "));
         return;
     }
     let samples = samples();

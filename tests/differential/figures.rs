@@ -7,9 +7,7 @@ use crate::balances::balances;
 use crate::interface::{Balance, Setting, Stream, COPIED, STALLED, STRETCHED, WAITING};
 use crate::model::settings::{max_required, sample_period};
 use crate::passes::passes;
-use crate::phases::phases;
 use crate::run::{Call, Kept, Lengths};
-use crate::searches::searches;
 use crate::signals::pulses;
 use crate::tails::tails;
 use crate::ties::ties;
@@ -250,7 +248,7 @@ fn absurd() -> Vec<Figure> {
 /// Every figure.
 pub fn figures() -> Vec<Figure> {
     let known = [samples(), refusals(), local_speeds(), steps(), conversions(), balances(), passes(), tails(), ties()];
-    let all = known.into_iter().chain([absurd(), tables(), longest(), phases(), searches()]);
+    let all = known.into_iter().chain([absurd(), tables(), longest()]);
     all.flatten().collect()
 }
 

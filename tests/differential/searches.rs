@@ -17,8 +17,8 @@ const RATES: [u32; 13] =
 
 /// Above this rate, searches being long, there are fewer figures and runs.
 const FEWER_ABOVE: u32 = 60_000;
-/// Runs of each sound up to that rate, in mono and in several channels; above it there is one, of either.
-const RUNS: usize = 3;
+/// Runs of each sound up to that rate; above it there is one.
+const RUNS: usize = 6;
 
 /// Areas for so many frames, with room for what a run makes of them.
 fn room(rate: u32, channels: u32, frames: usize) -> Lengths {
@@ -66,7 +66,7 @@ fn starts(rate: u32) -> Vec<usize> {
     all[..if rate > FEWER_ABOVE { 3 } else { 5 }].to_vec()
 }
 
-/// The shortest or the longest period of stairs, wherever a search begins; the previous one is used if the least mean was lower by a third.
+/// The shortest or the longest period of stairs, whichever the previous period is. That is used if twice c is above three times its mean.
 fn of_stairs() -> Vec<Figure> {
     let mut all = Vec::new();
     for (rate, channels) in RATES.into_iter().zip([1, 2, 1, 3, 1, 5].into_iter().cycle()) {
@@ -84,8 +84,8 @@ fn of_stairs() -> Vec<Figure> {
     all
 }
 
-/// Stairs with one sample, at place q − 1, higher by 1: period q has a mean lower by 1/q, longer ones by less. Below the second search the
-/// averages are the same. With the smallest, q is near the shortest period, and with the largest near the longest.
+/// Stairs with one sample, at place q − 1, higher by 1: period q has a mean lower by 1/q, longer ones by less, shorter ones the same or a
+/// higher one. The averages of the first search are the same, so that q is near the shortest period, or with the largest near the longest.
 fn of_spoilt_stairs() -> Vec<Figure> {
     let mut all = Vec::new();
     for rate in RATES {
@@ -247,7 +247,7 @@ fn run(random: &mut Random, kind: Kind, rate: u32, channels: u32) -> Vec<Call> {
 /// Runs of every kind of sound at every rate, in mono and in several channels.
 pub fn high_rates() -> impl Iterator<Item = Vec<Call>> {
     let mut random = Random::new(19);
-    let times = |rate: u32| 0..if rate > FEWER_ABOVE { 1 } else { 2 * RUNS };
+    let times = |rate: u32| 0..if rate > FEWER_ABOVE { 1 } else { RUNS };
     let all = RATES.into_iter().flat_map(move |rate| KINDS.into_iter().flat_map(move |kind| times(rate).map(move |_| (rate, kind))));
     all.map(move |(rate, kind)| {
         let several = if rate > FEWER_ABOVE { 2 } else { random.between(2, 5) as u32 };
