@@ -114,7 +114,8 @@ uninstall:
 	echo "removed from $(PLACE): $(INSTALLED)"
 
 # Writes bench/RESULTS.md, on a machine with no other work; with ROUNDS=1 or some more a quick one in target/bench. The other programs in it
-# are Debian's packages sonic, sox, soundstretch, rubberband-cli and ffmpeg, those that are installed.
+# are Debian's packages sonic, sox, soundstretch, rubberband-cli and ffmpeg, those that are installed. espeak-ng, one too, reads one of the
+# reels, with sox.
 bench: target/bench/kernels target/bench/jobs program
 	bench/results.py
 

@@ -4,12 +4,12 @@
 // `jobs` compares the frames of both sides and prints for each job and reel: its name, our time over the original's (medians of
 // interleaved rounds over the whole reel), and both medians in milliseconds. Times are processor times of the thread, so that other work
 // on the machine counts less. Both sides read in their own way: the original gives a new vector, ours fills a slice that is lent.
-// Then it times the skim tool beside the library and the reading of a WAVE file's head, counts instructions by valgrind, where that is
-// there, and paints a stack to see how much of it the calls use.
+// Then it does the same with synthetic speech, where espeak-ng and sox are there, times the skim tool beside the library and the reading of a
+// WAVE file's head, counts instructions by valgrind, where that is there, and paints a stack to see how much of it the calls use.
 // ROUNDS in the environment gives the rounds, 15 if it is not set; with fewer, instructions are not counted.
-// `jobs JOB REEL` times one job only, `jobs tool` the tool, `jobs wave` the heads, `jobs stack` measures the stack only. `jobs SIDE JOB REEL
-// SECONDS` runs one job on one side (ours, original), `jobs read LENGTH` a read that takes all, out of an output of that length, for a
-// profiler.
+// `jobs JOB REEL` times one job only, `jobs synthetic` the synthetic speech, `jobs tool` the tool, `jobs wave` the heads, `jobs stack` measures
+// the stack only. `jobs SIDE JOB REEL SECONDS` runs one job on one side (ours, original), `jobs read LENGTH` a read that takes all, out of an
+// output of that length, for a profiler.
 
 #[path = "../../bindings/rust/src/calls.rs"]
 #[allow(dead_code)]
@@ -26,6 +26,8 @@ mod sides;
 mod signals;
 #[path = "../../bench/jobs/stack.rs"]
 mod stack;
+#[path = "../../bench/jobs/synthetic.rs"]
+mod synthetic;
 #[path = "../../bench/jobs/times.rs"]
 mod times;
 #[path = "../../bench/jobs/tool.rs"]
@@ -108,6 +110,7 @@ fn everything() {
     for (job, reel) in pairs() {
         beside_original(job, reel);
     }
+    synthetic::beside_stepping_over();
     tool::beside_library();
     wave::read_heads();
     if rounds() >= ROUNDS {
@@ -127,6 +130,7 @@ fn main() {
         }
         ["read", length] => instructions::read_all(length.parse().expect("samples")),
         [job, reel] => beside_original(find_job(job), find_reel(reel)),
+        ["synthetic"] => synthetic::beside_stepping_over(),
         ["tool"] => tool::beside_library(),
         ["wave"] => wave::read_heads(),
         ["stack"] => stack::measure_stack(),

@@ -21,19 +21,22 @@ both sides, bit for bit. Times are processor times, those of kernels by the cloc
 
 ## Whole jobs
 
-Each line: job and reel, our time over the original's, both in milliseconds (medians). mono is ten minutes at 8,000 Hz, stereo one minute
-at 44,100 Hz, speech ten minutes of several voices, noise and pauses at 8,000 Hz, minute one minute at 8,000 Hz. Writes are of 4,096 frames,
-each followed by a read that takes all, unless it is said: skim is speed 20 and pitch 0.5, short is writes and reads of 160 frames at speed
-2, step-over is skim on speech, beside the original without its `return` at a step that gave no frame. copy, read-all, read-160 and
-long-write are at speed and pitch 1: read-all is writes of 160 frames, each followed by a read that takes all; in read-160 each write, and in
-long-write the one write of a minute, is followed by reads of 160 frames. To reach: skim and speed-2 0.70, speed-0.5, pitch-0.5 and copy
-0.80, short, read-all, read-160 and long-write 1.0, step-over 0.55.
+Each line: job and reel, our time over the original's, both in milliseconds (medians). mono is ten minutes at 8,000 Hz, mono-16k five
+minutes at 16,000 Hz, stereo one minute at 44,100 Hz, speech ten minutes of several voices, noise and pauses at 8,000 Hz, espeak as long,
+read by espeak-ng (tools/make_speech.sh), minute one minute at 8,000 Hz. Writes are of 4,096 frames, each followed by a read that takes all,
+unless it is said: skim is speed 20 and pitch 0.5, short is writes and reads of 160 frames at speed 2, step-over is skim on speech and
+espeak, beside the original without its `return` at a step that gave no frame. copy, read-all, read-160 and long-write are at speed and
+pitch 1: read-all is writes of 160 frames, each followed by a read that takes all; in read-160 each write, and in long-write the one write of
+a minute, is followed by reads of 160 frames. To reach: skim 0.70, on stereo 0.35; speed-2 0.70, on stereo 0.38; speed-0.5 and copy 0.80;
+pitch-0.5 0.80, on mono 0.40, on stereo 0.33; short 1.0, on mono 0.50; read-all, read-160 and long-write 1.0; step-over 0.55.
 
-The line of the tool: its time over the library's on the same reel, from start to end, with its reads and writes (least of the rounds).
+The line of the tool: its time over the library's on the same reel, from start to end, with its reads and writes (least of the rounds); to
+reach: 1.15.
 The line of WAVE files: reading the head of a file of one hour over one of one second, 44,100 Hz stereo; no sample is touched.
 Instructions are counted by valgrind; the last column shows that cost grows in proportion to the reel's length. Not so for long-write, as in
 the original, because a read moves what remains to the front; a read that takes all moves nothing, and its instructions are the same
-whatever the output could hold. The stack is that of a call, a few frames of the benchmark among it.
+whatever the output could hold. The stack is that of a call, a few frames of the benchmark among it; tried are calls of all jobs, and of a
+pitch with 32 phases (N/gcd(N, O), docs/RULES.md, "Rate").
 
 ```
 {jobs}```

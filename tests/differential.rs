@@ -41,12 +41,16 @@ mod model;
 mod original;
 #[path = "../../tests/differential/passes.rs"]
 mod passes;
+#[path = "../../tests/differential/phases.rs"]
+mod phases;
 #[path = "../../tests/differential/reels.rs"]
 mod reels;
 #[path = "../../tests/differential/run.rs"]
 mod run;
 #[path = "../../tests/differential/runner.rs"]
 mod runner;
+#[path = "../../tests/differential/searches.rs"]
+mod searches;
 #[path = "../../tests/differential/session.rs"]
 mod session;
 #[path = "../../tests/differential/shrink.rs"]

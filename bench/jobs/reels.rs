@@ -53,8 +53,9 @@ pub struct Reel {
     pub sound: Sound,
 }
 
-pub const REELS: [Reel; 2] = [
+pub const REELS: [Reel; 3] = [
     Reel { name: "mono", rate: 8_000, channels: 1, seconds: 600, sound: Sound::Voice(62) },
+    Reel { name: "mono-16k", rate: 16_000, channels: 1, seconds: 300, sound: Sound::Voice(124) },
     Reel { name: "stereo", rate: 44_100, channels: 2, seconds: 60, sound: Sound::Voice(341) },
 ];
 

@@ -1,7 +1,7 @@
 //! The stack that the calls use: a painted one, looked at afterwards.
 
 use crate::instructions::measured;
-use crate::reels::{pairs, samples_of, Job, Reel, Sound, JOBS, OWN_REELS};
+use crate::reels::{job, pairs, samples_of, Job, Reel, Sound, JOBS, OWN_REELS, REELS};
 use crate::wave::both_calls;
 use std::alloc::{alloc, dealloc, Layout};
 use std::ffi::c_void;
@@ -20,10 +20,14 @@ extern "C" {
 
 type Case = (Job, Reel, Vec<f32>);
 
+/// A pitch of 25/32, at which the rate conversion of every reel has 32 phases, N/gcd(N, O) of docs/RULES.md, "Rate".
+const PHASES: Job = job("32-phases", 1.0, 0.78125);
+
 /// Two seconds of every job on its reels, and a flush at the highest rate with the most channels.
 fn cases() -> Vec<Case> {
     let widest = Reel { name: "widest", rate: 500_000, channels: 32, seconds: 0, sound: Sound::Voice(4_000) };
-    let reels = pairs().map(|(job, reel)| (job, reel, samples_of(Reel { seconds: 2, ..reel })));
+    let of_phases = REELS.map(|reel| (PHASES, reel));
+    let reels = pairs().chain(of_phases).map(|(job, reel)| (job, reel, samples_of(Reel { seconds: 2, ..reel })));
     let flushes = JOBS.into_iter().chain(OWN_REELS.map(|(job, _)| job)).map(|job| (job, widest, Vec::new()));
     reels.chain(flushes).collect()
 }

@@ -4,8 +4,10 @@ use std::time::Instant;
 
 use crate::borders::{openings, orders, rooms, tails, Border};
 use crate::figures::{every_rate, figures, large, rate_borders, Figure};
+use crate::phases::phases;
 use crate::run::{parse, text};
 use crate::runner::{Bench, Failure};
+use crate::searches::{high_rates, searches};
 use crate::shrink::shrink;
 use crate::{model_with, subject};
 
@@ -47,7 +49,7 @@ fn play_border(bench: &mut Bench<'_>, border: Border) -> Result<(), Failure> {
     Err(Failure { what: format!("{}: refusal {} in place of {}", border.name, answer.refusal, border.refusal), calls: border.calls })
 }
 
-/// The runs with known answers, and random runs: figures, openings, borders, rates where a rule turns.
+/// The runs with known answers, and random runs: figures, openings, borders, rates where a rule turns, phases, searches.
 pub fn first_runs(bench: &mut Bench<'_>, random_runs: u64) -> Result<(), Failure> {
     figures().into_iter().try_for_each(|figure| play_figure(bench, figure))?;
     openings().into_iter().try_for_each(|opening| play_border(bench, opening))?;
@@ -56,12 +58,15 @@ pub fn first_runs(bench: &mut Bench<'_>, random_runs: u64) -> Result<(), Failure
     (0..BORDER_SEEDS).flat_map(|seed| rooms(&model, seed)).try_for_each(|border| play_border(bench, border))?;
     (0..TAIL_SEEDS).flat_map(|seed| tails(&model, seed)).try_for_each(|border| play_border(bench, border))?;
     rate_borders().into_iter().try_for_each(|calls| bench.play(&calls).map(|_| ()))?;
+    phases().into_iter().try_for_each(|figure| play_figure(bench, figure))?;
+    searches().into_iter().try_for_each(|figure| play_figure(bench, figure))?;
     (0..random_runs).try_for_each(|seed| bench.random(seed))
 }
 
-/// The fixed runs: the first ones, then every rate and the longest inputs.
+/// The fixed runs: the first ones, then sounds at high rates, every rate and the longest inputs.
 pub fn fixed_runs(bench: &mut Bench<'_>) -> Result<(), Failure> {
     first_runs(bench, FIXED_RUNS)?;
+    high_rates().try_for_each(|calls| bench.play(&calls).map(|_| ()))?;
     every_rate().try_for_each(|call| bench.play(&[call]).map(|_| ()))?;
     large().into_iter().try_for_each(|figure| play_figure(bench, figure))
 }

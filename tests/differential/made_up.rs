@@ -15,8 +15,9 @@ const TIMES: [f32; 16] = [
 /// Local speeds beside which a rule turns.
 const SPEEDS: [f32; 12] = [0.99999, 1.00001, 1.0, 2.0, 0.5, 1.17, 1.9, 0.7, 0.51, 3.6666667, 0.4, 21.0];
 
-/// Speeds and pitches in order.
-pub const RATIOS: [f32; 14] = [0.05, 20.0, 1.0, 1.0, 2.0, 0.5, 0.99999994, 1.0000001, 1.3, 0.7, 19.999998, 0.050000004, 4.0, 0.25];
+/// Speeds and pitches in order. At 8,000 Hz the last three have 5, 32 and 33 phases of the rate conversion.
+pub const RATIOS: [f32; 17] =
+    [0.05, 20.0, 1.0, 1.0, 2.0, 0.5, 0.99999994, 1.0000001, 1.3, 0.7, 19.999998, 0.050000004, 4.0, 0.25, 0.8, 0.78125, 0.969697];
 
 /// Volumes in order.
 pub const VOLUMES: [f32; 10] = [0.01, 100.0, 1.0, 1.0, 0.999, 1.001, 1.003, 1.5, 0.5, 7.3];

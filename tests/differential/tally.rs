@@ -19,6 +19,17 @@ const REFUSALS: [&[u32]; 6] = [&[1, 2], &[3], &[3], &[3, 4, 5, 6, 7, 12], &[3, 4
 
 /// Fewer calls than this that a choice of ties decides are too few.
 const TIES: u64 = 1_000;
+/// Fewer searches than this, at rates from 16,000 Hz on, in which the greatest mean decides on the previous period are too few, either way.
+const PREVIOUS: u64 = 100;
+
+/// How often an event has to be met.
+fn least(event: Event) -> u64 {
+    match event {
+        Event::TieToSmallest | Event::TieToLargest => TIES,
+        Event::PreviousAtHighRate | Event::PreviousFarAtHighRate => PREVIOUS,
+        _ => 1,
+    }
+}
 
 /// The counts.
 #[derive(Clone, Default)]
@@ -65,7 +76,6 @@ impl Tally {
             all.extend(unmet.map(|&outcome| format!("{} answering {}", CALLS[kind], OUTCOMES[outcome as usize])));
             all.extend((self.passed[kind] == 0).then(|| format!("{} passing over", CALLS[kind])));
         }
-        let least = |event: Event| if matches!(event, Event::TieToSmallest | Event::TieToLargest) { TIES } else { 1 };
         let few = EVENTS.iter().filter(|(event, _)| judge.met(*event) < least(*event));
         all.extend(few.map(|(event, words)| format!("{words}, {} times", least(*event))));
         all

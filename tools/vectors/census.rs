@@ -19,8 +19,11 @@ fn kind_of_search(s: &SonicStream) -> &'static str {
 /// Both totals at their end.
 const FULL: [u64; 2] = [u64::MAX; 2];
 
+/// Counts of phases of the rate conversion that are counted.
+const PHASES: [u64; 6] = [1, 2, 5, 31, 32, 33];
+
 /// What the runs have to touch.
-const TOUCHED: [&str; 96] = [
+const TOUCHED: [&str; 108] = [
     "write empty", "write copied", "write waiting", "write stretched", "write stalled", "flush copied", "flush stretched", "flush stalled",
     "open refused 1", "open refused 2", "speed refused 3", "pitch refused 3", "volume refused 3", "available refused 3",
     "read refused 3", "read refused 4",
@@ -39,6 +42,9 @@ const TOUCHED: [&str; 96] = [
     "search of samples", "search of averages, skip 1", "search twice, 1 channel", "search twice, more channels",
     "tail kept at pitch 1", "tail and frames above the stage", "6 with a tail at pitch 1", "6 with a tail at pitch 1, the output full",
     "7 with a tail at pitch 1", "rates halved", "rate positions back to 0",
+    "phases 1, two rounds or more", "phases 2, two rounds or more", "phases 5, two rounds or more", "phases 31, two rounds or more",
+    "phases 32, two rounds or more", "phases 33, two rounds or more", "phases 1, less than two rounds", "phases 2, less than two rounds",
+    "phases 5, less than two rounds", "phases 31, less than two rounds", "phases 32, less than two rounds", "phases 33, less than two rounds",
     "open, ties 0", "open, ties 1", "open, ties of another value", "open refused 1, ties asked for", "open refused 2, ties asked for",
     "smallest: another period than the largest", "largest: another period than the smallest", "largest: another period, the sum above 0",
     "largest: another period, search of samples", "largest: another period, search of averages, skip 1",
@@ -242,6 +248,11 @@ impl Census {
         let new = (after.sample_rate as f32 / after.pitch) as i32;
         if new > 1 << 14 || after.sample_rate > 1 << 14 {
             self.count("rates halved");
+        }
+        let [phases, round] = round_of(after.sample_rate as u64, after.pitch);
+        let consumed = before.pitch_frames() + made - after.pitch_frames();
+        if PHASES.contains(&phases) {
+            self.count(&format!("phases {phases}, {}", if consumed as u64 >= 2 * round { "two rounds or more" } else { "less than two rounds" }));
         }
         if after.old_rate_position < before.old_rate_position {
             self.count("rate positions back to 0");

@@ -77,10 +77,7 @@ fn in_order(f: &Fields) -> bool {
     if (f[PREV_PERIOD] != 0 && !(f[RATE] / 400..=f[RATE] / 65).contains(&f[PREV_PERIOD])) || f[PREV_MIN_DIFF] > 65_535 {
         return false;
     }
-    let (mut new, mut old) = ((f[RATE] as f32 / float(f[PITCH])) as u64, f[RATE]);
-    while new > 16_384 || old > 16_384 {
-        (new, old) = (new / 2, old / 2);
-    }
+    let [new, old] = rates_of(f[RATE], float(f[PITCH]));
     f[OLD_POSITION] < old && f[NEW_POSITION] == (f[OLD_POSITION] * new).div_ceil(old)
 }
 

@@ -42,7 +42,7 @@ fn seeded(r: &mut Runs, count: usize) {
 fn main() {
     let mut r = Runs { text: String::new(), runs: 0 };
     let refused = [openings, settings, out_of_order, short_areas];
-    let stretched = [writes, speeds, previous_period_limits, roundings, limits, stalls, pitches, volumes, balances, passes, tails, ties];
+    let stretched = [writes, speeds, previous_period_limits, roundings, limits, stalls, pitches, volumes, balances, passes, tails, ties, phases];
     refused.iter().chain(&stretched).for_each(|section| section(&mut r));
     seeded(&mut r, 30);
     let (told, census) = replay(&r.text);

@@ -23,6 +23,12 @@ pub enum Event {
     TieToSmallest,
     TieToLargest,
     PreviousPeriod,
+    PreviousAtHighRate,
+    PreviousFarAtHighRate,
+    FewPhases,
+    FewPhasesShort,
+    FewPhasesFull,
+    ManyPhases,
     PositionsWrapped,
     LowestSample,
     Trimmed,
@@ -30,7 +36,7 @@ pub enum Event {
 }
 
 /// Every event with the words for it.
-pub const EVENTS: [(Event, &str); 22] = [
+pub const EVENTS: [(Event, &str); 28] = [
     (Event::CopyingFast, "copying steps, s above 1"),
     (Event::CopyingSlow, "copying steps, s below 1"),
     (Event::CopyingAll, "copying steps of all frames left"),
@@ -49,6 +55,12 @@ pub const EVENTS: [(Event, &str); 22] = [
     (Event::TieToSmallest, "calls that ended with another period than by the largest"),
     (Event::TieToLargest, "calls that ended with another period than by the smallest"),
     (Event::PreviousPeriod, "previous periods used"),
+    (Event::PreviousAtHighRate, "those from 16,000 Hz on"),
+    (Event::PreviousFarAtHighRate, "previous periods from 16,000 Hz on not used for the greatest mean alone"),
+    (Event::FewPhases, "conversions of 32 phases or fewer, two rounds or more"),
+    (Event::FewPhasesShort, "conversions of 32 phases or fewer, less than two rounds"),
+    (Event::FewPhasesFull, "outputs full in a conversion of 32 phases or fewer, two rounds or more"),
+    (Event::ManyPhases, "conversions of 33 phases or more"),
     (Event::PositionsWrapped, "times both positions became 0"),
     (Event::LowestSample, "interpolated samples of -32768"),
     (Event::Trimmed, "flushes that dropped frames"),

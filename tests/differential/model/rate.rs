@@ -10,6 +10,18 @@ pub const RATE_LIMIT: usize = 16_384;
 pub const TAPS: usize = 12;
 /// Table places from one tap to the next.
 const PLACES: i32 = 50;
+/// The most phases, and the least rounds in one call, at which a conversion counts as one of few phases.
+const FEW_PHASES: usize = 32;
+const ROUNDS: usize = 2;
+
+/// Of N and O the phases, N/gcd(N, O), and the tail frames of a round, O/gcd(N, O): the ratios come again after a round.
+pub fn round_of((new, old): (usize, usize)) -> (usize, usize) {
+    let (mut divisor, mut rest) = (new, old);
+    while rest > 0 {
+        (divisor, rest) = (rest, divisor % rest);
+    }
+    (new / divisor, old / divisor)
+}
 
 /// The rules of rate conversion.
 pub trait Rate {
@@ -113,15 +125,31 @@ impl Model {
         Ok(())
     }
 
+    /// Counts a conversion by its phases; whether they are few, and two rounds or more are to be consumed.
+    fn few_phases(&self, work: &Work, rates: (usize, usize)) -> bool {
+        let (phases, round) = round_of(rates);
+        let consumable = (work.tail.len() / work.channels()).saturating_sub(TAPS);
+        let event = match phases {
+            0..=FEW_PHASES if consumable >= ROUNDS * round => Event::FewPhases,
+            0..=FEW_PHASES => Event::FewPhasesShort,
+            _ => Event::ManyPhases,
+        };
+        work.saw(event);
+        matches!(event, Event::FewPhases)
+    }
+
     /// Consumes tail frames, and makes frames of them. Refusal 7.
     fn scan_tail(&self, work: &mut Work, room: usize) -> Result<(), u32> {
         let (rules, channels) = (self.rules.rate, work.channels());
         let (new, old) = rules.rates(work.stream.rate, work.stream.pitch);
         let (mut p, mut n) = (work.stream.old_rate_position, work.stream.new_rate_position);
-        let mut consumed = 0;
+        let (mut consumed, few) = (0, self.few_phases(work, (new, old)));
         while rules.consumed(work.tail.len() / channels - consumed) {
             while (p + 1) * new > n * old {
                 if work.made.len() / channels == room {
+                    if few {
+                        work.saw(Event::FewPhasesFull);
+                    }
                     return Err(7);
                 }
                 let ratio = rules.ratio(p, n, (new, old)) as i32;

@@ -10,6 +10,9 @@ use crate::interface::Stream;
 /// Samples per second that the first search is held to.
 pub const COARSE_RATE: usize = 4_000;
 
+/// From this rate on the previous periods used, and those not used, are counted apart.
+const HIGH_RATE: u32 = 16_000;
+
 /// What a search gives: the period and its sum of differences, the least and the greatest mean difference, and whether it met the least mean
 /// twice.
 #[derive(Clone, Copy)]
@@ -155,6 +158,18 @@ pub trait Search {
 }
 
 impl Model {
+    /// Counts a previous period that is used, and one that is not since the greatest mean is too far from the least.
+    fn count_previous(&self, work: &Work, found: Found, used: bool) {
+        let rules = self.rules.search;
+        let close = Found { greatest: found.least, ..found };
+        if used {
+            work.saw(Event::PreviousPeriod);
+        }
+        if work.stream.rate >= HIGH_RATE && rules.previous_better(&work.stream, close) {
+            work.saw(if used { Event::PreviousAtHighRate } else { Event::PreviousFarAtHighRate });
+        }
+    }
+
     /// The period that the next step uses.
     pub fn period(&self, work: &mut Work) -> usize {
         let (rules, channels, rate) = (self.rules.search, work.channels(), work.stream.rate);
@@ -166,9 +181,7 @@ impl Model {
             work.saw(Event::SecondSearch);
         }
         let previous = rules.previous_better(&work.stream, found);
-        if previous {
-            work.saw(Event::PreviousPeriod);
-        }
+        self.count_previous(work, found, previous);
         let used = if previous { work.stream.prev_period } else { found.period };
         let sum = self.rules.sums.sum_of(x, channels, found, used);
         work.sum = Some(self.rules.sums.after_search(work.sum, sum));

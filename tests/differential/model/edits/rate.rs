@@ -1,9 +1,16 @@
 //! Wrong edits of docs/RULES.md, "Rate".
 
 use super::Edit;
-use crate::model::rate::{Rate, RATE_LIMIT, TAPS};
+use crate::model::rate::{round_of, Rate, RATE_LIMIT, TAPS};
 use crate::model::rules::{Part, Right};
 use crate::model::Work;
+
+/// The number of the phase of a ratio, the count of phases, and how far the ratios of neighbours are apart.
+fn phase_of(ratio: usize, rates: (usize, usize)) -> (usize, usize, usize) {
+    let (phases, _) = round_of(rates);
+    let apart = rates.0 / phases;
+    (ratio / apart, phases, apart)
+}
 
 edits! {
     "Rate";
@@ -56,5 +63,35 @@ edits! {
     }
     InterpolationDivided, "the sum divided by 65536 toward zero", Rate {
         fn sample_of_sum(&self, sum: i64) -> i16 { (sum / 65_536).max(-32768).min(32767) as i16 }
+    }
+    PhaseBefore, "the phase before", Rate {
+        fn ratio(&self, p: usize, n: usize, rates: (usize, usize)) -> usize {
+            let (phase, phases, apart) = phase_of(Right.ratio(p, n, rates), rates);
+            (phase + phases - 1) % phases * apart + apart - 1
+        }
+    }
+    PhaseBehind, "the phase behind", Rate {
+        fn ratio(&self, p: usize, n: usize, rates: (usize, usize)) -> usize {
+            let (phase, phases, apart) = phase_of(Right.ratio(p, n, rates), rates);
+            (phase + 1) % phases * apart + apart - 1
+        }
+    }
+    PhaseLowered, "the ratio of a phase taken as its number times gcd(N, O)", Rate {
+        fn ratio(&self, p: usize, n: usize, rates: (usize, usize)) -> usize {
+            let (phase, _, apart) = phase_of(Right.ratio(p, n, rates), rates);
+            phase * apart
+        }
+    }
+    LastOfPhasesLost, "of 32 phases the last taken for the first", Rate {
+        fn ratio(&self, p: usize, n: usize, rates: (usize, usize)) -> usize {
+            let (phase, phases, apart) = phase_of(Right.ratio(p, n, rates), rates);
+            if phases == 32 { phase % 31 * apart + apart - 1 } else { Right.ratio(p, n, rates) }
+        }
+    }
+    PhasesByLowBits, "the last of 33 phases taken for the first", Rate {
+        fn ratio(&self, p: usize, n: usize, rates: (usize, usize)) -> usize {
+            let (phase, phases, apart) = phase_of(Right.ratio(p, n, rates), rates);
+            if phases == 33 { phase % 32 * apart + apart - 1 } else { Right.ratio(p, n, rates) }
+        }
     }
 }
