@@ -69,6 +69,29 @@ pub fn samples_in(source: &[f32], count: Samples, area: &mut [i16], to: Samples)
     }
 }
 
+// The sample that a write stores for the value of this one: the same, but −32767 for −32768, whose value is below −1.
+fn sample_back(v: i16) -> i16
+    ensures { λ r. ⌜ r ≡ sampleIn (sampleOut v) ⌝ }
+{
+    if v < -32767 { -32767 } else { v }
+}
+
+// Stores `count` samples at the place `to` of the area, as a write of their values stores them.
+pub fn samples_back(source: &[i16], count: Samples, area: &mut [i16], to: Samples)
+    requires { ⌜ (count .0 ≤ length (now source)) × (to .0 + count .0 ≤ length (now area)) ⌝ }
+    ensures { λ _. ⌜ now (area .exit) ≡ paste (now (area .entry)) (to .0)
+        (map sampleIn (map sampleOut (now (source .entry)))) (count .0) ⌝ }
+{
+    let n = count.0;
+    let t = to.0;
+    let mut i: usize = 0;
+    while i < n {
+        let x = sample_back(source[i]);
+        area[t + i] = x;
+        i += 1;
+    }
+}
+
 // 2^-15, exactly.
 const RECIPROCAL_OF_32768: f32 = 0.000030517578125;
 

@@ -19,7 +19,6 @@ use lib.Seq.{getD-set-same, getD-set-other}
 use lib.Signed.{ltZ, nonNeg}
 use mir.Syntax.{w16}
 use mir.Val.{SFits, toZ}
-use Rattle.floats.specs.Write.{sampleOut}
 use Rattle.pcm.specs.Pcm.{sampleOf, pairOf, sampleRead, Decoded, Encoded}
 
 -- ---- −1 − v
@@ -68,18 +67,18 @@ unfolding sampleOf
 sample-large n h = rw (le-ltb n 32768 h, flip-pos (65535 - n))
 
 -- ---- the loops
--- the value of sample i
-abbrev decodedAt : List ℕ → ℕ → Float
-decodedAt bytes i = sampleOut (sampleOf (getD bytes (2 * i) 0 + getD bytes (2 * i + 1) 0 * 256))
+-- sample i
+abbrev decodedAt : List ℕ → ℕ → ℤ
+decodedAt bytes i = sampleOf (getD bytes (2 * i) 0 + getD bytes (2 * i + 1) 0 * 256)
 
-pub decoded-more : (bytes : List ℕ) (values : List Float) (i : ℕ) (x : Float) → i < length values → x ≡ decodedAt bytes i
-    → Decoded i bytes values → Decoded (i + 1) bytes (set values i x)
-decoded-more bytes values i x h e d =
+pub decoded-more : (bytes : List ℕ) (samples : List ℤ) (i : ℕ) (v : ℤ) → i < length samples → v ≡ decodedAt bytes i
+    → Decoded i bytes samples → Decoded (i + 1) bytes (set samples i v)
+decoded-more bytes samples i v h e d =
     record {
-      value =
-          below-more (λ (k : ℕ). getD (set values i x) k nan ≡ decodedAt bytes k) i
-          (λ k l. getD-set-other values i k x nan (λ same. omega arith) ∙ d .value k l)
-          (getD-set-same values i x nan h ∙ e);
+      sample =
+          below-more (λ (k : ℕ). getD (set samples i v) k (pos 0) ≡ decodedAt bytes k) i
+          (λ k l. getD-set-other samples i k v (pos 0) (λ same. omega arith) ∙ d .sample k l)
+          (getD-set-same samples i v (pos 0) h ∙ e);
     }
 
 module _ (values : List Float) (bytes : List ℕ) (i a b : ℕ) (fits : 2 * i + 1 < length bytes) where

@@ -1,5 +1,5 @@
--- 16-bit little-endian PCM: a sample's two bytes, and the values that the stream takes and gives. Definitions only.
--- Assumes nothing.
+-- 16-bit little-endian PCM: a sample's two bytes, and the values that the stream gives. Definitions only. Assumes
+-- nothing.
 use mathlib.Core.Path.{_≡_}
 use mathlib.Core.Bool.{cond}
 use mathlib.Core.List.{List}
@@ -8,7 +8,7 @@ use lib.Dec.{ltb}
 use lib.IntN.{ℤ, pos, negsuc}
 use lib.Ieee.{Float, nan, lt}
 use lib.ListN.{getD}
-use Rattle.floats.specs.Write.{minusOne, sampleIn, sampleOut}
+use Rattle.floats.specs.Write.{minusOne, sampleIn}
 
 -- 16 bits as a sample, in two's complement; `negsuc k` is −1 − k
 unfoldable pub sampleOf : ℕ → ℤ
@@ -23,10 +23,10 @@ pairOf (negsuc k) = 65535 - k
 unfoldable pub sampleRead : Float → ℤ
 sampleRead x = cond (lt x minusOne) (negsuc 32767) (sampleIn x)
 
--- the values of the first n samples
-pub record Decoded (n : ℕ) (bytes : List ℕ) (values : List Float) : Type 0 where
-  pub value : (i : ℕ) → i < n → getD values i nan
-      ≡ sampleOut (sampleOf (getD bytes (2 * i) 0 + getD bytes (2 * i + 1) 0 * 256))
+-- the first n samples
+pub record Decoded (n : ℕ) (bytes : List ℕ) (samples : List ℤ) : Type 0 where
+  pub sample : (i : ℕ) → i < n → getD samples i (pos 0)
+      ≡ sampleOf (getD bytes (2 * i) 0 + getD bytes (2 * i + 1) 0 * 256)
 
 -- the bytes of the first n values
 pub record Encoded (n : ℕ) (values : List Float) (bytes : List ℕ) : Type 0 where

@@ -1,4 +1,4 @@
-// 16-bit little-endian PCM: its bytes as the values that a stream takes and gives, and back. `specs/Pcm.antt` says
+// 16-bit little-endian PCM: its bytes as samples, and the values that a stream gives as bytes. `specs/Pcm.antt` says
 // which.
 ghost use mathlib.Core.Path.{_≡_};
 ghost use Prim.Native.Nat.{_+_, _*_, _≤_};
@@ -17,15 +17,15 @@ fn sample(low: u8, high: u8) -> i16
     }
 }
 
-// The values of the first `count` samples: sample/32767.
-pub fn decode(bytes: &[u8], count: usize, values: &mut [f32])
-    requires { ⌜ (2 * count ≤ length (now bytes)) × (count ≤ length (now values)) ⌝ }
-    ensures { λ _. ⌜ Decoded count (now (bytes .entry)) (now (values .exit)) ⌝ }
+// The first `count` samples.
+pub fn decode(bytes: &[u8], count: usize, samples: &mut [i16])
+    requires { ⌜ (2 * count ≤ length (now bytes)) × (count ≤ length (now samples)) ⌝ }
+    ensures { λ _. ⌜ Decoded count (now (bytes .entry)) (now (samples .exit)) ⌝ }
 {
     let mut i: usize = 0;
     while i < count {
-        let x = floats::samples::sample_out(sample(bytes[2 * i], bytes[2 * i + 1]));
-        values[i] = x;
+        let x = sample(bytes[2 * i], bytes[2 * i + 1]);
+        samples[i] = x;
         i += 1;
     }
 }

@@ -1,6 +1,7 @@
 // The Sonic speech stretcher over lent areas: the stream with `new`, `with_ties`, `set` and `available_frames`
-// (`stream`), and its calls that are lent areas, `write_f32` (`write`), `read_f32` (`read`) and `flush` (`flush`). What
-// they answer is said in `stream/specs/Settings.antt`, `adding/specs/Calls.antt` and `read/specs/Reading.antt`.
+// (`stream`), and its calls that are lent areas, `write_f32` and `write_i16` (`write`), `read_f32` (`read`) and `flush`
+// (`flush`). What they answer is said in `stream/specs/Settings.antt`, `adding/specs/Calls.antt` and
+// `read/specs/Reading.antt`.
 pub use adding::Wrote;
 pub use flush::flush;
 pub use process::Outcome;
@@ -16,3 +17,4 @@ pub use stream::SonicStream;
 pub use stream::Ties;
 pub use stream::refusals;
 pub use write::write_f32;
+pub use write::write_i16;

@@ -1,12 +1,11 @@
 -- `pcm::decode` meets its contract: one sample more in each turn. Assumes nothing.
 use borrow.Author.Needs.{needs}
-use mathlib.Core.Path.{_≡_, refl, ap, subst, _∙_}
+use mathlib.Core.Path.{_≡_, refl, subst, _∙_}
 use Prim.Native.Nat.{ℕ, _-_, _≤_, _<_}
 use native.Mathlib.Omega.{arith}
 use lib.ListN.{length, length-set}
 use mir.Facts.{toZ-ofZ}
 use mir.Syntax.{w16}
-use Rattle.floats.specs.Write.{sampleOut}
 use Rattle.pcm.specs.Pcm.{Decoded}
 use Rattle.pcm.proofs.Coding.{decoded-more}
 use Rattle.pcm.proofs.decode.Statement.{statement}
@@ -15,35 +14,34 @@ use Rattle.pcm.proofs.decode.Tie as tie
 -- ---- the invariant
 
 abbrev Inv-loop : tie.InvT-loop
-Inv-loop bytes count values₀ i₀ values i = (i ≤ count) × (length values ≡ length values₀) × Decoded i bytes values
+Inv-loop bytes count samples₀ i₀ samples i = (i ≤ count) × (length samples ≡ length samples₀) × Decoded i bytes samples
 
 abbrev μ-loop : tie.MeasureT-loop
-μ-loop bytes count values₀ i₀ values i = count - i
+μ-loop bytes count samples₀ i₀ samples i = count - i
 
 -- ---- places, and what is known there
 
 abbrev start : tie.At-loop Inv-loop μ-loop → tie.Start Inv-loop μ-loop
-start l = l .before .before .before
+start l = l .before .before
 
--- a sample is read and made a value
-abbrev turn : tie.After-sample-out Inv-loop μ-loop → tie.At-loop Inv-loop μ-loop
-turn c = c .before .before .before .before .before
+-- a sample is made of its bytes
+abbrev turn : tie.After-sample Inv-loop μ-loop → tie.At-loop Inv-loop μ-loop
+turn c = c .before .before .before .before
 
 -- ---- needs
 
 loop-holds : tie.Need-loop-holds Inv-loop μ-loop
-loop-holds c = (omega arith, refl, record { value = λ i l. absurd (omega arith) })
+loop-holds c = (omega arith, refl, record { sample = λ i l. absurd (omega arith) })
 
 loop-again : tie.Need-loop-again Inv-loop μ-loop
 loop-again c =
     let l = turn c .loop in
     let a = start (turn c) .args in
-    let inside : l .i < length (l .values) = omega arith in
-    let v = toZ-ofZ {w = w16} {z = c .before .sample .result} (record { sfits = c .before .sample .ok }) in
-    let x = c .sample-out .ensures ∙ ap sampleOut (v ∙ c .before .sample .ensures) in (
+    let inside : l .i < length (l .samples) = omega arith in
+    let v = toZ-ofZ {w = w16} {z = c .sample .result} (record { sfits = c .sample .ok }) in (
       omega arith,
-      length-set (l .values) (l .i) (c .sample-out .result) ∙ l .inv .1,
-      decoded-more (a .bytes .now) (l .values) (l .i) (c .sample-out .result) inside x (l .inv .2),
+      length-set (l .samples) (l .i) _ ∙ l .inv .1,
+      rw v (decoded-more (a .bytes .now) (l .samples) (l .i) (c .sample .result) inside (c .sample .ensures) (l .inv .2)),
     )
 
 returns : tie.Need-returns Inv-loop μ-loop
@@ -51,7 +49,7 @@ returns c =
     let l = c .before .loop in
     let a = start (c .before) .args in
     let e : l .i ≡ a .count = omega arith in
-    subst (λ (n : ℕ). Decoded n (a .bytes .now) (l .values)) e (l .inv .2)
+    subst (λ (n : ℕ). Decoded n (a .bytes .now) (l .samples)) e (l .inv .2)
 
 -- ---- what search closes
 
@@ -73,14 +71,11 @@ shared-slice-read-sample-2 c = search needs
 sample-requires : tie.Need-sample-requires Inv-loop μ-loop
 sample-requires c κs = search needs
 
-sample-out-requires : tie.Need-sample-out-requires Inv-loop μ-loop
-sample-out-requires c κs = search needs
+mul-x : tie.Need-mul-x Inv-loop μ-loop
+mul-x c = search needs
 
-mul-values : tie.Need-mul-values Inv-loop μ-loop
-mul-values c = search needs
-
-slice-write-values : tie.Need-slice-write-values Inv-loop μ-loop
-slice-write-values c = search needs
+slice-set-from-x : tie.Need-slice-set-from-x Inv-loop μ-loop
+slice-set-from-x c = search needs
 
 add-i : tie.Need-add-i Inv-loop μ-loop
 add-i c = search needs
@@ -95,4 +90,4 @@ pub decode-spec : {M : Type 1} → statement M
 decode-spec =
     tie.close
     (tie.spec Inv-loop μ-loop loop-holds mul-sample shared-slice-read-sample mul-sample-2 add-sample shared-slice-read-sample-2 sample-requires
-    sample-out-requires mul-values slice-write-values add-i loop-less loop-again same-length returns)
+    mul-x slice-set-from-x add-i loop-less loop-again same-length returns)

@@ -1,15 +1,17 @@
 -- `write::write_f32` meets its contract. Assumes nothing.
 use borrow.Author.Needs.{needs}
-use mathlib.Core.Path.{_≡_, sym, _∙_}
-use mathlib.Core.Bool.{Bool, true, false}
-use Prim.Native.Nat.{_+_}
+use mathlib.Core.Path.{_≡_, subst}
+use mathlib.Core.List.{List}
+use Prim.Native.Nat.{ℕ, _/_}
+use native.Mathlib.Omega.{arith}
+use lib.Ieee.{Float}
+use lib.ListN.{length}
 use Rattle.frames.specs.Areas.{Areas, areas}
-use Rattle.floats.specs.Settings.{samplePeriod}
-use Rattle.stream.specs.Refusals.{inOrder, areasBad, tooShort}
-use Rattle.stream.proofs.InOrder.{good-of, bad-of, limits-of}
-use Rattle.stream.proofs.AreaTests.{areas-of}
-use Rattle.adding.proofs.Joining.{add-ready}
-use Rattle.write.proofs.Writing.{write-out-of-order, write-areas-bad, write-input-full}
+use Rattle.frames.specs.Framing.{Behind}
+use Rattle.adding.specs.Adding.{AddReady}
+use Rattle.adding.proofs.Joining.{written-behind, ready-with, accepted-place, accepted-samples}
+use Rattle.write.specs.Writing.{BegunAs}
+use Rattle.write.proofs.Writing.{written, write-refused, write-answered}
 use Rattle.write.proofs.write_f32.Statement.{statement}
 use Rattle.write.proofs.write_f32.Tie as tie
 
@@ -19,112 +21,107 @@ use Rattle.write.proofs.write_f32.Tie as tie
 abbrev lent : tie.Start → Areas
 lent s = areas (s .args .input .now) (s .args .stage .now) (s .args .output .now) (s .args .scratch .now)
 
--- in order
-abbrev entered : tie.After-known-told → tie.Start
-entered c = c .before .before .before .before .before
+-- the values written
+abbrev values : tie.Start → List Float
+values s = s .args .samples .now
 
--- the areas are lent, and tested
-abbrev lending : tie.After-areas-bad-arg4 → tie.After-known-told
-lending c = c .before .before .before .before
+-- the tests are made, and let the write pass
+abbrev began : tie.After-begin-write → tie.Start
+began c = c .before .before .before .before .before .before
 
-abbrev in-order : tie.After-areas-bad → tie.After-known-told
-in-order c = lending (c .before)
+abbrev tested : tie.After-period → tie.After-begin-write
+tested c = c .before .before
 
--- the frames are tested against the input
-abbrev counted : tie.After-input-full → tie.After-frames
-counted c = c .before .before
+-- its frames
+abbrev count : tie.After-period → ℕ
+count c = c .period .given .0 .1 .0 .0
 
-abbrev areas-passed : tie.After-frames → tie.Else1
-areas-passed c = c .before .before
+-- they are counted in samples, and stored
+abbrev passed : tie.After-samples2 → tie.After-period
+passed c = c .before .before .before .before .before .before
 
-abbrev began : tie.After-input-full → tie.Start
-began c = entered (in-order (areas-passed (counted c) .before))
+abbrev entered : tie.After-samples-in → tie.Start
+entered c = began (tested (passed (c .before)))
 
--- no refusal is met
-abbrev fitting : tie.After-write-frames-arg4 → tie.Else2
-fitting c = c .before .before .before .before
+-- the areas are lent to the work, and it is done
+abbrev lending : tie.After-end-write-arg4 → tie.After-samples-in
+lending c = c .before .before .before .before .before
 
--- ---- what the tests say
+abbrev worked : tie.After-scratch → tie.After-end-write
+worked c = c .before .before .before .before
 
-ordered : (c : tie.After-known-told)
-    → (inOrder (entered c .args .stream) ≡ true) × (c .before .order .given .0 .0 ≡ samplePeriod (entered c .args .stream .rate))
-ordered c = good-of (entered c .args .stream) _ (sym (c .before .before .before .ordered .ensures) ∙ c .before .order .given .1)
+abbrev left : tie.After-end-write → Areas
+left c =
+    areas (c .end-write .last .1 .1 .1 .0) (c .end-write .last .1 .1 .1 .1 .0) (c .end-write .last .1 .1 .1 .1 .1 .0)
+    (c .end-write .last .1 .1 .1 .1 .1 .1 .0)
 
-areas-test : (c : tie.After-areas-bad) (b : Bool) → c .areas-bad .result ≡ b
-    → areasBad (entered (in-order c) .args .stream) (lent (entered (in-order c))) ≡ b
-areas-test c b e = sym (c .areas-bad .ensures) ∙ e
+-- ---- facts
 
-good : (c : tie.Else1) → areasBad (entered (in-order (c .before)) .args .stream) (lent (entered (in-order (c .before)))) ≡ false
-good c = areas-test (c .before) false (c .if1 .left)
+-- what the tests say of a write that they let pass
+ready : (c : tie.After-period) → let s = began (tested c) in
+    AddReady (s .args .stream) (c .period .given .0 .0) (lent s) (count c) × (count c ≡ length (values s) / s .args .stream .channels)
+ready c =
+    let s = began (tested c) in
+    subst (BegunAs (s .args .stream) (length (values s)) (lent s)) (c .period .given .1) (tested c .begin-write .ensures)
 
-input-test : (c : tie.After-input-full) (b : Bool) → c .input-full .result ≡ b
-    → tooShort (began c .args .stream .channels) (began c .args .stream .held .0 + counted c .frames .result .0) (began c .args .input .now) ≡ b
-input-test c b e = sym (c .input-full .ensures) ∙ e
+-- its frames are behind those held
+added : (c : tie.After-samples-in) → let s = entered c in
+    Behind (s .args .stream .channels) (s .args .stream .held .0) (count (passed (c .before))) (s .args .input .now)
+    (c .samples-in .last .1 .1 .0) (written (s .args .stream) (values s) (count (passed (c .before))))
+added c =
+    let s = entered c in
+    let r = ready (passed (c .before)) in
+    let p = r .0 .accepted in
+    let pasted = rw (c .before .samples2 .ensures, c .before .before .before .samples .ensures) at (c .samples-in .ensures) in
+    written-behind (s .args .stream .channels) (s .args .stream .held .0) _ (values s) (s .args .input .now) (c .samples-in .last .1 .1 .0)
+    (accepted-samples p (values s) (r .1)) (p .fits) pasted
 
 -- ---- needs
 
+samples-requires : tie.Need-samples-requires
+samples-requires c κs = omega (arith, accepted-place (ready (c .before .before .before) .0 .accepted))
+
+samples-requires-2 : tie.Need-samples-requires-2
+samples-requires-2 c κs = omega (arith, accepted-place (ready (c .before .before .before .before .before) .0 .accepted))
+
+samples-in-requires : tie.Need-samples-in-requires
+samples-in-requires c κs =
+    let s = began (tested (passed c)) in
+    let p = ready (passed c) .0 .accepted in
+    rw (c .samples2 .ensures, c .before .before .samples .ensures) (accepted-samples p (values s) (ready (passed c) .1), accepted-place p)
+
+end-write-requires : tie.Need-end-write-requires
+end-write-requires c κs =
+    let m = lending c in
+    ready-with (ready (passed (m .before)) .0) (m .samples-in .last .1 .1 .0) (added m .long)
+
 returns : tie.Need-returns
 returns c =
-    let o = c .before .before in
-    let a = o .before .before .args in
-    write-out-of-order (a .stream) (a .samples .now) (lent (o .before .before)) (bad-of (a .stream) (sym (o .ordered .ensures) ∙ c .enum-told .given .1))
-
-areas-bad-requires : tie.Need-areas-bad-requires
-areas-bad-requires c κs =
-    let o = lending c in
-    limits-of (entered o .args .stream) (ordered o .0) .channels-low
+    let t = c .before .before .before in
+    let s = began t in
+    write-refused (s .args .stream) (values s) (lent s) (c .before .number .given .0 .0)
+    (subst (BegunAs (s .args .stream) (length (values s)) (lent s)) (c .before .number .given .1) (t .begin-write .ensures))
 
 returns-2 : tie.Need-returns-2
 returns-2 c =
-    let o = in-order (c .before) in
-    let s = entered o in
-    write-areas-bad (s .args .stream) (s .args .samples .now) (lent s) (ordered o .0) (areas-test (c .before) true (c .if1 .taken))
+    let w = worked c in
+    let m = lending (w .before) in
+    let s = entered m in
+    let r = ready (passed (m .before)) in
+    write-answered (s .args .stream) (values s) (lent s) (left w) _ (r .0 .accepted) (r .1) (m .samples-in .last .1 .1 .0) (added m) (w .end-write .result)
+    (w .end-write .ensures)
 
-frames-requires : tie.Need-frames-requires
-frames-requires c κs =
-    let o = in-order (c .before .before) in
-    limits-of (entered o .args .stream) (ordered o .0) .channels-low
+begin-write-requires : tie.Need-begin-write-requires
+begin-write-requires c κs = search needs
 
-input-full-requires : tie.Need-input-full-requires
-input-full-requires c κs =
-    let g = areas-passed (c .before) in
-    let o = in-order (g .before) in
-    let s = entered o in
-    (limits-of (s .args .stream) (ordered o .0) .channels-low, areas-of (s .args .stream) (lent s) (good g) .held)
+enum-known-number : tie.Need-enum-known-number
+enum-known-number c = search needs
 
-returns-3 : tie.Need-returns-3
-returns-3 c =
-    let t = c .before in
-    let g = areas-passed (counted t) in
-    let s = began t in
-    let frames = counted t .frames in
-    write-input-full (s .args .stream) (s .args .samples .now) (lent s) (ordered (in-order (g .before)) .0) (frames .result .0) (frames .ensures) (good g)
-    (input-test t true (c .if2 .taken))
+enum-known-period : tie.Need-enum-known-period
+enum-known-period c = search needs
 
-write-frames-requires : tie.Need-write-frames-requires
-write-frames-requires c κs =
-    let i = fitting c in
-    let t = i .before in
-    let g = areas-passed (counted t) in
-    let o = in-order (g .before) in
-    let frames = counted t .frames in
-    let fits = input-test t false (i .if2 .left) in
-    (add-ready (began t .args .stream) (o .before .order .given .0 .0) (lent (began t)) (frames .result .0) (ordered o) (good g) fits, frames .ensures)
-
-ordered-requires : tie.Need-ordered-requires
-ordered-requires c κs = search needs
-
-returns-4 : tie.Need-returns-4
-returns-4 c = search needs
-
-enum-known-order : tie.Need-enum-known-order
-enum-known-order c = search needs
-
-enum-told : tie.Need-enum-told
-enum-told c = search needs
-
-cast-frames : tie.Need-cast-frames
-cast-frames c = search needs
+cast-channels : tie.Need-cast-channels
+cast-channels c = search needs
 
 same-length : tie.Need-same-length
 same-length c = search needs
@@ -150,21 +147,8 @@ same-length-7 c = search needs
 same-length-8 : tie.Need-same-length-8
 same-length-8 c = search needs
 
-same-length-9 : tie.Need-same-length-9
-same-length-9 c = search needs
-
-same-length-10 : tie.Need-same-length-10
-same-length-10 c = search needs
-
-same-length-11 : tie.Need-same-length-11
-same-length-11 c = search needs
-
-same-length-12 : tie.Need-same-length-12
-same-length-12 c = search needs
-
 pub write-f32-spec : {M : Type 1} → statement M
 write-f32-spec =
     tie.close
-    (tie.spec ordered-requires enum-known-order enum-told returns areas-bad-requires same-length same-length-2 same-length-3 same-length-4 returns-2
-    cast-frames frames-requires input-full-requires same-length-5 same-length-6 same-length-7 same-length-8 returns-3 write-frames-requires
-    same-length-9 same-length-10 same-length-11 same-length-12 returns-4)
+    (tie.spec begin-write-requires enum-known-number enum-known-period cast-channels samples-requires samples-requires-2 samples-in-requires
+    end-write-requires same-length same-length-2 same-length-3 same-length-4 returns same-length-5 same-length-6 same-length-7 same-length-8 returns-2)
