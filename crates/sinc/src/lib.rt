@@ -1,17 +1,18 @@
 // The filter table of the rate conversion, and interpolated samples and frames.
+pub mod phases;
 pub mod table;
 
 use frames::Samples;
 ghost use mathlib.Core.Path.{_≡_};
-ghost use Prim.Native.Nat.{ℕ, _+_, _-_, _*_, _≤_, _<_};
-ghost use lib.IntN.{pos, natAbs};
+ghost use Prim.Native.Nat.{_+_, _-_, _*_, _≤_, _<_};
+ghost use lib.IntN.{pos};
 ghost use lib.ListN.{length, drop, getD};
 ghost use lib.Seq.{paste};
-ghost use lib.Signed.{shrZ};
 ghost use Rattle.laws.specs.Reciprocal.{reciprocalOf};
 ghost use Rattle.sinc.specs.SincTable.{sincTable, sincTableSize};
-ghost use Rattle.sinc.specs.Sinc.{sincFilterPoints, maxWidth, tableValue, sincCoefficients, weightedSum};
+ghost use Rattle.sinc.specs.Sinc.{sincFilterPoints, maxWidth, tableValue, sincCoefficients};
 ghost use Rattle.sinc.specs.Sinc.{heldSample, interpolateFrame};
+ghost use Rattle.sinc.specs.Weights.{SmallWeights, weightedSample, weightedFrame};
 
 // The taps of a sample, and so the tail frames that a frame is made of.
 pub const SINC_FILTER_POINTS: usize = 12;
@@ -53,18 +54,19 @@ fn find_sinc_coefficient(
     (double * parts / (RECIPROCAL_PARTS as i64)) as i32
 }
 
-// The coefficients of the 12 taps. All of them, their place and their remainder come from one division, which gives the
-// reciprocal of `width`.
-fn coefficients(table: &[i16], ratio: usize, width: usize) -> [i32; SINC_FILTER_POINTS]
-    requires { ⌜ (now table ≡ sincTable) × (ratio < width) × (width ≤ maxWidth) ⌝ }
-    ensures { λ r. ⌜ r ≡ sincCoefficients ratio width ⌝ }
+// Puts the coefficients of the 12 taps to the place `at` of the weights. All of them, their place and their remainder
+// come from one division, which gives the reciprocal of `width`.
+fn put_coefficients(table: &[i16], ratio: usize, width: usize, weights: &mut [i32], at: usize)
+    requires { ⌜ (now table ≡ sincTable) × (ratio < width) × (width ≤ maxWidth)
+        × (at + sincFilterPoints ≤ length (now weights)) ⌝ }
+    ensures { λ _. ⌜ now (weights .exit) ≡ paste (now (weights .entry)) at (sincCoefficients ratio width)
+        sincFilterPoints ⌝ }
 {
     let n = width as u64;
     let reciprocal = RECIPROCAL_PARTS / n + 1;
     let points = LOBE_POINTS * ratio;
     let place = (points as u64 * reciprocal / RECIPROCAL_PARTS) as usize;
     let remainder = points - place * width;
-    let mut weights = [0i32; SINC_FILTER_POINTS];
     let mut i: usize = 0;
     while i < SINC_FILTER_POINTS {
         let weight = find_sinc_coefficient(
@@ -74,10 +76,9 @@ fn coefficients(table: &[i16], ratio: usize, width: usize) -> [i32; SINC_FILTER_
             width,
             reciprocal,
         );
-        weights[i] = weight;
+        weights[at + i] = weight;
         i += 1;
     }
-    weights
 }
 
 // A sum of taps, shifted and held to the range of a sample.
@@ -93,32 +94,65 @@ fn hold(z: i64) -> i16
     z as i16
 }
 
-// One sample: the 12 taps of a channel, the first at `from`, each times its weight.
+// One sample: the 12 taps of a channel, the first at `from`, each times its weight, the first at `at`.
 fn interpolate(
     stage: &[i16],
     from: Samples,
     channels: usize,
-    weights: &[i32; SINC_FILTER_POINTS],
+    weights: &[i32],
+    at: usize,
 ) -> i16
     requires { ⌜ from .0 + (sincFilterPoints - 1) * channels < length (now stage) ⌝ }
-    requires { ⌜ ((i : ℕ) → i < sincFilterPoints → natAbs (getD (now weights) i (pos 0)) ≤ 65534) ⌝ }
-    ensures { λ r. ⌜ r ≡ heldSample (shrZ (weightedSum
-        (λ i. getD (now (stage .entry)) (from .0 + i * channels) (pos 0))
-        (λ i. getD (now (weights .entry)) i (pos 0)) sincFilterPoints) 65536) ⌝ }
+    requires { ⌜ (at + sincFilterPoints ≤ length (now weights)) × SmallWeights at (now weights) ⌝ }
+    ensures { λ r. ⌜ r ≡ weightedSample (λ i. getD (now (stage .entry)) (from .0 + i * channels) (pos 0))
+        (λ i. getD (now (weights .entry)) (at + i) (pos 0)) ⌝ }
 {
     let f = from.0;
     let mut sum: i64 = 0;
     let mut i: usize = 0;
     while i < SINC_FILTER_POINTS {
         let tap = stage[f + i * channels] as i64;
-        let weight = weights[i] as i64;
+        let weight = weights[at + i] as i64;
         sum += tap * weight;
         i += 1;
     }
     hold(sum >> 16)
 }
 
-// One frame: the 12 tail frames from `from` on give one sample per channel, written from `to` on.
+// One frame by the 12 weights from `at` on: the 12 tail frames from `from` on give one sample per channel, written from
+// `to` on. With one channel the taps stand side by side.
+pub fn weighted_frame(
+    weights: &[i32],
+    at: usize,
+    stage: &[i16],
+    from: Samples,
+    channels: usize,
+    output: &mut [i16],
+    to: Samples,
+)
+    requires { ⌜ (at + sincFilterPoints ≤ length (now weights)) × SmallWeights at (now weights) ⌝ }
+    requires { ⌜ (from .0 + sincFilterPoints * channels ≤ length (now stage))
+        × (to .0 + channels ≤ length (now output)) ⌝ }
+    ensures { λ _. ⌜ now (output .exit) ≡ paste (now (output .entry)) (to .0)
+        (weightedFrame (drop (from .0) (now (stage .entry))) channels (now (weights .entry)) at) channels ⌝ }
+{
+    let f = from.0;
+    let t = to.0;
+    if channels == 1 {
+        let sample = interpolate(stage, from, 1, weights, at);
+        output[t] = sample;
+        return;
+    }
+    let mut c: usize = 0;
+    while c < channels {
+        let first = Samples(f + c);
+        let sample = interpolate(stage, first, channels, weights, at);
+        output[t + c] = sample;
+        c += 1;
+    }
+}
+
+// One frame at a ratio: by the coefficients of its 12 taps.
 pub fn interpolate_frame(
     table: &[i16],
     stage: &[i16],
@@ -135,14 +169,7 @@ pub fn interpolate_frame(
     ensures { λ _. ⌜ now (output .exit) ≡ paste (now (output .entry)) (to .0)
         (interpolateFrame (drop (from .0) (now (stage .entry))) channels ratio width) channels ⌝ }
 {
-    let f = from.0;
-    let t = to.0;
-    let weights = coefficients(table, ratio, width);
-    let mut c: usize = 0;
-    while c < channels {
-        let first = Samples(f + c);
-        let sample = interpolate(stage, first, channels, &weights);
-        output[t + c] = sample;
-        c += 1;
-    }
+    let mut weights = [0i32; SINC_FILTER_POINTS];
+    put_coefficients(table, ratio, width, &mut weights, 0);
+    weighted_frame(&weights, 0, stage, from, channels, output, to);
 }

@@ -1,32 +1,32 @@
--- `sinc::coefficients` meets its contract. The loop's invariant: the first i weights are the coefficients of the first i taps.
+-- `sinc::put_coefficients` meets its contract. The loop's invariant: the coefficients of the first i taps are in their places.
 -- Assumes nothing.
 use mathlib.Core.Path.{_≡_, refl, sym, ap, _∙_}
 use mathlib.Core.List.{List}
-use Prim.Native.Nat.{ℕ, _-_, _*_, _/_, _%_, _≤_, _<_}
+use Prim.Native.Nat.{ℕ, _+_, _-_, _*_, _/_, _%_, _≤_, _<_}
 use native.Mathlib.Nat.{mod-lt}
 use native.Mathlib.Omega.{arith}
 use borrow.Author.Needs.{needs}
 use lib.IntN.{ℤ, pos}
-use lib.ListN.{length, set, length-set, replicate}
-use lib.Seq.{paste}
+use lib.ListN.{length, set, length-set}
+use lib.Seq.{paste, paste-zero}
 use mir.Syntax.{w32}
 use mir.Val.{toZ, ofZ}
 use mir.Facts.{toZ-ofZ}
 use Rattle.laws.specs.Reciprocal.{reciprocalParts, reciprocalOf}
-use Rattle.sinc.specs.Sinc.{sincFilterPoints, lobePoints, tabulate, sincCoefficient, sincCoefficients}
+use Rattle.sinc.specs.Sinc.{sincFilterPoints, lobePoints, sincCoefficient, sincCoefficients}
 use Rattle.sinc.proofs.Coefficient.{reciprocal-lt, place-lt, place-product-lt, place-is, place-reaches, behind-is, sincCoefficient-is}
-use Rattle.sinc.proofs.Tabulated.{front-turn}
-use Rattle.sinc.proofs.coefficients.Statement.{statement}
-use Rattle.sinc.proofs.coefficients.Tie as tie
+use Rattle.sinc.proofs.Tabulated.{tabulate-turn}
+use Rattle.sinc.proofs.put_coefficients.Statement.{statement}
+use Rattle.sinc.proofs.put_coefficients.Tie as tie
 
 -- ---- the invariant
 
 abbrev Inv-loop : tie.InvT-loop
-Inv-loop table ratio width n reciprocal points place remainder weights₀ i₀ weights i =
-    (i ≤ sincFilterPoints) × (length weights ≡ sincFilterPoints) × (weights ≡ paste weights₀ 0 (sincCoefficients ratio width) i)
+Inv-loop table ratio width weights₀ at n reciprocal points place remainder i₀ weights i =
+    (i ≤ sincFilterPoints) × (length weights ≡ length weights₀) × (weights ≡ paste weights₀ at (sincCoefficients ratio width) i)
 
 abbrev μ-loop : tie.MeasureT-loop
-μ-loop table ratio width n reciprocal points place remainder weights₀ i₀ weights i = sincFilterPoints - i
+μ-loop table ratio width weights₀ at n reciprocal points place remainder i₀ weights i = sincFilterPoints - i
 
 -- ---- places, and what is known there
 
@@ -71,6 +71,11 @@ mul-remainder c = record { fits = omega (arith, reached c) }
 sub-remainder : tie.Need-sub-remainder Inv-loop μ-loop
 sub-remainder c = reached c
 
+loop-holds : tie.Need-loop-holds Inv-loop μ-loop
+loop-holds c =
+    let a = c .args in
+    (omega arith, refl, paste-zero (a .weights .now) (a .at) (sincCoefficients (a .ratio) (a .width)))
+
 add-find-sinc-coefficient : tie.Need-add-find-sinc-coefficient Inv-loop μ-loop
 add-find-sinc-coefficient c =
     let s = start (c .before) in
@@ -89,24 +94,22 @@ loop-again c =
     let a = s .args in
     let call = c .find-sinc-coefficient in
     let f : ℕ → ℤ = λ j. sincCoefficient j (a .ratio) (a .width) in
-    let zeros : List ℤ = replicate sincFilterPoints (pos 0) in
     let e : toZ w32 (ofZ w32 (call .result)) ≡ f (l .i) =
     toZ-ofZ {w = w32} (record { sfits = call .ok })
     ∙ rw (remainder-computed s, place-computed s) at (call .ensures)
     ∙ sym (sincCoefficient-is (l .i) (a .ratio) (a .width)) in (
       omega arith,
-      length-set (l .weights) (l .i) _ ∙ l .inv .1,
-      rw e (ap (λ (r : List ℤ). set r (l .i) (f (l .i))) (l .inv .2)
-          ∙ front-turn zeros sincFilterPoints f (l .i) (pos 0) (omega arith) (omega arith)),
+      length-set (l .weights) (a .at + l .i) _ ∙ l .inv .1,
+      rw e (ap (λ (r : List ℤ). set r (a .at + l .i) (f (l .i))) (l .inv .2)
+          ∙ tabulate-turn (a .weights .now) (a .at) sincFilterPoints f (l .i) (pos 0) (omega arith) (omega arith)),
     )
 
 returns : tie.Need-returns Inv-loop μ-loop
-unfolding sincCoefficients tabulate
 returns c =
     let l = c .before .loop in
     let a = start (c .before) .args in
     let e : l .i ≡ sincFilterPoints = omega arith in
-    l .inv .2 ∙ ap (paste (replicate sincFilterPoints (pos 0)) 0 (sincCoefficients (a .ratio) (a .width))) e
+    l .inv .2 ∙ ap (paste (a .weights .now) (a .at) (sincCoefficients (a .ratio) (a .width))) e
 
 -- ---- what search closes
 
@@ -116,17 +119,17 @@ div-reciprocal c = search needs
 mul-points : tie.Need-mul-points Inv-loop μ-loop
 mul-points c = search needs
 
-loop-holds : tie.Need-loop-holds Inv-loop μ-loop
-loop-holds c = search needs
-
 mul-find-sinc-coefficient : tie.Need-mul-find-sinc-coefficient Inv-loop μ-loop
 mul-find-sinc-coefficient c = search needs
 
-mul-weights : tie.Need-mul-weights Inv-loop μ-loop
-mul-weights c = search needs
+add-weight : tie.Need-add-weight Inv-loop μ-loop
+add-weight c = search needs
 
-array-set-from-weights : tie.Need-array-set-from-weights Inv-loop μ-loop
-array-set-from-weights c = search needs
+mul-weight : tie.Need-mul-weight Inv-loop μ-loop
+mul-weight c = search needs
+
+slice-set-from-weight : tie.Need-slice-set-from-weight Inv-loop μ-loop
+slice-set-from-weight c = search needs
 
 add-i : tie.Need-add-i Inv-loop μ-loop
 add-i c = search needs
@@ -134,8 +137,12 @@ add-i c = search needs
 loop-less : tie.Need-loop-less Inv-loop μ-loop
 loop-less c = search needs
 
-pub coefficients-spec : {M : Type 1} → statement M
-coefficients-spec =
+same-length : tie.Need-same-length Inv-loop μ-loop
+same-length c = search needs
+
+pub put-coefficients-spec : {M : Type 1} → statement M
+put-coefficients-spec =
     tie.close
     (tie.spec Inv-loop μ-loop div-reciprocal add-reciprocal mul-points mul-place mul-remainder sub-remainder loop-holds mul-find-sinc-coefficient
-    add-find-sinc-coefficient find-sinc-coefficient-requires mul-weights array-set-from-weights add-i loop-less loop-again returns)
+    add-find-sinc-coefficient find-sinc-coefficient-requires add-weight mul-weight slice-set-from-weight add-i loop-less loop-again same-length
+    returns)
