@@ -1,11 +1,13 @@
 // The phases at which the frames of a call are made, and after how many frames they come again.
 use crate::Rates;
 use frames::Frames;
-use sinc::phases::MAX_PHASES;
 use sinc::SINC_FILTER_POINTS;
+use sinc::phases::MAX_PHASES;
+ghost use mathlib.Core.Path.{_≡_};
 ghost use Prim.Native.Nat.{_/_, _≤_};
+ghost use Rattle.sinc.specs.SincTable.{sincTable};
 ghost use Rattle.rate.specs.Halving.{maxHalvedRate};
-ghost use Rattle.rate.specs.Phases.{CycleOf};
+ghost use Rattle.rate.specs.Phases.{CycleOf, Kept, PhaseAt, PhaseReady};
 
 // A cycle: `old` tail frames make `new` frames, each at a phase of its own, and then the phases come again. N is
 // step·new and O is step·old.
@@ -15,8 +17,8 @@ pub(crate) struct Cycle {
     pub old: usize,
 }
 
-// A common divisor of N and O: the greatest if it leaves at most 32 phases, else 1. By Euclid's steps; a remainder above
-// 0 that leaves more phases ends them, as no divisor exceeds it.
+// A common divisor of N and O: the greatest if it leaves at most 32 phases, else 1. By Euclid's steps; a remainder
+// above 0 that leaves more phases ends them, as no divisor exceeds it.
 fn common_step(rates: Rates) -> usize
     requires { ⌜ (rates .new ≤ maxHalvedRate) × (1 ≤ rates .old) × (rates .old ≤ maxHalvedRate) ⌝ }
     ensures { λ r. ⌜ CycleOf rates (record { step = r; new = rates .new / r; old = rates .old / r }) ⌝ }
@@ -35,8 +37,8 @@ fn common_step(rates: Rates) -> usize
     a
 }
 
-// The cycle of a call that scans a tail of this many frames. Its step is 1, so that no coefficients are kept, unless the
-// scan comes to each phase twice.
+// The cycle of a call that scans a tail of this many frames. Its step is 1, so that no coefficients are kept, unless
+// the scan comes to each phase twice.
 pub(crate) fn cycle_of(rates: Rates, tail: Frames) -> Cycle
     requires { ⌜ (rates .new ≤ maxHalvedRate) × (1 ≤ rates .old) × (rates .old ≤ maxHalvedRate) ⌝ }
     ensures { λ r. ⌜ CycleOf rates r ⌝ }
@@ -56,4 +58,22 @@ pub(crate) fn cycle_of(rates: Rates, tail: Frames) -> Cycle
         new: rates.new,
         old: rates.old,
     }
+}
+
+// The place where the weights of a phase stand: they are kept there, or are put to the front.
+pub(crate) fn phase_weights(
+    table: &[i16],
+    weights: &mut [i32],
+    cycle: Cycle,
+    phase: usize,
+    reciprocal: u64,
+) -> usize
+    requires { ⌜ (now table ≡ sincTable) × Kept cycle (now weights) × PhaseReady cycle phase reciprocal ⌝ }
+    ensures { λ r. ⌜ Kept cycle (now (weights .exit)) × PhaseAt cycle phase r (now (weights .exit)) ⌝ }
+{
+    if cycle.step > 1 {
+        return SINC_FILTER_POINTS * phase;
+    }
+    sinc::put_coefficients(table, phase, cycle.new, reciprocal, weights, 0);
+    0
 }

@@ -1,15 +1,16 @@
 // The scan of the tail: the frames that it makes, until one does not fit.
-use crate::phases::cycle_of;
-use crate::phases::Cycle;
 use crate::Adjusted;
 use crate::Adjustment;
 use crate::Position;
 use crate::Rates;
+use crate::phases::Cycle;
+use crate::phases::cycle_of;
+use crate::phases::phase_weights;
 use frames::Frames;
 use frames::Samples;
-use sinc::phases::keep_phases;
-use sinc::phases::KEPT_COEFFICIENTS;
 use sinc::SINC_FILTER_POINTS;
+use sinc::phases::KEPT_COEFFICIENTS;
+use sinc::phases::keep_phases;
 ghost use mathlib.Core.Path.{_≡_};
 ghost use Prim.Native.Nat.{_+_, _-_, _*_, _≤_, _<_};
 ghost use lib.ListN.{length, drop};
@@ -17,45 +18,41 @@ ghost use lib.Seq.{paste};
 ghost use Rattle.frames.specs.Framing.{framesOf};
 ghost use Rattle.sinc.specs.Sinc.{sincFilterPoints};
 ghost use Rattle.sinc.specs.SincTable.{sincTable};
-ghost use Rattle.rate.specs.Halving.{maxHalvedRate};
 ghost use Rattle.rate.specs.Tail.{interpolateWindow};
 ghost use Rattle.rate.specs.Adjusting.{AreasHold, Placed, ScanEnsures};
-ghost use Rattle.rate.specs.Phases.{CycleOf, Kept};
+ghost use Rattle.rate.specs.Phases.{CycleOf, Kept, PhaseReady};
 
 // Makes the frame at a phase of the 12 tail frames from `first` on, behind the first `to` frames of the output.
 fn make_frame(
     table: &[i16],
-    kept: &[i32],
+    weights: &mut [i32],
     stage: &[i16],
     first: Frames,
     channels: usize,
     cycle: Cycle,
     phase: usize,
+    reciprocal: u64,
     output: &mut [i16],
     to: Frames,
 )
-    requires { ⌜ (now table ≡ sincTable) × Kept cycle (now kept) × (1 ≤ cycle .step) × (phase < cycle .new)
-        × (cycle .step * cycle .new ≤ maxHalvedRate) ⌝ }
+    requires { ⌜ (now table ≡ sincTable) × Kept cycle (now weights) × PhaseReady cycle phase reciprocal ⌝ }
     requires { ⌜ ((first .0 + sincFilterPoints) * channels ≤ length (now stage))
         × ((to .0 + 1) * channels ≤ length (now output)) ⌝ }
+    ensures { λ _. ⌜ Kept cycle (now (weights .exit)) ⌝ }
     ensures { λ _. ⌜ now (output .exit) ≡ paste (now (output .entry)) (to .0 * channels)
         (interpolateWindow (framesOf channels sincFilterPoints (drop (first .0 * channels) (now (stage .entry))))
         (cycle .step * (phase + 1) - 1) (cycle .step * cycle .new)) channels ⌝ }
 {
+    let at = phase_weights(table, weights, cycle, phase, reciprocal);
     let from = first.samples(channels);
     let place = to.samples(channels);
-    if cycle.step > 1 {
-        let at = SINC_FILTER_POINTS * phase;
-        sinc::weighted_frame(kept, at, stage, from, channels, output, place);
-        return;
-    }
-    sinc::interpolate_frame(table, stage, from, channels, phase, cycle.new, output, place);
+    sinc::weighted_frame(weights, at, stage, from, channels, output, place);
 }
 
 // Consumes tail frames while more than 12 lie ahead; the frames that they make go behind those that wait in the output.
 fn scan_tail(
     table: &[i16],
-    kept: &[i32],
+    weights: &mut [i32],
     stage: &[i16],
     tail: Frames,
     channels: usize,
@@ -66,7 +63,7 @@ fn scan_tail(
     waiting: Frames,
 ) -> Adjustment
     requires { ⌜ (now table ≡ sincTable) × AreasHold channels (tail .0) (waiting .0) (now stage) (now output)
-        × Placed rates at × CycleOf rates cycle × Kept cycle (now kept) ⌝ }
+        × Placed rates at × CycleOf rates cycle × Kept cycle (now weights) ⌝ }
     ensures { λ r. ⌜ ScanEnsures channels rates (tail .0) (waiting .0) at (now (stage .entry)) (now (output .entry))
         (now (output .exit)) r ⌝ }
 {
@@ -77,6 +74,7 @@ fn scan_tail(
     let old_rate = rates.old;
     let phases = cycle.new;
     let old_step = cycle.old;
+    let reciprocal = sinc::reciprocal_of(phases);
     let mut p = at.old;
     let mut n = at.new;
     let mut made: usize = 0;
@@ -91,7 +89,18 @@ fn scan_tail(
             let first = Frames(j);
             let to = Frames(w + made);
             let phase = end - n * old_step - 1;
-            make_frame(table, kept, stage, first, channels, cycle, phase, output, to);
+            make_frame(
+                table,
+                weights,
+                stage,
+                first,
+                channels,
+                cycle,
+                phase,
+                reciprocal,
+                output,
+                to,
+            );
             made += 1;
             n += 1;
         }
@@ -134,11 +143,29 @@ pub(crate) fn convert_tail(
         let mut kept = [0i32; KEPT_COEFFICIENTS];
         keep_phases(table, cycle.step, cycle.new, &mut kept);
         return scan_tail(
-            table, &kept, stage, tail, channels, rates, cycle, at, output, waiting,
+            table,
+            &mut kept,
+            stage,
+            tail,
+            channels,
+            rates,
+            cycle,
+            at,
+            output,
+            waiting,
         );
     }
-    let none = [0i32; 1];
+    let mut weights = [0i32; SINC_FILTER_POINTS];
     scan_tail(
-        table, &none, stage, tail, channels, rates, cycle, at, output, waiting,
+        table,
+        &mut weights,
+        stage,
+        tail,
+        channels,
+        rates,
+        cycle,
+        at,
+        output,
+        waiting,
     )
 }

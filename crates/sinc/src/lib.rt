@@ -54,16 +54,31 @@ fn find_sinc_coefficient(
     (double * parts / (RECIPROCAL_PARTS as i64)) as i32
 }
 
+// The reciprocal of a width, in parts; of 0 it is 1.
+pub fn reciprocal_of(width: usize) -> u64
+    ensures { λ r. ⌜ r ≡ reciprocalOf width ⌝ }
+{
+    if width == 0 {
+        return 1;
+    }
+    RECIPROCAL_PARTS / (width as u64) + 1
+}
+
 // Puts the coefficients of the 12 taps to the place `at` of the weights. All of them, their place and their remainder
-// come from one division, which gives the reciprocal of `width`.
-fn put_coefficients(table: &[i16], ratio: usize, width: usize, weights: &mut [i32], at: usize)
-    requires { ⌜ (now table ≡ sincTable) × (ratio < width) × (width ≤ maxWidth)
+// come from the reciprocal of `width`.
+pub fn put_coefficients(
+    table: &[i16],
+    ratio: usize,
+    width: usize,
+    reciprocal: u64,
+    weights: &mut [i32],
+    at: usize,
+)
+    requires { ⌜ (now table ≡ sincTable) × (ratio < width) × (width ≤ maxWidth) × (reciprocal ≡ reciprocalOf width)
         × (at + sincFilterPoints ≤ length (now weights)) ⌝ }
     ensures { λ _. ⌜ now (weights .exit) ≡ paste (now (weights .entry)) at (sincCoefficients ratio width)
         sincFilterPoints ⌝ }
 {
-    let n = width as u64;
-    let reciprocal = RECIPROCAL_PARTS / n + 1;
     let points = LOBE_POINTS * ratio;
     let place = (points as u64 * reciprocal / RECIPROCAL_PARTS) as usize;
     let remainder = points - place * width;
@@ -95,13 +110,7 @@ fn hold(z: i64) -> i16
 }
 
 // One sample: the 12 taps of a channel, the first at `from`, each times its weight, the first at `at`.
-fn interpolate(
-    stage: &[i16],
-    from: Samples,
-    channels: usize,
-    weights: &[i32],
-    at: usize,
-) -> i16
+fn interpolate(stage: &[i16], from: Samples, channels: usize, weights: &[i32], at: usize) -> i16
     requires { ⌜ from .0 + (sincFilterPoints - 1) * channels < length (now stage) ⌝ }
     requires { ⌜ (at + sincFilterPoints ≤ length (now weights)) × SmallWeights at (now weights) ⌝ }
     ensures { λ r. ⌜ r ≡ weightedSample (λ i. getD (now (stage .entry)) (from .0 + i * channels) (pos 0))
@@ -170,6 +179,6 @@ pub fn interpolate_frame(
         (interpolateFrame (drop (from .0) (now (stage .entry))) channels ratio width) channels ⌝ }
 {
     let mut weights = [0i32; SINC_FILTER_POINTS];
-    put_coefficients(table, ratio, width, &mut weights, 0);
+    put_coefficients(table, ratio, width, reciprocal_of(width), &mut weights, 0);
     weighted_frame(&weights, 0, stage, from, channels, output, to);
 }

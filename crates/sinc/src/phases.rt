@@ -21,10 +21,12 @@ pub fn keep_phases(table: &[i16], step: usize, phases: usize, kept: &mut [i32])
     ensures { λ _. ⌜ PhasesKept step phases (now (kept .exit)) ⌝ }
 {
     let width = step * phases;
+    let reciprocal = crate::reciprocal_of(width);
     let mut k: usize = 0;
     while k < phases {
         let ratio = step * (k + 1) - 1;
-        crate::put_coefficients(table, ratio, width, kept, SINC_FILTER_POINTS * k);
+        let at = SINC_FILTER_POINTS * k;
+        crate::put_coefficients(table, ratio, width, reciprocal, kept, at);
         k += 1;
     }
 }

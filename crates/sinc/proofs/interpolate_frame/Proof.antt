@@ -14,15 +14,18 @@ use Rattle.sinc.proofs.interpolate_frame.Tie as tie
 -- the coefficients are put in place
 module _ (c : tie.After-put-coefficients) where
   abbrev start : tie.Start
-  start = c .before .before
+  start = c .before .before .before
 
   abbrev weights : List ℤ
-  weights = c .put-coefficients .last .1 .1 .1 .0
+  weights = c .put-coefficients .last .1 .1 .1 .1 .0
 
   weights-are : take sincFilterPoints (drop 0 weights) ≡ sincCoefficients (start .args .ratio) (start .args .width)
   weights-are =
       ap (λ (l : List ℤ). take sincFilterPoints (drop 0 l)) (c .put-coefficients .ensures)
       ∙ put-there (replicate sincFilterPoints (pos 0)) 0 (start .args .ratio) (start .args .width) (omega arith)
+
+reciprocal-of-requires : tie.Need-reciprocal-of-requires
+reciprocal-of-requires c κs = search needs
 
 slice-aggregate-put-coefficients : tie.Need-slice-aggregate-put-coefficients
 slice-aggregate-put-coefficients c = search needs
@@ -54,4 +57,5 @@ returns c =
 pub interpolate-frame-spec : {M : Type 1} → statement M
 interpolate-frame-spec =
     tie.close
-    (tie.spec slice-aggregate-put-coefficients put-coefficients-requires slice-aggregate-weighted-frame weighted-frame-requires same-length returns)
+    (tie.spec reciprocal-of-requires slice-aggregate-put-coefficients put-coefficients-requires slice-aggregate-weighted-frame weighted-frame-requires
+    same-length returns)

@@ -14,7 +14,7 @@ use mir.Val.{toZ, ofZ}
 use mir.Facts.{toZ-ofZ}
 use Rattle.laws.specs.Reciprocal.{reciprocalParts, reciprocalOf}
 use Rattle.sinc.specs.Sinc.{sincFilterPoints, lobePoints, sincCoefficient, sincCoefficients}
-use Rattle.sinc.proofs.Coefficient.{reciprocal-lt, place-lt, place-product-lt, place-is, place-reaches, behind-is, sincCoefficient-is}
+use Rattle.sinc.proofs.Coefficient.{place-lt, place-product-lt, place-is, place-reaches, behind-is, sincCoefficient-is}
 use Rattle.sinc.proofs.Tabulated.{tabulate-turn}
 use Rattle.sinc.proofs.put_coefficients.Statement.{statement}
 use Rattle.sinc.proofs.put_coefficients.Tie as tie
@@ -22,11 +22,11 @@ use Rattle.sinc.proofs.put_coefficients.Tie as tie
 -- ---- the invariant
 
 abbrev Inv-loop : tie.InvT-loop
-Inv-loop table ratio width weights₀ at n reciprocal points place remainder i₀ weights i =
+Inv-loop table ratio width reciprocal weights₀ at points place remainder i₀ weights i =
     (i ≤ sincFilterPoints) × (length weights ≡ length weights₀) × (weights ≡ paste weights₀ at (sincCoefficients ratio width) i)
 
 abbrev μ-loop : tie.MeasureT-loop
-μ-loop table ratio width weights₀ at n reciprocal points place remainder i₀ weights i = sincFilterPoints - i
+μ-loop table ratio width reciprocal weights₀ at points place remainder i₀ weights i = sincFilterPoints - i
 
 -- ---- places, and what is known there
 
@@ -36,16 +36,19 @@ module _ (c : tie.Start Inv-loop μ-loop) where
   points = lobePoints * c .args .ratio
 
   abbrev place : ℕ
-  place = points * reciprocalOf (c .args .width) / reciprocalParts
+  place = points * c .args .reciprocal / reciprocalParts
+
+  by-reciprocal : place ≡ points * reciprocalOf (c .args .width) / reciprocalParts
+  by-reciprocal = ap (λ (n : ℕ). points * n / reciprocalParts) (c .pre .3)
 
   place-computed : place ≡ points / c .args .width
-  place-computed = place-is (c .args .ratio) (c .args .width) (c .pre .1) (c .pre .2)
+  place-computed = by-reciprocal ∙ place-is (c .args .ratio) (c .args .width) (c .pre .1) (c .pre .2)
 
   remainder-computed : points - place * c .args .width ≡ points % c .args .width
-  remainder-computed = behind-is (c .args .ratio) (c .args .width) (c .pre .1) (c .pre .2)
+  remainder-computed = ap (λ (n : ℕ). points - n * c .args .width) by-reciprocal ∙ behind-is (c .args .ratio) (c .args .width) (c .pre .1) (c .pre .2)
 
   reached : place * c .args .width ≤ points
-  reached = place-reaches (c .args .ratio) (c .args .width) (c .pre .1) (c .pre .2)
+  reached = omega (arith, ap (λ (n : ℕ). n * c .args .width) by-reciprocal, place-reaches (c .args .ratio) (c .args .width) (c .pre .1) (c .pre .2))
 
   -- the place lies within a lobe
   within : points / c .args .width < lobePoints
@@ -59,11 +62,10 @@ turn c = c .before .before
 
 -- ---- needs
 
-add-reciprocal : tie.Need-add-reciprocal Inv-loop μ-loop
-add-reciprocal c = record { fits = omega (arith, reciprocal-lt (c .args .width)) }
-
 mul-place : tie.Need-mul-place Inv-loop μ-loop
-mul-place c = record { fits = place-product-lt (c .args .ratio) (c .args .width) (c .pre .1) (c .pre .2) }
+mul-place c =
+    let small = place-product-lt (c .args .ratio) (c .args .width) (c .pre .1) (c .pre .2) in
+    record { fits = omega (arith, small, ap (λ (n : ℕ). points c * n) (c .pre .3)) }
 
 mul-remainder : tie.Need-mul-remainder Inv-loop μ-loop
 mul-remainder c = record { fits = omega (arith, reached c) }
@@ -84,7 +86,7 @@ add-find-sinc-coefficient c =
 find-sinc-coefficient-requires : tie.Need-find-sinc-coefficient-requires Inv-loop μ-loop
 find-sinc-coefficient-requires c κs =
     let s = start (c .before) in
-    rw (remainder-computed s, place-computed s) (s .pre .0, omega (arith, within s), mod-lt (points s) (omega arith), s .pre .2, refl)
+    rw (remainder-computed s, place-computed s) (s .pre .0, omega (arith, within s), mod-lt (points s) (omega arith), s .pre .2, s .pre .3)
 
 loop-again : tie.Need-loop-again Inv-loop μ-loop
 unfolding sincCoefficients
@@ -113,9 +115,6 @@ returns c =
 
 -- ---- what search closes
 
-div-reciprocal : tie.Need-div-reciprocal Inv-loop μ-loop
-div-reciprocal c = search needs
-
 mul-points : tie.Need-mul-points Inv-loop μ-loop
 mul-points c = search needs
 
@@ -143,6 +142,6 @@ same-length c = search needs
 pub put-coefficients-spec : {M : Type 1} → statement M
 put-coefficients-spec =
     tie.close
-    (tie.spec Inv-loop μ-loop div-reciprocal add-reciprocal mul-points mul-place mul-remainder sub-remainder loop-holds mul-find-sinc-coefficient
+    (tie.spec Inv-loop μ-loop mul-points mul-place mul-remainder sub-remainder loop-holds mul-find-sinc-coefficient
     add-find-sinc-coefficient find-sinc-coefficient-requires add-weight mul-weight slice-set-from-weight add-i loop-less loop-again same-length
     returns)

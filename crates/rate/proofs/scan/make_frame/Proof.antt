@@ -1,4 +1,4 @@
--- `rate::scan::make_frame` meets its contract: by the coefficients kept for the phase, or by those of its ratio. Assumes nothing.
+-- `rate::scan::make_frame` meets its contract: its weights are the coefficients of the phase. Assumes nothing.
 use borrow.Author.Needs.{needs}
 use mathlib.Core.Path.{_≡_, sym, ap, _∙_}
 use mathlib.Core.List.{List}
@@ -31,15 +31,9 @@ module _ (s : tie.Start) where
 
   ratio-lt : ratio < width
   ratio-lt =
-      let below : s .args .phase + 1 ≤ s .args .cycle .new = omega (arith, s .pre .0 .3) in
-      let some : 1 ≤ s .args .cycle .step * (s .args .phase + 1) = omega (arith, mul-le-mul-right (s .args .phase + 1) (s .pre .0 .2)) in
+      let below : s .args .phase + 1 ≤ s .args .cycle .new = omega (arith, s .pre .0 .2 .below) in
+      let some : 1 ≤ s .args .cycle .step * (s .args .phase + 1) = omega (arith, mul-le-mul-right (s .args .phase + 1) (s .pre .0 .2 .some)) in
       omega (arith, mul-le-mul-left (s .args .cycle .step) below)
-
-  phase-lt : s .args .phase < width
-  phase-lt = omega (arith, s .pre .0 .3, mul-le-mul-right (s .args .cycle .new) (s .pre .0 .2))
-
-  weights-are : 1 < s .args .cycle .step → take sincFilterPoints (drop (sincFilterPoints * s .args .phase) (s .args .kept .now)) ≡ sincCoefficients ratio width
-  weights-are h = s .pre .0 .1 h (s .args .phase) (s .pre .0 .3)
 
   -- the frame at the ratio, as the contract says it
   frame-is : paste (s .args .output .now) (s .args .to .0 * s .args .channels) (interpolateFrame samples (s .args .channels) ratio width) (s .args .channels)
@@ -53,60 +47,38 @@ module _ (s : tie.Start) where
 
 -- ---- needs
 
-mul-at : tie.Need-mul-at
-mul-at c =
-    let s = c .before .before .before .before in
-    record { fits = omega (arith, phase-lt s, s .pre .0 .4) }
-
 weighted-frame-requires : tie.Need-weighted-frame-requires
 weighted-frame-requires c κs =
-    let s = c .before .before .before .before .before in
-    let e = weights-are s (c .before .if1 .taken) in
-    let w = s .args .kept .now in
-    let at = sincFilterPoints * s .args .phase in (
+    let d = c .before .before .before .before .before in
+    let s = d .before .before in
+    let w = d .phase-weights .last .1 .0 in
+    let at = d .phase-weights .result in
+    let e = d .phase-weights .ensures .1 in (
       (weights-long w at (ratio s) (width s) e, weights-small w at (ratio s) (width s) e (ratio-lt s)),
       (
-        omega (arith, s .pre .1 .0, c .before .before .before .before .samples .ensures),
-        omega (arith, s .pre .1 .1, c .before .before .before .samples2 .ensures),
+        omega (arith, s .pre .1 .0, c .before .before .before .samples .ensures),
+        omega (arith, s .pre .1 .1, c .before .before .samples2 .ensures),
       ),
     )
 
 returns : tie.Need-returns
 returns c =
-    let d = c .before .before in
-    let s = d .before .before .before .before .before in
+    let d = c .before .before .before .before .before .before .before in
+    let s = d .before .before in
     let a = s .args in
-    let e = weights-are s (d .before .if1 .taken) in
-    let placed = rw (d .before .before .before .before .samples .ensures, d .before .before .before .samples2 .ensures) at (c .before .weighted-frame .ensures) in
-    placed
-    ∙ ap (λ (f : List ℤ). paste (a .output .now) (a .to .0 * a .channels) f (a .channels))
-    (weightedFrame-is (a .kept .now) (sincFilterPoints * a .phase) (ratio s) (width s) e (samples s) (a .channels))
-    ∙ frame-is s
-
-interpolate-frame-requires : tie.Need-interpolate-frame-requires
-interpolate-frame-requires c κs =
-    let s = c .before .before .before .before .before in (
-      (s .pre .0 .0, s .pre .0 .3, omega (arith, s .pre .0 .4, mul-le-mul-right (s .args .cycle .new) (s .pre .0 .2))),
-      (
-        omega (arith, s .pre .1 .0, c .before .before .before .before .samples .ensures),
-        omega (arith, s .pre .1 .1, c .before .before .before .samples2 .ensures),
-      ),
+    let w = d .phase-weights .last .1 .0 in
+    let at = d .phase-weights .result in
+    let placed = rw (c .before .before .before .before .before .samples .ensures, c .before .before .before .before .samples2 .ensures) at
+    (c .before .weighted-frame .ensures) in
+    let frame = weightedFrame-is w at (ratio s) (width s) (d .phase-weights .ensures .1) (samples s) (a .channels) in (
+      d .phase-weights .ensures .0,
+      placed ∙ ap (λ (f : List ℤ). paste (a .output .now) (a .to .0 * a .channels) f (a .channels)) frame ∙ frame-is s,
     )
 
-returns-2 : tie.Need-returns-2
-returns-2 c =
-    let d = c .before .before in
-    let s = d .before .before .before .before .before in
-    let a = s .args in
-    let one : a .cycle .step ≡ 1 = omega (arith, s .pre .0 .2, d .before .if1 .left) in
-    let same : a .phase ≡ ratio s = rw one (omega arith) in
-    let wide : a .cycle .new ≡ width s = rw one (omega arith) in
-    let placed = rw (d .before .before .before .before .samples .ensures, d .before .before .before .samples2 .ensures) at (c .before .interpolate-frame .ensures) in
-    placed
-    ∙ (λ i. paste (a .output .now) (a .to .0 * a .channels) (interpolateFrame (samples s) (a .channels) (same i) (wide i)) (a .channels))
-    ∙ frame-is s
-
 -- ---- what search closes
+
+phase-weights-requires : tie.Need-phase-weights-requires
+phase-weights-requires c κs = search needs
 
 samples-requires : tie.Need-samples-requires
 samples-requires c κs = search needs
@@ -123,4 +95,4 @@ same-length-2 c = search needs
 pub make-frame-spec : {M : Type 1} → statement M
 make-frame-spec =
     tie.close
-    (tie.spec samples-requires samples-requires-2 mul-at weighted-frame-requires same-length returns interpolate-frame-requires same-length-2 returns-2)
+    (tie.spec phase-weights-requires samples-requires samples-requires-2 weighted-frame-requires same-length same-length-2 returns)

@@ -12,13 +12,13 @@ use Rattle.sinc.proofs.phases.keep_phases.Statement.{statement}
 use Rattle.sinc.proofs.phases.keep_phases.Tie as tie
 
 abbrev Inv-loop : tie.InvT-loop
-Inv-loop table step phases kept₀ width k₀ kept k = (k ≤ phases) × (length kept ≡ length kept₀) × KeptBelow step width k kept
+Inv-loop table step phases kept₀ width reciprocal k₀ kept k = (k ≤ phases) × (length kept ≡ length kept₀) × KeptBelow step width k kept
 
 abbrev μ-loop : tie.MeasureT-loop
-μ-loop table step phases kept₀ width k₀ kept k = phases - k
+μ-loop table step phases kept₀ width reciprocal k₀ kept k = phases - k
 
 abbrev start : tie.At-loop Inv-loop μ-loop → tie.Start Inv-loop μ-loop
-start c = c .before
+start c = c .before .before
 
 -- the ratio of the phase k lies below the width
 ratio-lt : (c : tie.In-loop Inv-loop μ-loop) → let s = start (c .before) .args in s .step * (c .before .loop .k + 1) ≤ s .step * s .phases
@@ -29,6 +29,9 @@ ratio-lt c =
 
 mul-width : tie.Need-mul-width Inv-loop μ-loop
 mul-width c = search needs
+
+reciprocal-of-requires : tie.Need-reciprocal-of-requires Inv-loop μ-loop
+reciprocal-of-requires c κs = search needs
 
 loop-holds : tie.Need-loop-holds Inv-loop μ-loop
 loop-holds c = (omega arith, refl, λ j h. absurd (omega arith))
@@ -42,13 +45,14 @@ mul-ratio c = record { fits = omega (arith, ratio-lt c) }
 sub-ratio : tie.Need-sub-ratio Inv-loop μ-loop
 sub-ratio c = search needs
 
-mul-put-coefficients : tie.Need-mul-put-coefficients Inv-loop μ-loop
-mul-put-coefficients c = search needs
+mul-at : tie.Need-mul-at Inv-loop μ-loop
+mul-at c = search needs
 
 put-coefficients-requires : tie.Need-put-coefficients-requires Inv-loop μ-loop
 put-coefficients-requires c κs =
     let s = start (c .before .before) in
-    (s .pre .0, omega (arith, ratio-lt (c .before), s .pre .1), s .pre .2, omega (arith, s .pre .3, c .before .before .loop .inv .1))
+    let d = c .before .before .before in
+    (s .pre .0, omega (arith, ratio-lt (c .before), s .pre .1), s .pre .2, d .reciprocal-of .ensures, omega (arith, s .pre .3, c .before .before .loop .inv .1))
 
 add-k : tie.Need-add-k Inv-loop μ-loop
 add-k c = search needs
@@ -65,7 +69,7 @@ loop-again c =
     let call = c .before .put-coefficients in
     let room : sincFilterPoints * l .k + sincFilterPoints ≤ length (l .kept) = omega (arith, s .pre .3, l .inv .1) in (
       omega arith,
-      omega (arith, call .kept .1 .1 .1 .0, l .inv .1),
+      omega (arith, call .kept .1 .1 .1 .1 .0, l .inv .1),
       kept-turn (a .step) (a .step * a .phases) (l .k) (l .kept) _ (l .inv .2) room (call .ensures),
     )
 
@@ -80,5 +84,5 @@ returns c k h =
 pub keep-phases-spec : {M : Type 1} → statement M
 keep-phases-spec =
     tie.close
-    (tie.spec Inv-loop μ-loop mul-width loop-holds add-ratio mul-ratio sub-ratio mul-put-coefficients put-coefficients-requires add-k loop-less
+    (tie.spec Inv-loop μ-loop mul-width reciprocal-of-requires loop-holds add-ratio mul-ratio sub-ratio mul-at put-coefficients-requires add-k loop-less
     loop-again same-length returns)
