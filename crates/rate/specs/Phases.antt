@@ -3,10 +3,10 @@ use mathlib.Core.Path.{_≡_}
 use mathlib.Core.List.{List}
 use Prim.Native.Nat.{ℕ, _+_, _-_, _*_, _≤_, _<_}
 use lib.IntN.{ℤ}
-use lib.ListN.{length, take, drop}
+use lib.ListN.{length}
 use Rattle.laws.specs.Reciprocal.{reciprocalOf}
-use Rattle.sinc.specs.Sinc.{sincFilterPoints, sincCoefficients}
-use Rattle.sinc.specs.Weights.{PhasesKept}
+use Rattle.sinc.specs.Sinc.{sincFilterPoints}
+use Rattle.sinc.specs.Weights.{CoefficientsAt, PhasesKept}
 use Rattle.rate.specs.declared.Rates.{Rates}
 use Rattle.rate.specs.declared.phases.Cycle.{Cycle}
 use Rattle.rate.specs.Halving.{maxHalvedRate}
@@ -29,8 +29,7 @@ pub record Kept (c : Cycle) (weights : List ℤ) : Type 0 where
 
 -- those of the phase k stand from `at` on
 abbrev pub PhaseAt : Cycle → ℕ → ℕ → List ℤ → Type 0
-PhaseAt c k at weights =
-    take sincFilterPoints (drop at weights) ≡ sincCoefficients (c .step * (k + 1) - 1) (c .step * c .new)
+PhaseAt c k at weights = CoefficientsAt (c .step * (k + 1) - 1) (c .step * c .new) at weights
 
 -- what a frame at the phase k is made with: the phase is one of the cycle, and a width in use has its reciprocal
 pub record PhaseReady (c : Cycle) (k reciprocal : ℕ) : Type 0 where

@@ -10,9 +10,9 @@ ghost use lib.ListN.{length, drop, getD};
 ghost use lib.Seq.{paste};
 ghost use Rattle.laws.specs.Reciprocal.{reciprocalOf};
 ghost use Rattle.sinc.specs.SincTable.{sincTable, sincTableSize};
-ghost use Rattle.sinc.specs.Sinc.{sincFilterPoints, maxWidth, tableValue, sincCoefficients};
+ghost use Rattle.sinc.specs.Sinc.{sincFilterPoints, maxWidth, tableValue, sincCoefficient};
 ghost use Rattle.sinc.specs.Sinc.{heldSample, interpolateFrame};
-ghost use Rattle.sinc.specs.Weights.{SmallWeights, weightedSample, weightedFrame};
+ghost use Rattle.sinc.specs.Weights.{SmallWeights, weightedSample, weightedFrame, CoefficientsAt};
 
 // The taps of a sample, and so the tail frames that a frame is made of.
 pub const SINC_FILTER_POINTS: usize = 12;
@@ -64,8 +64,20 @@ pub fn reciprocal_of(width: usize) -> u64
     RECIPROCAL_PARTS / (width as u64) + 1
 }
 
-// Puts the coefficients of the 12 taps to the place `at` of the weights. All of them, their place and their remainder
-// come from the reciprocal of `width`.
+// The coefficient of tap i. Its place and its remainder come from the reciprocal of `width`, as its value does.
+fn tap_coefficient(table: &[i16], i: usize, ratio: usize, width: usize, reciprocal: u64) -> i32
+    requires { ⌜ (now table ≡ sincTable) × (i < sincFilterPoints) × (ratio < width) × (width ≤ maxWidth)
+        × (reciprocal ≡ reciprocalOf width) ⌝ }
+    ensures { λ r. ⌜ r ≡ sincCoefficient i ratio width ⌝ }
+{
+    let points = LOBE_POINTS * ratio;
+    let place = (points as u64 * reciprocal / RECIPROCAL_PARTS) as usize;
+    let remainder = points - place * width;
+    let left = LOBE_POINTS * i + place;
+    find_sinc_coefficient(table, left, remainder, width, reciprocal)
+}
+
+// Puts the coefficients of the 12 taps to the place `at` of the weights.
 pub fn put_coefficients(
     table: &[i16],
     ratio: usize,
@@ -76,21 +88,11 @@ pub fn put_coefficients(
 )
     requires { ⌜ (now table ≡ sincTable) × (ratio < width) × (width ≤ maxWidth) × (reciprocal ≡ reciprocalOf width)
         × (at + sincFilterPoints ≤ length (now weights)) ⌝ }
-    ensures { λ _. ⌜ now (weights .exit) ≡ paste (now (weights .entry)) at (sincCoefficients ratio width)
-        sincFilterPoints ⌝ }
+    ensures { λ _. ⌜ CoefficientsAt ratio width at (now (weights .exit)) ⌝ }
 {
-    let points = LOBE_POINTS * ratio;
-    let place = (points as u64 * reciprocal / RECIPROCAL_PARTS) as usize;
-    let remainder = points - place * width;
     let mut i: usize = 0;
     while i < SINC_FILTER_POINTS {
-        let weight = find_sinc_coefficient(
-            table,
-            LOBE_POINTS * i + place,
-            remainder,
-            width,
-            reciprocal,
-        );
+        let weight = tap_coefficient(table, i, ratio, width, reciprocal);
         weights[at + i] = weight;
         i += 1;
     }

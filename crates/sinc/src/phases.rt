@@ -22,11 +22,12 @@ pub fn keep_phases(table: &[i16], step: usize, phases: usize, kept: &mut [i32])
 {
     let width = step * phases;
     let reciprocal = crate::reciprocal_of(width);
-    let mut k: usize = 0;
-    while k < phases {
-        let ratio = step * (k + 1) - 1;
-        let at = SINC_FILTER_POINTS * k;
-        crate::put_coefficients(table, ratio, width, reciprocal, kept, at);
-        k += 1;
+    let mut m: usize = 0;
+    while m < SINC_FILTER_POINTS * phases {
+        let ratio = step * (m / SINC_FILTER_POINTS + 1) - 1;
+        let i = m % SINC_FILTER_POINTS;
+        let weight = crate::tap_coefficient(table, i, ratio, width, reciprocal);
+        kept[m] = weight;
+        m += 1;
     }
 }

@@ -1,13 +1,12 @@
 -- `sinc::interpolate_frame` meets its contract: its weights are coefficients. Assumes nothing.
 use borrow.Author.Needs.{needs}
-use mathlib.Core.Path.{_≡_, ap, _∙_}
+use mathlib.Core.Path.{ap, _∙_}
 use mathlib.Core.List.{List}
 use native.Mathlib.Omega.{arith}
-use lib.IntN.{ℤ, pos}
-use lib.ListN.{take, drop, replicate}
+use lib.IntN.{ℤ}
+use lib.ListN.{drop}
 use lib.Seq.{paste}
-use Rattle.sinc.specs.Sinc.{sincFilterPoints, sincCoefficients}
-use Rattle.sinc.proofs.Weights.{weights-small, weightedFrame-is, put-there}
+use Rattle.sinc.proofs.Weights.{weights-small, weightedFrame-is}
 use Rattle.sinc.proofs.interpolate_frame.Statement.{statement}
 use Rattle.sinc.proofs.interpolate_frame.Tie as tie
 
@@ -15,14 +14,6 @@ use Rattle.sinc.proofs.interpolate_frame.Tie as tie
 module _ (c : tie.After-put-coefficients) where
   abbrev start : tie.Start
   start = c .before .before .before
-
-  abbrev weights : List ℤ
-  weights = c .put-coefficients .last .1 .1 .1 .1 .0
-
-  weights-are : take sincFilterPoints (drop 0 weights) ≡ sincCoefficients (start .args .ratio) (start .args .width)
-  weights-are =
-      ap (λ (l : List ℤ). take sincFilterPoints (drop 0 l)) (c .put-coefficients .ensures)
-      ∙ put-there (replicate sincFilterPoints (pos 0)) 0 (start .args .ratio) (start .args .width) (omega arith)
 
 reciprocal-of-requires : tie.Need-reciprocal-of-requires
 reciprocal-of-requires c κs = search needs
@@ -40,7 +31,7 @@ weighted-frame-requires : tie.Need-weighted-frame-requires
 weighted-frame-requires c κs =
     let d = c .before .before .before in
     let s = start d in
-    ((omega arith, weights-small (weights d) 0 (s .args .ratio) (s .args .width) (weights-are d) (s .pre .0 .1)), s .pre .1)
+    ((d .put-coefficients .ensures .room, weights-small (d .put-coefficients .ensures) (s .pre .0 .1)), s .pre .1)
 
 same-length : tie.Need-same-length
 same-length c = search needs
@@ -52,7 +43,7 @@ returns c =
     let a = s .args in
     c .before .weighted-frame .ensures
     ∙ ap (λ (f : List ℤ). paste (a .output .now) (a .to .0) f (a .channels))
-    (weightedFrame-is (weights d) 0 (a .ratio) (a .width) (weights-are d) (drop (a .from .0) (a .stage .now)) (a .channels))
+    (weightedFrame-is (d .put-coefficients .ensures) (drop (a .from .0) (a .stage .now)) (a .channels))
 
 pub interpolate-frame-spec : {M : Type 1} → statement M
 interpolate-frame-spec =

@@ -1,14 +1,10 @@
 -- `rate::phases::phase_weights` meets its contract: the weights are kept, or those of the ratio are put. Assumes nothing.
 use borrow.Author.Needs.{needs}
-use mathlib.Core.Path.{_≡_, ap, _∙_}
-use mathlib.Core.List.{List}
-use Prim.Native.Nat.{ℕ, _+_, _-_, _*_, _≤_}
+use mathlib.Core.Path.{_≡_, _∙_}
+use Prim.Native.Nat.{_+_, _-_, _*_, _≤_}
 use native.Mathlib.Nat.{mul-le-mul-right}
 use native.Mathlib.Omega.{arith}
-use lib.IntN.{ℤ}
-use lib.ListN.{take, drop}
-use Rattle.sinc.specs.Sinc.{sincFilterPoints, sincCoefficients}
-use Rattle.sinc.proofs.Weights.{put-there}
+use Rattle.sinc.specs.Sinc.{sincCoefficient}
 use Rattle.rate.proofs.phases.phase_weights.Statement.{statement}
 use Rattle.rate.proofs.phases.phase_weights.Tie as tie
 
@@ -43,9 +39,7 @@ returns-2 c =
     let same : a .phase ≡ a .cycle .step * (a .phase + 1) - 1 = rw one (omega arith) in
     let wide : a .cycle .new ≡ a .cycle .step * a .cycle .new = rw one (omega arith) in (
       record { room = omega (arith, call .kept .1 .1 .1 .1 .0, s .pre .1 .room); phases = λ h. absurd (omega arith) },
-      ap (λ (l : List ℤ). take sincFilterPoints (drop 0 l)) (call .ensures)
-          ∙ put-there (a .weights .now) 0 (a .phase) (a .cycle .new) (s .pre .1 .room)
-          ∙ (λ i. sincCoefficients (same i) (wide i)),
+      record { room = call .ensures .room; value = λ i h. call .ensures .value i h ∙ (λ t. sincCoefficient i (same t) (wide t)) },
     )
 
 pub phase-weights-spec : {M : Type 1} → statement M

@@ -6,11 +6,11 @@ use Prim.Native.Nat.{ℕ, _+_, _-_, _*_, _≤_, _<_}
 use native.Mathlib.Nat.{mul-le-mul-left, mul-le-mul-right}
 use native.Mathlib.Omega.{arith}
 use lib.IntN.{ℤ}
-use lib.ListN.{length, take, drop, length-drop}
+use lib.ListN.{length, drop, length-drop}
 use lib.Seq.{paste}
 use Rattle.frames.specs.Framing.{framesOf}
-use Rattle.sinc.specs.Sinc.{sincFilterPoints, sincCoefficients, interpolateFrame}
-use Rattle.sinc.proofs.Weights.{weights-long, weights-small, weightedFrame-is}
+use Rattle.sinc.specs.Sinc.{sincFilterPoints, interpolateFrame}
+use Rattle.sinc.proofs.Weights.{weights-small, weightedFrame-is}
 use Rattle.rate.specs.Tail.{interpolateWindow}
 use Rattle.rate.proofs.Window.{interpolateWindow-is}
 use Rattle.rate.proofs.scan.make_frame.Statement.{statement}
@@ -51,10 +51,8 @@ weighted-frame-requires : tie.Need-weighted-frame-requires
 weighted-frame-requires c κs =
     let d = c .before .before .before .before .before in
     let s = d .before .before in
-    let w = d .phase-weights .last .1 .0 in
-    let at = d .phase-weights .result in
     let e = d .phase-weights .ensures .1 in (
-      (weights-long w at (ratio s) (width s) e, weights-small w at (ratio s) (width s) e (ratio-lt s)),
+      (e .room, weights-small e (ratio-lt s)),
       (
         omega (arith, s .pre .1 .0, c .before .before .before .samples .ensures),
         omega (arith, s .pre .1 .1, c .before .before .samples2 .ensures),
@@ -66,11 +64,9 @@ returns c =
     let d = c .before .before .before .before .before .before .before in
     let s = d .before .before in
     let a = s .args in
-    let w = d .phase-weights .last .1 .0 in
-    let at = d .phase-weights .result in
     let placed = rw (c .before .before .before .before .before .samples .ensures, c .before .before .before .before .samples2 .ensures) at
     (c .before .weighted-frame .ensures) in
-    let frame = weightedFrame-is w at (ratio s) (width s) (d .phase-weights .ensures .1) (samples s) (a .channels) in (
+    let frame = weightedFrame-is (d .phase-weights .ensures .1) (samples s) (a .channels) in (
       d .phase-weights .ensures .0,
       placed ∙ ap (λ (f : List ℤ). paste (a .output .now) (a .to .0 * a .channels) f (a .channels)) frame ∙ frame-is s,
     )

@@ -1,31 +1,86 @@
--- `sinc::phases::keep_phases` meets its contract. The loop's invariant: the phases below k are kept. Assumes nothing.
+-- `sinc::phases::keep_phases` meets its contract. The loop's invariant: the first m coefficients are kept. Assumes nothing.
 use borrow.Author.Needs.{needs}
-use mathlib.Core.Path.{_≡_, refl, sym, ap, _∙_, subst}
+use mathlib.Core.Path.{_≡_, refl, sym, _∙_, subst}
 use mathlib.Core.List.{List}
-use Prim.Native.Nat.{ℕ, _+_, _-_, _*_, _≤_, _<_, _^_}
+use Prim.Native.Nat.{ℕ, _+_, _-_, _*_, _/_, _≤_, _<_}
+use native.Mathlib.Nat.{mul-le-mul-left, mul-le-mul-right}
 use native.Mathlib.Omega.{arith}
-use native.Mathlib.Nat.{mul-le-mul-left}
-use lib.ListN.{length}
+use lib.IntN.{ℤ}
+use lib.ListN.{length, set, length-set}
+use mir.Syntax.{w32}
+use mir.Val.{toZ, ofZ}
+use mir.Facts.{toZ-ofZ}
 use Rattle.sinc.specs.Sinc.{sincFilterPoints}
-use Rattle.sinc.proofs.Weights.{KeptBelow, kept-turn}
+use Rattle.sinc.proofs.Weights.{Filled, filled-turn, phaseCoefficient, phases-filled}
 use Rattle.sinc.proofs.phases.keep_phases.Statement.{statement}
 use Rattle.sinc.proofs.phases.keep_phases.Tie as tie
 
+-- ---- the invariant
+
 abbrev Inv-loop : tie.InvT-loop
-Inv-loop table step phases kept₀ width reciprocal k₀ kept k = (k ≤ phases) × (length kept ≡ length kept₀) × KeptBelow step width k kept
+Inv-loop table step phases kept₀ width reciprocal m₀ kept m =
+    (m ≤ sincFilterPoints * phases) × (length kept ≡ length kept₀) × Filled 0 m (phaseCoefficient step width) kept
 
 abbrev μ-loop : tie.MeasureT-loop
-μ-loop table step phases kept₀ width reciprocal k₀ kept k = phases - k
+μ-loop table step phases kept₀ width reciprocal m₀ kept m = sincFilterPoints * phases - m
 
-abbrev start : tie.At-loop Inv-loop μ-loop → tie.Start Inv-loop μ-loop
-start c = c .before .before
+-- ---- what is known in the loop
 
--- the ratio of the phase k lies below the width
-ratio-lt : (c : tie.In-loop Inv-loop μ-loop) → let s = start (c .before) .args in s .step * (c .before .loop .k + 1) ≤ s .step * s .phases
-ratio-lt c =
+module _ (c : tie.In-loop Inv-loop μ-loop) where
+  abbrev start : tie.Start Inv-loop μ-loop
+  start = c .before .before .before
+
+  -- the ratio of a phase lies below the width
+  ratio-lt : start .args .step * (c .before .loop .m / sincFilterPoints + 1) ≤ start .args .step * start .args .phases
+  ratio-lt =
+      let below : c .before .loop .m / sincFilterPoints + 1 ≤ start .args .phases = omega (arith, c .loop-test .taken) in
+      mul-le-mul-left (start .args .step) below
+
+  some : 1 ≤ start .args .step * (c .before .loop .m / sincFilterPoints + 1)
+  some = omega (arith, mul-le-mul-right (c .before .loop .m / sincFilterPoints + 1) (start .pre .1))
+
+-- ---- needs
+
+mul-ratio : tie.Need-mul-ratio Inv-loop μ-loop
+mul-ratio c = record { fits = omega (arith, ratio-lt c, start c .pre .2) }
+
+sub-ratio : tie.Need-sub-ratio Inv-loop μ-loop
+sub-ratio c = some c
+
+tap-coefficient-requires : tie.Need-tap-coefficient-requires Inv-loop μ-loop
+tap-coefficient-requires c κs =
+    let s = start c in
+    (s .pre .0, omega arith, omega (arith, some c, ratio-lt c), s .pre .2, c .before .before .reciprocal-of .ensures)
+
+loop-holds : tie.Need-loop-holds Inv-loop μ-loop
+loop-holds c = (omega arith, refl, λ j h. absurd (omega arith))
+
+loop-again : tie.Need-loop-again Inv-loop μ-loop
+loop-again c =
+    let d = c .before .before in
+    let l = d .loop in
     let s = start (c .before) in
-    let below : c .before .loop .k + 1 ≤ s .args .phases = omega arith in
-    mul-le-mul-left (s .args .step) below
+    let a = s .args in
+    let f : ℕ → ℤ = phaseCoefficient (a .step) (a .step * a .phases) in
+    let call = c .tap-coefficient in
+    let at : 0 + l .m ≡ l .m = omega arith in
+    let v : ℤ = toZ w32 (ofZ w32 (call .result)) in
+    let value : v ≡ f (l .m) = toZ-ofZ {w = w32} (record { sfits = call .ok }) ∙ call .ensures in
+    let filled = filled-turn (l .kept) 0 (l .m) f v (omega (arith, s .pre .3, l .inv .1, c .before .loop-test .taken)) (l .inv .2) value in (
+      omega arith,
+      length-set (l .kept) (l .m) _ ∙ l .inv .1,
+      subst (λ (n : ℕ). Filled 0 (l .m + 1) f (set (l .kept) n v)) at filled,
+    )
+
+returns : tie.Need-returns Inv-loop μ-loop
+returns c =
+    let l = c .before .loop in
+    let s = c .before .before .before in
+    let e : l .m ≡ sincFilterPoints * s .args .phases = omega (arith, c .loop-test .left, l .inv .0) in
+    phases-filled (s .args .step) (s .args .phases) (l .kept) (omega (arith, s .pre .3, l .inv .1))
+    (subst (λ (n : ℕ). Filled 0 n (phaseCoefficient (s .args .step) (s .args .step * s .args .phases)) (l .kept)) e (l .inv .2))
+
+-- ---- what search closes
 
 mul-width : tie.Need-mul-width Inv-loop μ-loop
 mul-width c = search needs
@@ -33,56 +88,29 @@ mul-width c = search needs
 reciprocal-of-requires : tie.Need-reciprocal-of-requires Inv-loop μ-loop
 reciprocal-of-requires c κs = search needs
 
-loop-holds : tie.Need-loop-holds Inv-loop μ-loop
-loop-holds c = (omega arith, refl, λ j h. absurd (omega arith))
+mul-loop : tie.Need-mul-loop Inv-loop μ-loop
+mul-loop c = search needs
 
 add-ratio : tie.Need-add-ratio Inv-loop μ-loop
 add-ratio c = search needs
 
-mul-ratio : tie.Need-mul-ratio Inv-loop μ-loop
-mul-ratio c = record { fits = omega (arith, ratio-lt c) }
+mul-weight : tie.Need-mul-weight Inv-loop μ-loop
+mul-weight c = search needs
 
-sub-ratio : tie.Need-sub-ratio Inv-loop μ-loop
-sub-ratio c = search needs
+slice-set-from-weight : tie.Need-slice-set-from-weight Inv-loop μ-loop
+slice-set-from-weight c = search needs
 
-mul-at : tie.Need-mul-at Inv-loop μ-loop
-mul-at c = search needs
-
-put-coefficients-requires : tie.Need-put-coefficients-requires Inv-loop μ-loop
-put-coefficients-requires c κs =
-    let s = start (c .before .before) in
-    let d = c .before .before .before in
-    (s .pre .0, omega (arith, ratio-lt (c .before), s .pre .1), s .pre .2, d .reciprocal-of .ensures, omega (arith, s .pre .3, c .before .before .loop .inv .1))
-
-add-k : tie.Need-add-k Inv-loop μ-loop
-add-k c = search needs
+add-m : tie.Need-add-m Inv-loop μ-loop
+add-m c = search needs
 
 loop-less : tie.Need-loop-less Inv-loop μ-loop
 loop-less c = search needs
 
-loop-again : tie.Need-loop-again Inv-loop μ-loop
-loop-again c =
-    let d = c .before .before .before .before in
-    let s = start d in
-    let a = s .args in
-    let l = d .loop in
-    let call = c .before .put-coefficients in
-    let room : sincFilterPoints * l .k + sincFilterPoints ≤ length (l .kept) = omega (arith, s .pre .3, l .inv .1) in (
-      omega arith,
-      omega (arith, call .kept .1 .1 .1 .1 .0, l .inv .1),
-      kept-turn (a .step) (a .step * a .phases) (l .k) (l .kept) _ (l .inv .2) room (call .ensures),
-    )
-
 same-length : tie.Need-same-length Inv-loop μ-loop
 same-length c = search needs
-
-returns : tie.Need-returns Inv-loop μ-loop
-returns c k h =
-    let l = c .before .loop in
-    l .inv .2 k (omega arith)
 
 pub keep-phases-spec : {M : Type 1} → statement M
 keep-phases-spec =
     tie.close
-    (tie.spec Inv-loop μ-loop mul-width reciprocal-of-requires loop-holds add-ratio mul-ratio sub-ratio mul-at put-coefficients-requires add-k loop-less
-    loop-again same-length returns)
+    (tie.spec Inv-loop μ-loop mul-width reciprocal-of-requires loop-holds mul-loop add-ratio mul-ratio sub-ratio tap-coefficient-requires mul-weight
+    slice-set-from-weight add-m loop-less loop-again same-length returns)
