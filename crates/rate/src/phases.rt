@@ -3,11 +3,9 @@ use crate::Rates;
 use frames::Frames;
 use sinc::SINC_FILTER_POINTS;
 use sinc::phases::MAX_PHASES;
-ghost use mathlib.Core.Path.{_≡_};
 ghost use Prim.Native.Nat.{_/_, _≤_};
-ghost use Rattle.sinc.specs.SincTable.{sincTable};
 ghost use Rattle.rate.specs.Halving.{maxHalvedRate};
-ghost use Rattle.rate.specs.Phases.{CycleOf, Kept, PhaseAt, PhaseReady};
+ghost use Rattle.rate.specs.Phases.{CycleOf};
 
 // A cycle: `old` tail frames make `new` frames, each at a phase of its own, and then the phases come again. N is
 // step·new and O is step·old.
@@ -58,22 +56,4 @@ pub(crate) fn cycle_of(rates: Rates, tail: Frames) -> Cycle
         new: rates.new,
         old: rates.old,
     }
-}
-
-// The place where the weights of a phase stand: they are kept there, or are put to the front.
-pub(crate) fn phase_weights(
-    table: &[i16],
-    weights: &mut [i32],
-    cycle: Cycle,
-    phase: usize,
-    reciprocal: u64,
-) -> usize
-    requires { ⌜ (now table ≡ sincTable) × Kept cycle (now weights) × PhaseReady cycle phase reciprocal ⌝ }
-    ensures { λ r. ⌜ Kept cycle (now (weights .exit)) × PhaseAt cycle phase r (now (weights .exit)) ⌝ }
-{
-    if cycle.step > 1 {
-        return SINC_FILTER_POINTS * phase;
-    }
-    sinc::put_coefficients(table, phase, cycle.new, reciprocal, weights, 0);
-    0
 }

@@ -5,7 +5,6 @@ use crate::Position;
 use crate::Rates;
 use crate::phases::Cycle;
 use crate::phases::cycle_of;
-use crate::phases::phase_weights;
 use frames::Frames;
 use frames::Samples;
 use sinc::SINC_FILTER_POINTS;
@@ -25,7 +24,7 @@ ghost use Rattle.rate.specs.Phases.{CycleOf, Kept, PhaseReady};
 // Makes the frame at a phase of the 12 tail frames from `first` on, behind the first `to` frames of the output.
 fn make_frame(
     table: &[i16],
-    weights: &mut [i32],
+    kept: &[i32],
     stage: &[i16],
     first: Frames,
     channels: usize,
@@ -35,24 +34,37 @@ fn make_frame(
     output: &mut [i16],
     to: Frames,
 )
-    requires { ⌜ (now table ≡ sincTable) × Kept cycle (now weights) × PhaseReady cycle phase reciprocal ⌝ }
+    requires { ⌜ (now table ≡ sincTable) × Kept cycle (now kept) × PhaseReady cycle phase reciprocal ⌝ }
     requires { ⌜ ((first .0 + sincFilterPoints) * channels ≤ length (now stage))
         × ((to .0 + 1) * channels ≤ length (now output)) ⌝ }
-    ensures { λ _. ⌜ Kept cycle (now (weights .exit)) ⌝ }
     ensures { λ _. ⌜ now (output .exit) ≡ paste (now (output .entry)) (to .0 * channels)
         (interpolateWindow (framesOf channels sincFilterPoints (drop (first .0 * channels) (now (stage .entry))))
         (cycle .step * (phase + 1) - 1) (cycle .step * cycle .new)) channels ⌝ }
 {
-    let at = phase_weights(table, weights, cycle, phase, reciprocal);
     let from = first.samples(channels);
     let place = to.samples(channels);
-    sinc::weighted_frame(weights, at, stage, from, channels, output, place);
+    if cycle.step > 1 {
+        let at = SINC_FILTER_POINTS * phase;
+        sinc::phases::weighted_frame(kept, at, stage, from, channels, output, place);
+        return;
+    }
+    sinc::ratio_frame(
+        table,
+        stage,
+        from,
+        channels,
+        phase,
+        cycle.new,
+        reciprocal,
+        output,
+        place,
+    );
 }
 
 // Consumes tail frames while more than 12 lie ahead; the frames that they make go behind those that wait in the output.
 fn scan_tail(
     table: &[i16],
-    weights: &mut [i32],
+    kept: &[i32],
     stage: &[i16],
     tail: Frames,
     channels: usize,
@@ -63,7 +75,7 @@ fn scan_tail(
     waiting: Frames,
 ) -> Adjustment
     requires { ⌜ (now table ≡ sincTable) × AreasHold channels (tail .0) (waiting .0) (now stage) (now output)
-        × Placed rates at × CycleOf rates cycle × Kept cycle (now weights) ⌝ }
+        × Placed rates at × CycleOf rates cycle × Kept cycle (now kept) ⌝ }
     ensures { λ r. ⌜ ScanEnsures channels rates (tail .0) (waiting .0) at (now (stage .entry)) (now (output .entry))
         (now (output .exit)) r ⌝ }
 {
@@ -91,7 +103,7 @@ fn scan_tail(
             let phase = end - n * old_step - 1;
             make_frame(
                 table,
-                weights,
+                kept,
                 stage,
                 first,
                 channels,
@@ -144,7 +156,7 @@ pub(crate) fn convert_tail(
         keep_phases(table, cycle.step, cycle.new, &mut kept);
         return scan_tail(
             table,
-            &mut kept,
+            &kept,
             stage,
             tail,
             channels,
@@ -155,10 +167,10 @@ pub(crate) fn convert_tail(
             waiting,
         );
     }
-    let mut weights = [0i32; SINC_FILTER_POINTS];
+    let none = [0i32; 1];
     scan_tail(
         table,
-        &mut weights,
+        &none,
         stage,
         tail,
         channels,

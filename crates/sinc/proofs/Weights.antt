@@ -8,31 +8,43 @@ use borrow.Author.Tests.{ltb-true, ltb-false}
 use lib.Dec.{ltb}
 use lib.IntN.{ℤ, pos}
 use lib.ListN.{length, getD, set}
-use lib.Seq.{getD-set-same, getD-set-other}
+use lib.Seq.{paste, getD-set-same, getD-set-other}
 use lib.Signed.{shrZ}
 use Rattle.sinc.specs.Sinc.{sincFilterPoints, sincCoefficient, tapSum, heldSample, interpolate, interpolateFrame}
 use Rattle.sinc.specs.Weights.{SmallWeights, weightedSample, weightedFrame, CoefficientsAt, PhasesKept}
 use Rattle.sinc.proofs.Coefficient.{sincCoefficient-abs}
-use Rattle.sinc.proofs.Tabulated.{tabulate-cong}
+use Rattle.sinc.proofs.Tabulated.{tabulate-cong, tabulate-turn}
 use Rattle.sinc.proofs.Taps.{weightedSum-cong}
 
--- ---- a loop that fills a list, from the place `from` on
+-- ---- a loop that fills a list from the front
 
-abbrev pub Filled : ℕ → ℕ → (ℕ → ℤ) → List ℤ → Type 0
-Filled from n f l = (j : ℕ) → j < n → getD l (from + j) (pos 0) ≡ f j
+abbrev pub Filled : ℕ → (ℕ → ℤ) → List ℤ → Type 0
+Filled n f l = (j : ℕ) → j < n → getD l j (pos 0) ≡ f j
 
 -- one value more
-pub filled-turn : (l : List ℤ) (from n : ℕ) (f : ℕ → ℤ) (v : ℤ) → from + n < length l → Filled from n f l → v ≡ f n
-    → Filled from (n + 1) f (set l (from + n) v)
-filled-turn l from n f v h filled e j k = go (ltb j n) refl
+pub filled-turn : (l : List ℤ) (n : ℕ) (f : ℕ → ℤ) (v : ℤ) → n < length l → Filled n f l → v ≡ f n → Filled (n + 1) f (set l n v)
+filled-turn l n f v h filled e j k = go (ltb j n) refl
   where
-    go : (b : Bool) → ltb j n ≡ b → getD (set l (from + n) v) (from + j) (pos 0) ≡ f j
+    go : (b : Bool) → ltb j n ≡ b → getD (set l n v) j (pos 0) ≡ f j
     go true t =
         let below : j < n = ltb-true j n t in
-        getD-set-other l (from + n) (from + j) v (pos 0) (λ q. absurd (omega arith)) ∙ filled j below
+        getD-set-other l n j v (pos 0) (λ q. absurd (omega arith)) ∙ filled j below
     go false t =
         let last : j ≡ n = omega (arith, ltb-false j n t) in
-        rw last (getD-set-same l (from + n) v (pos 0) h ∙ e)
+        rw last (getD-set-same l n v (pos 0) h ∙ e)
+
+-- ---- a frame by weights
+
+-- its sample of the channel c
+abbrev pub channelSample : List ℤ → ℕ → List ℤ → ℕ → ℕ → ℤ
+channelSample x channels weights at c = weightedSample (λ i. getD x (i * channels + c) (pos 0)) (λ i. getD weights (at + i) (pos 0))
+
+-- one sample more is written
+pub frame-turn : (out : List ℤ) (to : ℕ) (x : List ℤ) (channels : ℕ) (weights : List ℤ) (at c : ℕ) → to + c < length out → c < channels
+    → set (paste out to (weightedFrame x channels weights at) c) (to + c) (channelSample x channels weights at c)
+    ≡ paste out to (weightedFrame x channels weights at) (c + 1)
+unfolding weightedFrame
+frame-turn out to x channels weights at c h k = tabulate-turn out to channels (channelSample x channels weights at) c (pos 0) h k
 
 -- ---- coefficients stand from `at` on
 
@@ -52,14 +64,12 @@ phaseCoefficient step N m = sincCoefficient (m % sincFilterPoints) (step * (m / 
 
 -- all of them
 pub phases-filled : (step phases : ℕ) (kept : List ℤ) → sincFilterPoints * phases ≤ length kept
-    → Filled 0 (sincFilterPoints * phases) (phaseCoefficient step (step * phases)) kept → PhasesKept step phases kept
+    → Filled (sincFilterPoints * phases) (phaseCoefficient step (step * phases)) kept → PhasesKept step phases kept
 phases-filled step phases kept h filled k l = record {
   room = omega arith;
   value = λ i q.
       let m : ℕ = sincFilterPoints * k + i in
-      let at : 0 + m ≡ m = omega arith in
       let phase : m / sincFilterPoints ≡ k = omega arith in
       let tap : m % sincFilterPoints ≡ i = omega arith in
-      ap (λ (n : ℕ). getD kept n (pos 0)) (sym at) ∙ filled m (omega arith)
-      ∙ (λ t. sincCoefficient (tap t) (step * (phase t + 1) - 1) (step * phases));
+      filled m (omega arith) ∙ (λ t. sincCoefficient (tap t) (step * (phase t + 1) - 1) (step * phases));
 }

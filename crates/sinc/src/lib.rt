@@ -12,7 +12,7 @@ ghost use Rattle.laws.specs.Reciprocal.{reciprocalOf};
 ghost use Rattle.sinc.specs.SincTable.{sincTable, sincTableSize};
 ghost use Rattle.sinc.specs.Sinc.{sincFilterPoints, maxWidth, tableValue, sincCoefficient};
 ghost use Rattle.sinc.specs.Sinc.{heldSample, interpolateFrame};
-ghost use Rattle.sinc.specs.Weights.{SmallWeights, weightedSample, weightedFrame, CoefficientsAt};
+ghost use Rattle.sinc.specs.Weights.{SmallWeights, weightedSample, CoefficientsAt};
 
 // The taps of a sample, and so the tail frames that a frame is made of.
 pub const SINC_FILTER_POINTS: usize = 12;
@@ -77,25 +77,24 @@ fn tap_coefficient(table: &[i16], i: usize, ratio: usize, width: usize, reciproc
     find_sinc_coefficient(table, left, remainder, width, reciprocal)
 }
 
-// Puts the coefficients of the 12 taps to the place `at` of the weights.
-pub fn put_coefficients(
+// The coefficients of the 12 taps.
+fn coefficients(
     table: &[i16],
     ratio: usize,
     width: usize,
     reciprocal: u64,
-    weights: &mut [i32],
-    at: usize,
-)
-    requires { ⌜ (now table ≡ sincTable) × (ratio < width) × (width ≤ maxWidth) × (reciprocal ≡ reciprocalOf width)
-        × (at + sincFilterPoints ≤ length (now weights)) ⌝ }
-    ensures { λ _. ⌜ CoefficientsAt ratio width at (now (weights .exit)) ⌝ }
+) -> [i32; SINC_FILTER_POINTS]
+    requires { ⌜ (now table ≡ sincTable) × (ratio < width) × (width ≤ maxWidth) × (reciprocal ≡ reciprocalOf width) ⌝ }
+    ensures { λ r. ⌜ CoefficientsAt ratio width 0 r ⌝ }
 {
+    let mut weights = [0i32; SINC_FILTER_POINTS];
     let mut i: usize = 0;
     while i < SINC_FILTER_POINTS {
         let weight = tap_coefficient(table, i, ratio, width, reciprocal);
-        weights[at + i] = weight;
+        weights[i] = weight;
         i += 1;
     }
+    weights
 }
 
 // A sum of taps, shifted and held to the range of a sample.
@@ -130,40 +129,38 @@ fn interpolate(stage: &[i16], from: Samples, channels: usize, weights: &[i32], a
     hold(sum >> 16)
 }
 
-// One frame by the 12 weights from `at` on: the 12 tail frames from `from` on give one sample per channel, written from
-// `to` on. With one channel the taps stand side by side.
-pub fn weighted_frame(
-    weights: &[i32],
-    at: usize,
+// One frame at a ratio: by the coefficients of its 12 taps, which come from the reciprocal of `width`. The samples are
+// made here, not by `weighted_frame`: so the coefficients stay in registers.
+pub fn ratio_frame(
+    table: &[i16],
     stage: &[i16],
     from: Samples,
     channels: usize,
+    ratio: usize,
+    width: usize,
+    reciprocal: u64,
     output: &mut [i16],
     to: Samples,
 )
-    requires { ⌜ (at + sincFilterPoints ≤ length (now weights)) × SmallWeights at (now weights) ⌝ }
+    requires { ⌜ (now table ≡ sincTable) × (ratio < width) × (width ≤ maxWidth) × (reciprocal ≡ reciprocalOf width) ⌝ }
     requires { ⌜ (from .0 + sincFilterPoints * channels ≤ length (now stage))
         × (to .0 + channels ≤ length (now output)) ⌝ }
     ensures { λ _. ⌜ now (output .exit) ≡ paste (now (output .entry)) (to .0)
-        (weightedFrame (drop (from .0) (now (stage .entry))) channels (now (weights .entry)) at) channels ⌝ }
+        (interpolateFrame (drop (from .0) (now (stage .entry))) channels ratio width) channels ⌝ }
 {
     let f = from.0;
     let t = to.0;
-    if channels == 1 {
-        let sample = interpolate(stage, from, 1, weights, at);
-        output[t] = sample;
-        return;
-    }
+    let weights = coefficients(table, ratio, width, reciprocal);
     let mut c: usize = 0;
     while c < channels {
         let first = Samples(f + c);
-        let sample = interpolate(stage, first, channels, weights, at);
+        let sample = interpolate(stage, first, channels, &weights, 0);
         output[t + c] = sample;
         c += 1;
     }
 }
 
-// One frame at a ratio: by the coefficients of its 12 taps.
+// One frame at a ratio, as `interpolate` of the original makes its samples.
 pub fn interpolate_frame(
     table: &[i16],
     stage: &[i16],
@@ -180,7 +177,16 @@ pub fn interpolate_frame(
     ensures { λ _. ⌜ now (output .exit) ≡ paste (now (output .entry)) (to .0)
         (interpolateFrame (drop (from .0) (now (stage .entry))) channels ratio width) channels ⌝ }
 {
-    let mut weights = [0i32; SINC_FILTER_POINTS];
-    put_coefficients(table, ratio, width, reciprocal_of(width), &mut weights, 0);
-    weighted_frame(&weights, 0, stage, from, channels, output, to);
+    let reciprocal = reciprocal_of(width);
+    ratio_frame(
+        table,
+        stage,
+        from,
+        channels,
+        ratio,
+        width,
+        reciprocal,
+        output,
+        to,
+    );
 }

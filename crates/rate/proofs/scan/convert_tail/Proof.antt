@@ -1,9 +1,6 @@
 -- `rate::scan::convert_tail` meets its contract: what it keeps are the coefficients of its cycle's phases. Assumes nothing.
 use borrow.Author.Needs.{needs}
-use Prim.Native.Nat.{_≤_}
 use native.Mathlib.Omega.{arith}
-use lib.ListN.{length}
-use Rattle.sinc.specs.Sinc.{sincFilterPoints}
 use Rattle.rate.proofs.scan.convert_tail.Statement.{statement}
 use Rattle.rate.proofs.scan.convert_tail.Tie as tie
 
@@ -14,20 +11,12 @@ keep-phases-requires c κs =
     let e = d .cycle-of .ensures in
     (s .pre .0, e .some, omega (arith, e .new, s .pre .2 .new-most), omega (arith, e .few (c .before .if1 .taken)))
 
-scan-tail-requires : tie.Need-scan-tail-requires
-scan-tail-requires c κs =
-    let call = c .before .before .before .keep-phases in
-    let d = c .before .before .before .before .before .before .before in
-    let s = d .before in
-    let room : sincFilterPoints ≤ length (call .last .1 .1 .1 .0) = omega (arith, call .kept .1 .1 .1 .0) in
-    (s .pre .0, s .pre .1, s .pre .2, d .cycle-of .ensures, record { room = room; phases = λ _. call .ensures })
-
 -- nothing is kept
 scan-tail-requires-2 : tie.Need-scan-tail-requires-2
 scan-tail-requires-2 c κs =
     let d = c .before .before .before .before in
     let s = d .before in
-    (s .pre .0, s .pre .1, s .pre .2, d .cycle-of .ensures, record { room = omega arith; phases = λ h. absurd (omega (arith, c .before .before .if1 .left)) })
+    (s .pre .0, s .pre .1, s .pre .2, d .cycle-of .ensures, λ h. absurd (omega (arith, c .before .before .if1 .left)))
 
 -- ---- what search closes
 
@@ -39,6 +28,9 @@ slice-aggregate-keep-phases c = search needs
 
 slice-aggregate-scan-tail : tie.Need-slice-aggregate-scan-tail
 slice-aggregate-scan-tail c = search needs
+
+scan-tail-requires : tie.Need-scan-tail-requires
+scan-tail-requires c κs = search needs
 
 same-length : tie.Need-same-length
 same-length c = search needs

@@ -1,4 +1,4 @@
--- `rate::scan::make_frame` meets its contract: its weights are the coefficients of the phase. Assumes nothing.
+-- `rate::scan::make_frame` meets its contract: by the coefficients kept for the phase, or by those of its ratio. Assumes nothing.
 use borrow.Author.Needs.{needs}
 use mathlib.Core.Path.{_≡_, sym, ap, _∙_}
 use mathlib.Core.List.{List}
@@ -10,6 +10,7 @@ use lib.ListN.{length, drop, length-drop}
 use lib.Seq.{paste}
 use Rattle.frames.specs.Framing.{framesOf}
 use Rattle.sinc.specs.Sinc.{sincFilterPoints, interpolateFrame}
+use Rattle.sinc.specs.Weights.{CoefficientsAt}
 use Rattle.sinc.proofs.Weights.{weights-small, weightedFrame-is}
 use Rattle.rate.specs.Tail.{interpolateWindow}
 use Rattle.rate.proofs.Window.{interpolateWindow-is}
@@ -35,6 +36,12 @@ module _ (s : tie.Start) where
       let some : 1 ≤ s .args .cycle .step * (s .args .phase + 1) = omega (arith, mul-le-mul-right (s .args .phase + 1) (s .pre .0 .2 .some)) in
       omega (arith, mul-le-mul-left (s .args .cycle .step) below)
 
+  new-most : s .args .cycle .new ≤ width
+  new-most = omega (arith, mul-le-mul-right (s .args .cycle .new) (s .pre .0 .2 .some))
+
+  weights-are : 1 < s .args .cycle .step → CoefficientsAt ratio width (sincFilterPoints * s .args .phase) (s .args .kept .now)
+  weights-are h = s .pre .0 .1 h (s .args .phase) (s .pre .0 .2 .below)
+
   -- the frame at the ratio, as the contract says it
   frame-is : paste (s .args .output .now) (s .args .to .0 * s .args .channels) (interpolateFrame samples (s .args .channels) ratio width) (s .args .channels)
       ≡ paste (s .args .output .now) (s .args .to .0 * s .args .channels)
@@ -47,34 +54,58 @@ module _ (s : tie.Start) where
 
 -- ---- needs
 
+mul-at : tie.Need-mul-at
+mul-at c =
+    let s = c .before .before .before .before in
+    record { fits = omega (arith, new-most s, s .pre .0 .2 .below, s .pre .0 .2 .narrow) }
+
 weighted-frame-requires : tie.Need-weighted-frame-requires
 weighted-frame-requires c κs =
-    let d = c .before .before .before .before .before in
-    let s = d .before .before in
-    let e = d .phase-weights .ensures .1 in (
+    let s = c .before .before .before .before .before in
+    let e = weights-are s (c .before .if1 .taken) in (
       (e .room, weights-small e (ratio-lt s)),
       (
-        omega (arith, s .pre .1 .0, c .before .before .before .samples .ensures),
-        omega (arith, s .pre .1 .1, c .before .before .samples2 .ensures),
+        omega (arith, s .pre .1 .0, c .before .before .before .before .samples .ensures),
+        omega (arith, s .pre .1 .1, c .before .before .before .samples2 .ensures),
       ),
     )
 
 returns : tie.Need-returns
 returns c =
-    let d = c .before .before .before .before .before .before .before in
-    let s = d .before .before in
+    let d = c .before .before in
+    let s = d .before .before .before .before .before in
     let a = s .args in
-    let placed = rw (c .before .before .before .before .before .samples .ensures, c .before .before .before .before .samples2 .ensures) at
-    (c .before .weighted-frame .ensures) in
-    let frame = weightedFrame-is (d .phase-weights .ensures .1) (samples s) (a .channels) in (
-      d .phase-weights .ensures .0,
-      placed ∙ ap (λ (f : List ℤ). paste (a .output .now) (a .to .0 * a .channels) f (a .channels)) frame ∙ frame-is s,
+    let e = weights-are s (d .before .if1 .taken) in
+    let placed = rw (d .before .before .before .before .samples .ensures, d .before .before .before .samples2 .ensures) at (c .before .weighted-frame .ensures) in
+    placed
+    ∙ ap (λ (f : List ℤ). paste (a .output .now) (a .to .0 * a .channels) f (a .channels))
+    (weightedFrame-is e (samples s) (a .channels))
+    ∙ frame-is s
+
+ratio-frame-requires : tie.Need-ratio-frame-requires
+ratio-frame-requires c κs =
+    let s = c .before .before .before .before .before in (
+      (s .pre .0 .0, s .pre .0 .2 .below, omega (arith, new-most s, s .pre .0 .2 .narrow), s .pre .0 .2 .parts),
+      (
+        omega (arith, s .pre .1 .0, c .before .before .before .before .samples .ensures),
+        omega (arith, s .pre .1 .1, c .before .before .before .samples2 .ensures),
+      ),
     )
 
--- ---- what search closes
+returns-2 : tie.Need-returns-2
+returns-2 c =
+    let d = c .before .before in
+    let s = d .before .before .before .before .before in
+    let a = s .args in
+    let one : a .cycle .step ≡ 1 = omega (arith, s .pre .0 .2 .some, d .before .if1 .left) in
+    let same : a .phase ≡ ratio s = rw one (omega arith) in
+    let wide : a .cycle .new ≡ width s = rw one (omega arith) in
+    let placed = rw (d .before .before .before .before .samples .ensures, d .before .before .before .samples2 .ensures) at (c .before .ratio-frame .ensures) in
+    placed
+    ∙ (λ i. paste (a .output .now) (a .to .0 * a .channels) (interpolateFrame (samples s) (a .channels) (same i) (wide i)) (a .channels))
+    ∙ frame-is s
 
-phase-weights-requires : tie.Need-phase-weights-requires
-phase-weights-requires c κs = search needs
+-- ---- what search closes
 
 samples-requires : tie.Need-samples-requires
 samples-requires c κs = search needs
@@ -91,4 +122,4 @@ same-length-2 c = search needs
 pub make-frame-spec : {M : Type 1} → statement M
 make-frame-spec =
     tie.close
-    (tie.spec phase-weights-requires samples-requires samples-requires-2 weighted-frame-requires same-length same-length-2 returns)
+    (tie.spec samples-requires samples-requires-2 mul-at weighted-frame-requires same-length returns ratio-frame-requires same-length-2 returns-2)

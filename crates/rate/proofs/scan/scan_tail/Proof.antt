@@ -1,7 +1,7 @@
 -- `rate::scan::scan_tail` meets its contract. The scan's invariant: j tail frames were consumed, and their frames stand behind those that
 -- wait. The inner loop's: so do the frames that it has made of the tail frame j. Assumes nothing.
 use borrow.Author.Needs.{needs}
-use mathlib.Core.Path.{_≡_, refl, sym, ap, _∙_, subst}
+use mathlib.Core.Path.{_≡_, sym, ap, _∙_, subst}
 use mathlib.Core.Logic.{⊎-elim}
 use Prim.Native.Nat.{ℕ, _+_, _-_, _*_, _/_, _≤_, _<_, _^_}
 use native.Mathlib.Omega.{arith}
@@ -17,7 +17,6 @@ use Rattle.rate.specs.declared.Position.{Position}
 use Rattle.rate.specs.Halving.{maxHalvedRate}
 use Rattle.rate.specs.Tail.{due, next, interpolateWindow, interpolated}
 use Rattle.rate.specs.Conversion.{convert}
-use Rattle.rate.specs.Phases.{Kept}
 use Rattle.rate.proofs.Positions.{Small, placed-small, steps-placed, ratio-lt, due-more, due-no-more, next-start, next-on}
 use Rattle.rate.proofs.Cycles.{cycle-le, phase-more, ratio-is, phase-lt}
 use Rattle.rate.proofs.Window.{window-is, length-interpolated}
@@ -28,22 +27,20 @@ use Rattle.rate.proofs.scan.scan_tail.Tie as tie
 -- ---- invariants
 
 abbrev Inv-loop : tie.InvT-loop
-Inv-loop table weights₀ stage channels cycle output₀ t w room new-rate old-rate phases old-step reciprocal p n₀ made₀ j right end weights output n made =
+Inv-loop table kept stage channels cycle output₀ t w room new-rate old-rate phases old-step reciprocal p n₀ made₀ j right end output n made =
     Emitting channels w (record { new = new-rate; old = old-rate }) (record { old = p; new = n₀ })
     (framesOf channels sincFilterPoints (drop (j * channels) stage)) output₀ output (framesOf channels made₀ (drop (w * channels) output₀)) made n
-    × Kept cycle weights × (length weights ≡ length weights₀)
 
 abbrev μ-loop : tie.MeasureT-loop
-μ-loop table weights₀ stage channels cycle output₀ t w room new-rate old-rate phases old-step reciprocal p n₀ made₀ j right end weights output n made = right - n * old-rate
+μ-loop table kept stage channels cycle output₀ t w room new-rate old-rate phases old-step reciprocal p n₀ made₀ j right end output n made = right - n * old-rate
 
 abbrev Inv-scan : tie.InvT-scan
-Inv-scan table weights₀ stage channels cycle output₀ t w room new-rate old-rate phases old-step reciprocal p₀ n₀ made₀ j₀ weights output p n made j =
+Inv-scan table kept stage channels cycle output₀ t w room new-rate old-rate phases old-step reciprocal p₀ n₀ made₀ j₀ output p n made j =
     (j ≤ t - sincFilterPoints) × Scanning channels w (record { new = new-rate; old = old-rate }) (record { old = p₀; new = n₀ })
     (framesOf channels t stage) output₀ output j made (record { old = p; new = n })
-    × Kept cycle weights × (length weights ≡ length weights₀)
 
 abbrev μ-scan : tie.MeasureT-scan
-μ-scan table weights₀ stage channels cycle output₀ t w room new-rate old-rate phases old-step reciprocal p₀ n₀ made₀ j₀ weights output p n made j = t - j
+μ-scan table kept stage channels cycle output₀ t w room new-rate old-rate phases old-step reciprocal p₀ n₀ made₀ j₀ output p n made j = t - j
 
 -- ---- places, and what is known there
 
@@ -89,16 +86,16 @@ module _ (c : AtLoop) where
   place = begun .args .waiting .0 + c .loop .made
 
   last : c .loop .n ≤ maxHalvedRate * maxHalvedRate
-  last = omega (arith, c .loop .inv .0 .new, c .loop .inv .0 .within, small scanned .last-most)
+  last = omega (arith, c .loop .inv .new, c .loop .inv .within, small scanned .last-most)
 
   product-fits : c .loop .n * begun .args .rates .old < 2 ^ 64
   product-fits = omega (arith, mul-le-mul last (begun .pre .2 .old-most))
 
   long : length (c .loop .output) ≡ whole
-  long = c .loop .inv .0 .behind .long ∙ scanned .scan .inv .1 .behind .long
+  long = c .loop .inv .behind .long ∙ scanned .scan .inv .1 .behind .long
 
   place-le : place ≤ whole / begun .args .channels
-  place-le = frames-le (begun .args .channels) place whole (begun .pre .1 .some) (omega (arith, c .loop .inv .0 .behind .fits, c .loop .inv .0 .behind .long, long))
+  place-le = frames-le (begun .args .channels) place whole (begun .pre .1 .some) (omega (arith, c .loop .inv .behind .fits, c .loop .inv .behind .long, long))
 
   waits-le : begun .args .waiting .0 ≤ whole / begun .args .channels
   waits-le = frames-le (begun .args .channels) (begun .args .waiting .0) whole (begun .pre .1 .some) (begun .pre .1 .waits)
@@ -109,11 +106,11 @@ module _ (c : AtLoop) where
 
   -- its test
   more-due : c .loop .n * begun .args .rates .old < (scanned .scan .p + 1) * begun .args .rates .new
-      → c .loop .inv .0 .i < due (begun .args .rates) (position scanned)
+      → c .loop .inv .i < due (begun .args .rates) (position scanned)
   more-due h =
       let r = begun .args .rates in
-      due-more r (position scanned) (c .loop .inv .0 .i) (omega (arith, begun .pre .2 .order .below))
-      (subst (λ (k : ℕ). k * r .old < (scanned .scan .p + 1) * r .new) (c .loop .inv .0 .new) h)
+      due-more r (position scanned) (c .loop .inv .i) (omega (arith, begun .pre .2 .order .below))
+      (subst (λ (k : ℕ). k * r .old < (scanned .scan .p + 1) * r .new) (c .loop .inv .new) h)
 
 -- a frame fits
 module _ (c : tie.Else1 Inv-loop μ-loop Inv-scan μ-scan) where
@@ -151,16 +148,11 @@ full d e =
 left-long : (c : tie.Left-scan Inv-loop μ-loop Inv-scan μ-scan) → length (c .scan-test .output) ≡ length (entry (c .before) .args .output .now)
 left-long c =
     let long = c .before .scan .inv .1 .behind .long in
-    ⊎-elim (λ x. ap length (x .2) ∙ long) (λ x. ap length (x .5) ∙ x .1 .inv .0 .behind .long ∙ long) (c .scan-test .came)
-
-weights-long : (c : tie.Left-scan Inv-loop μ-loop Inv-scan μ-scan) → length (c .scan-test .weights) ≡ length (entry (c .before) .args .weights .now)
-weights-long c =
-    let long = c .before .scan .inv .3 in
-    ⊎-elim (λ x. ap length (x .1) ∙ long) (λ x. ap length (x .4) ∙ x .1 .inv .2 ∙ long) (c .scan-test .came)
+    ⊎-elim (λ x. ap length (x .1) ∙ long) (λ x. ap length (x .4) ∙ x .1 .inv .behind .long ∙ long) (c .scan-test .came)
 
 -- a frame is made
 abbrev made-at : tie.After-output Inv-loop μ-loop Inv-scan μ-scan → tie.Else1 Inv-loop μ-loop Inv-scan μ-scan
-made-at c = c .before .before .before .before .before
+made-at c = c .before .before .before
 
 -- the inner loop is left
 abbrev left-loop : tie.Joined2 Inv-loop μ-loop Inv-scan μ-scan → AtLoop
@@ -180,7 +172,7 @@ scan-holds c =
     let s = c .before .before .before in
     let a = s .args in
     let l = framesOf (a .channels) (a .tail .0) (a .stage .now) in
-    (omega arith, scanning-start (a .channels) (a .waiting .0) (a .rates) (a .at) l (a .output .now) (s .pre .1 .waits), s .pre .4, refl)
+    (omega arith, scanning-start (a .channels) (a .waiting .0) (a .rates) (a .at) l (a .output .now) (s .pre .1 .waits))
 
 add-right : tie.Need-add-right Inv-loop μ-loop Inv-scan μ-scan
 add-right c = record { fits = omega (arith, small (c .before) .below) }
@@ -202,11 +194,8 @@ unfolding emitting-start
 loop-holds c =
     let a = entry (c .before) .args in
     let l = c .before .scan in
-    let b = l .inv .1 .behind in (
-      emitting-start (a .channels) (a .waiting .0) (a .rates) (position (c .before)) _ (l .output) (l .made) (omega (arith, b .fits, b .long)),
-      l .inv .2,
-      refl,
-    )
+    let b = l .inv .1 .behind in
+    emitting-start (a .channels) (a .waiting .0) (a .rates) (position (c .before)) _ (l .output) (l .made) (omega (arith, b .fits, b .long))
 
 mul-loop : tie.Need-mul-loop Inv-loop μ-loop Inv-scan μ-scan
 mul-loop c = record { fits = product-fits c }
@@ -228,16 +217,16 @@ sub-phase-2 c = omega (arith, phase-of c)
 
 make-frame-requires : tie.Need-make-frame-requires Inv-loop μ-loop Inv-scan μ-scan
 make-frame-requires c κs =
-    let d = loop-of (c .before .before) in
+    let d = loop-of (c .before) in
     let s = begun d in
     let l = scanned d .scan in
-    let from : l .n ≤ d .loop .n = omega (arith, d .loop .inv .0 .new) in
-    let ratio = ratio-lt (s .args .rates) (l .p) (l .n) (d .loop .n) (small (scanned d) .passed) from (c .before .before .before .loop-test .taken) in
-    let phase = phase-lt (s .args .rates) (s .args .cycle) (s .pre .3) (l .p) (d .loop .n) (c .before .before .before .loop-test .taken) ratio in
+    let from : l .n ≤ d .loop .n = omega (arith, d .loop .inv .new) in
+    let ratio = ratio-lt (s .args .rates) (l .p) (l .n) (d .loop .n) (small (scanned d) .passed) from (c .before .before .loop-test .taken) in
+    let phase = phase-lt (s .args .rates) (s .args .cycle) (s .pre .3) (l .p) (d .loop .n) (c .before .before .loop-test .taken) ratio in
     let narrow : s .args .cycle .step * s .args .cycle .new ≤ maxHalvedRate = omega (arith, s .pre .3 .new, s .pre .2 .new-most) in
     let taps = mul-le-mul-right (s .args .channels) (ahead d) in (
-      (s .pre .0, d .loop .inv .1, record { some = s .pre .3 .some; below = phase; narrow = narrow; parts = scanned d .before .reciprocal-of .ensures }),
-      (omega (arith, taps, s .pre .1 .holds), room (c .before .before)),
+      (s .pre .0, s .pre .4, record { some = s .pre .3 .some; below = phase; narrow = narrow; parts = scanned d .before .reciprocal-of .ensures }),
+      (omega (arith, taps, s .pre .1 .holds), room (c .before)),
     )
 
 add-made : tie.Need-add-made Inv-loop μ-loop Inv-scan μ-scan
@@ -252,20 +241,18 @@ loop-again c =
     let d = loop-of (made-at c) in
     let s = begun d in
     let a = s .args in
-    let b = d .loop .inv .0 in
+    let b = d .loop .inv in
     let x = drop (scanned d .scan .j * a .channels) (a .stage .now) in
     let staged = mul-le-mul-right (a .channels) (ahead d) in
     let taps : a .channels ≤ length x = omega (arith, length-drop (scanned d .scan .j * a .channels) (a .stage .now), s .pre .1 .holds) in
     let more = made-at c .before .loop-test .taken in
     let ratio = ratio-is (a .rates) (a .cycle) (s .pre .3) (scanned d .scan .p) (d .loop .n) more in
-    let frame = c .before .before .make-frame .ensures .1
+    let frame = c .before .make-frame .ensures
     ∙ (λ i. paste (d .loop .output) (place d * a .channels) (interpolateWindow (framesOf (a .channels) sincFilterPoints x) (ratio i) (s .pre .3 .new i))
-    (a .channels)) in (
-      emitting-turn b (c .before .before .make-frame .last .1 .1 .1 .1 .1 .1 .1 .1 .0) (more-due d more) (omega (arith, room (made-at c), b .behind .long))
-          (length-interpolated (a .rates) (record { old = scanned d .scan .p; new = d .loop .n }) (a .channels) x taps) frame,
-      c .before .before .make-frame .ensures .0,
-      omega (arith, c .before .before .make-frame .kept .1 .0, d .loop .inv .2),
-    )
+    (a .channels)) in
+    emitting-turn b (c .before .make-frame .last .1 .1 .1 .1 .1 .1 .1 .1 .0) (more-due d more)
+    (omega (arith, room (made-at c), b .behind .long))
+    (length-interpolated (a .rates) (record { old = scanned d .scan .p; new = d .loop .n }) (a .channels) x taps) frame
 
 add-p : tie.Need-add-p Inv-loop μ-loop Inv-scan μ-scan
 add-p c = record { fits = omega (arith, small (scanned (c .before)) .below) }
@@ -276,7 +263,7 @@ scan-again c =
     let s = begun d in
     let a = s .args in
     let l = scanned d .scan in
-    let b = d .loop .inv .0 in
+    let b = d .loop .inv in
     let t : Position = position (scanned d) in
     let window = window-is (a .channels) (a .tail .0) (l .j) (a .stage .now) (ahead d) in
     let most : due (a .rates) t ≤ b .i =
@@ -287,13 +274,10 @@ scan-again c =
     let e : t' ≡ next (a .rates) t =
     ⊎-elim (λ x. (λ i. record { old = x .1 i; new = x .2 i }) ∙ sym (next-start (a .rates) t (x .0 .taken)))
     (λ x. (λ i. record { old = x .1 i; new = x .2 i }) ∙ sym (next-on (a .rates) t (d .loop .n) (x .0 .left) all)) (c .if2 .came) in
-    (omega arith, scanning-turn (l .inv .1) b window t' most e, d .loop .inv .1, d .loop .inv .2 ∙ l .inv .3)
+    (omega arith, scanning-turn (l .inv .1) b window t' most e)
 
 same-length : tie.Need-same-length Inv-loop μ-loop Inv-scan μ-scan
-same-length c = weights-long (c .before)
-
-same-length-2 : tie.Need-same-length-2 Inv-loop μ-loop Inv-scan μ-scan
-same-length-2 c = left-long (c .before)
+same-length c = left-long (c .before)
 
 -- left from inside
 returns : tie.Need-returns Inv-loop μ-loop Inv-scan μ-scan
@@ -307,17 +291,14 @@ returns c =
     let d : AtLoop = record { before = record { before = c .before .before; scan-test = x .0 }; loop = x .1 } in
     let few = length-framesOf (a .channels) (a .tail .0) (a .stage .now) in
     let window = window-is (a .channels) (a .tail .0) (l .j) (a .stage .now) (ahead d) in
-    rw (x .5) (scanning-full (l .inv .1) (x .1 .inv .0) window _ (more-due d (x .2 .taken)) (omega (arith, ahead d)) (full d (x .3 .taken))))
+    rw (x .4) (scanning-full (l .inv .1) (x .1 .inv) window _ (more-due d (x .2 .taken)) (omega (arith, ahead d)) (full d (x .3 .taken))))
     (c .before .scan-test .came)
 
 sub-t29 : tie.Need-sub-t29 Inv-loop μ-loop Inv-scan μ-scan
 sub-t29 c = omega (arith, c .before .before .scan .inv .0)
 
-same-length-3 : tie.Need-same-length-3 Inv-loop μ-loop Inv-scan μ-scan
-same-length-3 c = weights-long (c .before)
-
-same-length-4 : tie.Need-same-length-4 Inv-loop μ-loop Inv-scan μ-scan
-same-length-4 c = left-long (c .before)
+same-length-2 : tie.Need-same-length-2 Inv-loop μ-loop Inv-scan μ-scan
+same-length-2 c = left-long (c .before)
 
 -- ended
 returns-2 : tie.Need-returns-2 Inv-loop μ-loop Inv-scan μ-scan
@@ -325,7 +306,7 @@ returns-2 c =
     let a = entry (c .before .before) .args in
     let l = c .before .before .scan in
     ⊎-elim
-    (λ x. rw (x .2, x .3, x .4) (scan-done (a .tail .0) (a .stage .now) (l .inv .1) (omega (arith, l .inv .0, x .0 .left))))
+    (λ x. rw (x .1, x .2, x .3) (scan-done (a .tail .0) (a .stage .now) (l .inv .1) (omega (arith, l .inv .0, x .0 .left))))
     (λ x. absurd (omega (arith, x .0 .taken, c .if3 .left)))
     (c .before .scan-test .came)
 
@@ -355,6 +336,6 @@ add-if3 c = search needs
 pub scan-tail-spec : {M : Type 1} → statement M
 scan-tail-spec =
     tie.close
-    (tie.spec Inv-loop μ-loop Inv-scan μ-scan frames-requires sub-room reciprocal-of-requires scan-holds add-scan add-right mul-right add-end mul-end
-    loop-holds mul-loop add-phase mul-phase sub-phase sub-phase-2 make-frame-requires add-made add-n loop-less loop-again add-p add-j scan-less scan-again
-    add-if3 same-length same-length-2 returns sub-t29 same-length-3 same-length-4 returns-2)
+    (tie.spec Inv-loop μ-loop Inv-scan μ-scan frames-requires sub-room reciprocal-of-requires scan-holds add-scan add-right mul-right add-end mul-end loop-holds mul-loop add-phase
+    mul-phase sub-phase sub-phase-2 make-frame-requires add-made add-n loop-less loop-again add-p add-j scan-less scan-again add-if3 same-length returns sub-t29
+    same-length-2 returns-2)

@@ -6,7 +6,7 @@ use Prim.Native.Nat.{ℕ, _+_, _-_, _*_, _/_, _≤_, _<_}
 use native.Mathlib.Nat.{mul-le-mul-left, mul-le-mul-right}
 use native.Mathlib.Omega.{arith}
 use lib.IntN.{ℤ}
-use lib.ListN.{length, set, length-set}
+use lib.ListN.{length, length-set}
 use mir.Syntax.{w32}
 use mir.Val.{toZ, ofZ}
 use mir.Facts.{toZ-ofZ}
@@ -19,7 +19,7 @@ use Rattle.sinc.proofs.phases.keep_phases.Tie as tie
 
 abbrev Inv-loop : tie.InvT-loop
 Inv-loop table step phases kept₀ width reciprocal m₀ kept m =
-    (m ≤ sincFilterPoints * phases) × (length kept ≡ length kept₀) × Filled 0 m (phaseCoefficient step width) kept
+    (m ≤ sincFilterPoints * phases) × (length kept ≡ length kept₀) × Filled m (phaseCoefficient step width) kept
 
 abbrev μ-loop : tie.MeasureT-loop
 μ-loop table step phases kept₀ width reciprocal m₀ kept m = sincFilterPoints * phases - m
@@ -63,13 +63,11 @@ loop-again c =
     let a = s .args in
     let f : ℕ → ℤ = phaseCoefficient (a .step) (a .step * a .phases) in
     let call = c .tap-coefficient in
-    let at : 0 + l .m ≡ l .m = omega arith in
     let v : ℤ = toZ w32 (ofZ w32 (call .result)) in
-    let value : v ≡ f (l .m) = toZ-ofZ {w = w32} (record { sfits = call .ok }) ∙ call .ensures in
-    let filled = filled-turn (l .kept) 0 (l .m) f v (omega (arith, s .pre .3, l .inv .1, c .before .loop-test .taken)) (l .inv .2) value in (
+    let value : v ≡ f (l .m) = toZ-ofZ {w = w32} (record { sfits = call .ok }) ∙ call .ensures in (
       omega arith,
       length-set (l .kept) (l .m) _ ∙ l .inv .1,
-      subst (λ (n : ℕ). Filled 0 (l .m + 1) f (set (l .kept) n v)) at filled,
+      filled-turn (l .kept) (l .m) f v (omega (arith, s .pre .3, l .inv .1, c .before .loop-test .taken)) (l .inv .2) value,
     )
 
 returns : tie.Need-returns Inv-loop μ-loop
@@ -78,7 +76,7 @@ returns c =
     let s = c .before .before .before in
     let e : l .m ≡ sincFilterPoints * s .args .phases = omega (arith, c .loop-test .left, l .inv .0) in
     phases-filled (s .args .step) (s .args .phases) (l .kept) (omega (arith, s .pre .3, l .inv .1))
-    (subst (λ (n : ℕ). Filled 0 n (phaseCoefficient (s .args .step) (s .args .step * s .args .phases)) (l .kept)) e (l .inv .2))
+    (subst (λ (n : ℕ). Filled n (phaseCoefficient (s .args .step) (s .args .step * s .args .phases)) (l .kept)) e (l .inv .2))
 
 -- ---- what search closes
 

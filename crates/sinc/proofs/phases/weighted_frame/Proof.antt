@@ -1,4 +1,4 @@
--- `sinc::weighted_frame` meets its contract. The loop's invariant: the first c samples of the frame are written.
+-- `sinc::phases::weighted_frame` meets its contract. The loop's invariant: the first c samples of the frame are written.
 -- Assumes nothing.
 use mathlib.Core.Path.{_≡_, refl, sym, ap, _∙_}
 use mathlib.Core.List.{List}
@@ -11,10 +11,10 @@ use lib.Seq.{paste, paste-zero}
 use mir.Syntax.{w16}
 use mir.Facts.{toZ-ofZ}
 use Rattle.sinc.specs.Weights.{weightedSample, weightedFrame}
-use Rattle.sinc.proofs.Tabulated.{tabulate-turn}
 use Rattle.sinc.proofs.Channels.{channel-is}
-use Rattle.sinc.proofs.weighted_frame.Statement.{statement}
-use Rattle.sinc.proofs.weighted_frame.Tie as tie
+use Rattle.sinc.proofs.Weights.{channelSample, frame-turn}
+use Rattle.sinc.proofs.phases.weighted_frame.Statement.{statement}
+use Rattle.sinc.proofs.phases.weighted_frame.Tie as tie
 
 -- ---- the invariant
 
@@ -36,13 +36,14 @@ module _ (s : tie.Start Inv-loop μ-loop) where
   weight i = getD (s .args .weights .now) (s .args .at + i) (pos 0)
 
   abbrev sample : ℕ → ℤ
-  sample c = weightedSample (λ i. getD (drop (s .args .from .0) (s .args .stage .now)) (i * s .args .channels + c) (pos 0)) weight
+  sample = channelSample (drop (s .args .from .0) (s .args .stage .now)) (s .args .channels) (s .args .weights .now) (s .args .at)
 
   -- one sample more
   turn-is : (c : ℕ) → c < s .args .channels → set (paste (s .args .output .now) (s .args .to .0) frame c) (s .args .to .0 + c) (sample c)
       ≡ paste (s .args .output .now) (s .args .to .0) frame (c + 1)
-  unfolding weightedFrame
-  turn-is c h = tabulate-turn (s .args .output .now) (s .args .to .0) (s .args .channels) sample c (pos 0) (omega (arith, s .pre .1 .1)) h
+  turn-is c h =
+      frame-turn (s .args .output .now) (s .args .to .0) (drop (s .args .from .0) (s .args .stage .now)) (s .args .channels) (s .args .weights .now)
+      (s .args .at) c (omega (arith, s .pre .1 .1)) h
 
 -- ---- needs
 
