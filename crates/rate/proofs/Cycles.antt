@@ -1,5 +1,5 @@
 -- Cycles and phases: Euclid's steps to a common divisor of N and O, and the ratio of a frame by its phase. Assumes nothing.
-use mathlib.Core.Path.{_≡_, refl, sym, ap, _∙_, subst}
+use mathlib.Core.Path.{_≡_, sym, ap, _∙_, subst}
 use Prim.Native.Nat.{ℕ, _+_, _-_, _*_, _/_, _%_, _≤_, _<_, _∣_}
 use native.Mathlib.Nat.{
   dvd-refl,
@@ -7,7 +7,6 @@ use native.Mathlib.Nat.{
   dvd-mod-iff,
   mul-div-cancel',
   div-le-of-le-mul,
-  div-one,
   mod-lt,
   mul-add,
   mul-le-mul-right,

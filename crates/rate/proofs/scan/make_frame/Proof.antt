@@ -76,7 +76,8 @@ returns c =
     let s = d .before .before .before .before .before in
     let a = s .args in
     let e = weights-are s (d .before .if1 .taken) in
-    let placed = rw (d .before .before .before .before .samples .ensures, d .before .before .before .samples2 .ensures) at (c .before .weighted-frame .ensures) in
+    let samples-at = d .before .before .before .before in
+    let placed = rw (samples-at .samples .ensures, d .before .before .before .samples2 .ensures) at (c .before .weighted-frame .ensures) in
     placed
     ∙ ap (λ (f : List ℤ). paste (a .output .now) (a .to .0 * a .channels) f (a .channels))
     (weightedFrame-is e (samples s) (a .channels))
@@ -100,7 +101,8 @@ returns-2 c =
     let one : a .cycle .step ≡ 1 = omega (arith, s .pre .0 .2 .some, d .before .if1 .left) in
     let same : a .phase ≡ ratio s = rw one (omega arith) in
     let wide : a .cycle .new ≡ width s = rw one (omega arith) in
-    let placed = rw (d .before .before .before .before .samples .ensures, d .before .before .before .samples2 .ensures) at (c .before .ratio-frame .ensures) in
+    let samples-at = d .before .before .before .before in
+    let placed = rw (samples-at .samples .ensures, d .before .before .before .samples2 .ensures) at (c .before .ratio-frame .ensures) in
     placed
     ∙ (λ i. paste (a .output .now) (a .to .0 * a .channels) (interpolateFrame (samples s) (a .channels) (same i) (wide i)) (a .channels))
     ∙ frame-is s

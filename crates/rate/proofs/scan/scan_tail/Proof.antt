@@ -336,6 +336,6 @@ add-if3 c = search needs
 pub scan-tail-spec : {M : Type 1} → statement M
 scan-tail-spec =
     tie.close
-    (tie.spec Inv-loop μ-loop Inv-scan μ-scan frames-requires sub-room reciprocal-of-requires scan-holds add-scan add-right mul-right add-end mul-end loop-holds mul-loop add-phase
-    mul-phase sub-phase sub-phase-2 make-frame-requires add-made add-n loop-less loop-again add-p add-j scan-less scan-again add-if3 same-length returns sub-t29
-    same-length-2 returns-2)
+    (tie.spec Inv-loop μ-loop Inv-scan μ-scan frames-requires sub-room reciprocal-of-requires scan-holds add-scan add-right mul-right add-end mul-end
+    loop-holds mul-loop add-phase mul-phase sub-phase sub-phase-2 make-frame-requires add-made add-n loop-less loop-again add-p add-j scan-less scan-again
+    add-if3 same-length returns sub-t29 same-length-2 returns-2)
