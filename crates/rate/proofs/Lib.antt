@@ -4,6 +4,7 @@ pub mod Chunks
 pub mod Counts
 mod Turns
 mod Window
+mod Cycles
 mod Figures
 mod Adjusting
 pub mod Halving

@@ -1,5 +1,5 @@
 -- The frame that a window of 12 tail frames makes, from the stage's samples. Assumes nothing.
-use mathlib.Core.Path.{_≡_, refl, sym, ap, _∙_}
+use mathlib.Core.Path.{_≡_, sym, ap, _∙_}
 use mathlib.Core.List.{List, []}
 use Prim.Native.Nat.{ℕ, zero, suc, _+_, _-_, _*_, _≤_, _<_}
 use native.Mathlib.Nat.{zero-mul, suc-mul}
@@ -10,6 +10,7 @@ use lib.IntN.{ℤ, pos}
 use Rattle.frames.specs.Framing.{framesOf}
 use Rattle.frames.proofs.Framing.{drop-framesOf, take-framesOf}
 use Rattle.sinc.specs.Sinc.{sincFilterPoints, tabulate, interpolate, interpolateFrame}
+use Rattle.sinc.proofs.Tabulated.{tabulate-cong}
 use Rattle.sinc.proofs.Channels.{interpolate-cong, length-interpolateFrame}
 use Rattle.rate.specs.declared.Rates.{Rates}
 use Rattle.rate.specs.declared.Position.{Position}
@@ -28,11 +29,6 @@ getD-framesOf ch (suc k) zero a h = ap (λ (n : ℕ). take ch (drop n a)) (sym (
 getD-framesOf ch (suc k) (suc i) a h =
     let e : ch + i * ch ≡ suc i * ch = omega (arith, suc-mul i ch) in
     getD-framesOf ch k i (drop ch a) (omega arith) ∙ ap (take ch) (drop-drop (i * ch) ch a ∙ ap (λ (n : ℕ). drop n a) e)
-
-tabulate-cong : (n : ℕ) (f g : ℕ → ℤ) → ((i : ℕ) → i < n → f i ≡ g i) → tabulate n f ≡ tabulate n g
-unfolding tabulate
-tabulate-cong zero f g e = refl
-tabulate-cong (suc n) f g e = rw (e 0 (omega arith), tabulate-cong n (λ i. f (suc i)) (λ i. g (suc i)) (λ i h. e (suc i) (omega arith)))
 
 module _ (ch ratio N : ℕ) (x : List ℤ) (h : ch ≤ length x) where
   channels-is : length (getD (framesOf ch sincFilterPoints x) 0 []) ≡ ch

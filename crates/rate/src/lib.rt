@@ -1,4 +1,5 @@
 // Rate conversion: `adjust_rate` of the Rust original. `specs/Conversion.antt` says what it gives.
+mod phases;
 mod scan;
 
 use frames::Frames;
@@ -78,7 +79,7 @@ pub fn adjust_rate(
         });
     }
     let table = sinc::sinc_table();
-    scan::scan_tail(
+    scan::convert_tail(
         &table,
         stage,
         Frames(t + n),

@@ -1,36 +1,28 @@
--- A frame: one set of coefficients serves all of its channels, each is small, and with them a channel's sum is its `interpolate`.
--- Behind that, laws for the crates that cite `interpolate` and `interpolateFrame`. Assumes nothing.
+-- A frame's channels. Behind them, laws for the crates that cite `interpolate` and `interpolateFrame`. Assumes nothing.
 use mathlib.Core.Path.{_≡_, refl, sym, ap, _∙_}
 use mathlib.Core.List.{List}
-use Prim.Native.Nat.{ℕ, _+_, _*_, _≤_, _<_}
+use Prim.Native.Nat.{ℕ, _+_, _*_, _<_}
 use native.Mathlib.Omega.{arith}
-use lib.IntN.{ℤ, pos, natAbs}
+use lib.IntN.{ℤ, pos}
 use lib.ListN.{length, drop, getD}
 use lib.Seq.{getD-drop}
 use lib.Signed.{shrZ}
-use Rattle.sinc.specs.Sinc.{sincFilterPoints, sincCoefficient, sincCoefficients, weightedSum, tapSum, heldSample, interpolate, interpolateFrame}
-use Rattle.sinc.proofs.Coefficient.{sincCoefficient-abs}
+use Rattle.sinc.specs.Sinc.{sincFilterPoints, tapSum, heldSample, interpolate, interpolateFrame}
+use Rattle.sinc.specs.Weights.{weightedSample}
 use Rattle.sinc.proofs.Tabulated.{length-tabulate, getD-tabulate}
 use Rattle.sinc.proofs.Taps.{weightedSum-cong}
 
-pub coefficient-at : (i r N : ℕ) → i < sincFilterPoints → getD (sincCoefficients r N) i (pos 0) ≡ sincCoefficient i r N
-unfolding sincCoefficients
-coefficient-at i r N h = getD-tabulate sincFilterPoints (λ j. sincCoefficient j r N) i (pos 0) h
-
-pub coefficient-small : (i r N : ℕ) → i < sincFilterPoints → r < N → natAbs (getD (sincCoefficients r N) i (pos 0)) ≤ 65534
-coefficient-small i r N h k = rw (coefficient-at i r N h) (sincCoefficient-abs i r N h k)
-
--- channel c of the frame that begins at `from`: a value that the code has with its weights
-pub channel-is : (x : List ℤ) (from channels c r N : ℕ) {weights : List ℤ} {value : ℤ} → weights ≡ sincCoefficients r N
-    → value ≡ heldSample (shrZ (weightedSum (λ i. getD x (from + c + i * channels) (pos 0)) (λ i. getD weights i (pos 0)) sincFilterPoints) 65536)
-    → value ≡ interpolate (λ i. getD (drop from x) (i * channels + c) (pos 0)) r N
-unfolding interpolate tapSum
-channel-is x from channels c r N e v =
-    let place : (i : ℕ) → from + c + i * channels ≡ from + (i * channels + c) = λ i. omega arith in
+-- channel c of the frame that begins at `from`, its first tap at `first`: a value that the code has
+pub channel-is : (x : List ℤ) (from channels c first : ℕ) (weights : ℕ → ℤ) {value : ℤ} → first ≡ from + c
+    → value ≡ weightedSample (λ i. getD x (first + i * channels) (pos 0)) weights
+    → value ≡ weightedSample (λ i. getD (drop from x) (i * channels + c) (pos 0)) weights
+unfolding weightedSample
+channel-is x from channels c first weights e v =
+    let place : (i : ℕ) → first + i * channels ≡ from + (i * channels + c) = λ i. omega arith in
     v ∙ ap (λ (z : ℤ). heldSample (shrZ z 65536))
     (weightedSum-cong sincFilterPoints
     (λ i h. ap (λ (n : ℕ). getD x n (pos 0)) (place i) ∙ sym (getD-drop from x (i * channels + c) (pos 0)))
-    (λ i h. rw e (coefficient-at i r N h)))
+    (λ i h. refl))
 
 -- ---- for the crates above
 

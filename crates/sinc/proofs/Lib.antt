@@ -3,4 +3,5 @@ pub mod Coefficient
 pub mod Tabulated
 pub mod Taps
 pub mod Channels
+pub mod Weights
 mod Figures

@@ -1,2 +1,3 @@
 pub mod SincTable
 pub mod Sinc
+pub mod Weights

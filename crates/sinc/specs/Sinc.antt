@@ -47,10 +47,6 @@ unfoldable pub tabulate : ℕ → (ℕ → ℤ) → List ℤ
 tabulate zero f = []
 tabulate (suc n) f = f 0 ∷ tabulate n (λ i. f (suc i))
 
--- the coefficients of the 12 taps
-unfoldable pub sincCoefficients : ℕ → ℕ → List ℤ
-sincCoefficients r N = tabulate sincFilterPoints (λ i. sincCoefficient i r N)
-
 -- ---- sample
 
 -- the sum over the first k taps, each times its weight

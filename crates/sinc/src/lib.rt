@@ -1,17 +1,18 @@
 // The filter table of the rate conversion, and interpolated samples and frames.
+pub mod phases;
 pub mod table;
 
 use frames::Samples;
 ghost use mathlib.Core.Path.{_≡_};
-ghost use Prim.Native.Nat.{ℕ, _+_, _-_, _*_, _≤_, _<_};
-ghost use lib.IntN.{pos, natAbs};
+ghost use Prim.Native.Nat.{_+_, _-_, _*_, _≤_, _<_};
+ghost use lib.IntN.{pos};
 ghost use lib.ListN.{length, drop, getD};
 ghost use lib.Seq.{paste};
-ghost use lib.Signed.{shrZ};
 ghost use Rattle.laws.specs.Reciprocal.{reciprocalOf};
 ghost use Rattle.sinc.specs.SincTable.{sincTable, sincTableSize};
-ghost use Rattle.sinc.specs.Sinc.{sincFilterPoints, maxWidth, tableValue, sincCoefficients, weightedSum};
+ghost use Rattle.sinc.specs.Sinc.{sincFilterPoints, maxWidth, tableValue, sincCoefficient};
 ghost use Rattle.sinc.specs.Sinc.{heldSample, interpolateFrame};
+ghost use Rattle.sinc.specs.Weights.{SmallWeights, weightedSample, CoefficientsAt};
 
 // The taps of a sample, and so the tail frames that a frame is made of.
 pub const SINC_FILTER_POINTS: usize = 12;
@@ -53,27 +54,43 @@ fn find_sinc_coefficient(
     (double * parts / (RECIPROCAL_PARTS as i64)) as i32
 }
 
-// The coefficients of the 12 taps. All of them, their place and their remainder come from one division, which gives the
-// reciprocal of `width`.
-fn coefficients(table: &[i16], ratio: usize, width: usize) -> [i32; SINC_FILTER_POINTS]
-    requires { ⌜ (now table ≡ sincTable) × (ratio < width) × (width ≤ maxWidth) ⌝ }
-    ensures { λ r. ⌜ r ≡ sincCoefficients ratio width ⌝ }
+// The reciprocal of a width, in parts; of 0 it is 1.
+pub fn reciprocal_of(width: usize) -> u64
+    ensures { λ r. ⌜ r ≡ reciprocalOf width ⌝ }
 {
-    let n = width as u64;
-    let reciprocal = RECIPROCAL_PARTS / n + 1;
+    if width == 0 {
+        return 1;
+    }
+    RECIPROCAL_PARTS / (width as u64) + 1
+}
+
+// The coefficient of tap i. Its place and its remainder come from the reciprocal of `width`, as its value does.
+fn tap_coefficient(table: &[i16], i: usize, ratio: usize, width: usize, reciprocal: u64) -> i32
+    requires { ⌜ (now table ≡ sincTable) × (i < sincFilterPoints) × (ratio < width) × (width ≤ maxWidth)
+        × (reciprocal ≡ reciprocalOf width) ⌝ }
+    ensures { λ r. ⌜ r ≡ sincCoefficient i ratio width ⌝ }
+{
     let points = LOBE_POINTS * ratio;
     let place = (points as u64 * reciprocal / RECIPROCAL_PARTS) as usize;
     let remainder = points - place * width;
+    let left = LOBE_POINTS * i + place;
+    find_sinc_coefficient(table, left, remainder, width, reciprocal)
+}
+
+// The coefficients of the 12 taps.
+fn coefficients(
+    table: &[i16],
+    ratio: usize,
+    width: usize,
+    reciprocal: u64,
+) -> [i32; SINC_FILTER_POINTS]
+    requires { ⌜ (now table ≡ sincTable) × (ratio < width) × (width ≤ maxWidth) × (reciprocal ≡ reciprocalOf width) ⌝ }
+    ensures { λ r. ⌜ CoefficientsAt ratio width 0 r ⌝ }
+{
     let mut weights = [0i32; SINC_FILTER_POINTS];
     let mut i: usize = 0;
     while i < SINC_FILTER_POINTS {
-        let weight = find_sinc_coefficient(
-            table,
-            LOBE_POINTS * i + place,
-            remainder,
-            width,
-            reciprocal,
-        );
+        let weight = tap_coefficient(table, i, ratio, width, reciprocal);
         weights[i] = weight;
         i += 1;
     }
@@ -93,32 +110,57 @@ fn hold(z: i64) -> i16
     z as i16
 }
 
-// One sample: the 12 taps of a channel, the first at `from`, each times its weight.
-fn interpolate(
-    stage: &[i16],
-    from: Samples,
-    channels: usize,
-    weights: &[i32; SINC_FILTER_POINTS],
-) -> i16
+// One sample: the 12 taps of a channel, the first at `from`, each times its weight, the first at `at`.
+fn interpolate(stage: &[i16], from: Samples, channels: usize, weights: &[i32], at: usize) -> i16
     requires { ⌜ from .0 + (sincFilterPoints - 1) * channels < length (now stage) ⌝ }
-    requires { ⌜ ((i : ℕ) → i < sincFilterPoints → natAbs (getD (now weights) i (pos 0)) ≤ 65534) ⌝ }
-    ensures { λ r. ⌜ r ≡ heldSample (shrZ (weightedSum
-        (λ i. getD (now (stage .entry)) (from .0 + i * channels) (pos 0))
-        (λ i. getD (now (weights .entry)) i (pos 0)) sincFilterPoints) 65536) ⌝ }
+    requires { ⌜ (at + sincFilterPoints ≤ length (now weights)) × SmallWeights at (now weights) ⌝ }
+    ensures { λ r. ⌜ r ≡ weightedSample (λ i. getD (now (stage .entry)) (from .0 + i * channels) (pos 0))
+        (λ i. getD (now (weights .entry)) (at + i) (pos 0)) ⌝ }
 {
     let f = from.0;
     let mut sum: i64 = 0;
     let mut i: usize = 0;
     while i < SINC_FILTER_POINTS {
         let tap = stage[f + i * channels] as i64;
-        let weight = weights[i] as i64;
+        let weight = weights[at + i] as i64;
         sum += tap * weight;
         i += 1;
     }
     hold(sum >> 16)
 }
 
-// One frame: the 12 tail frames from `from` on give one sample per channel, written from `to` on.
+// One frame at a ratio: by the coefficients of its 12 taps, which come from the reciprocal of `width`. The samples are
+// made here, not by `weighted_frame`: so the coefficients stay in registers.
+pub fn ratio_frame(
+    table: &[i16],
+    stage: &[i16],
+    from: Samples,
+    channels: usize,
+    ratio: usize,
+    width: usize,
+    reciprocal: u64,
+    output: &mut [i16],
+    to: Samples,
+)
+    requires { ⌜ (now table ≡ sincTable) × (ratio < width) × (width ≤ maxWidth) × (reciprocal ≡ reciprocalOf width) ⌝ }
+    requires { ⌜ (from .0 + sincFilterPoints * channels ≤ length (now stage))
+        × (to .0 + channels ≤ length (now output)) ⌝ }
+    ensures { λ _. ⌜ now (output .exit) ≡ paste (now (output .entry)) (to .0)
+        (interpolateFrame (drop (from .0) (now (stage .entry))) channels ratio width) channels ⌝ }
+{
+    let f = from.0;
+    let t = to.0;
+    let weights = coefficients(table, ratio, width, reciprocal);
+    let mut c: usize = 0;
+    while c < channels {
+        let first = Samples(f + c);
+        let sample = interpolate(stage, first, channels, &weights, 0);
+        output[t + c] = sample;
+        c += 1;
+    }
+}
+
+// One frame at a ratio, as `interpolate` of the original makes its samples.
 pub fn interpolate_frame(
     table: &[i16],
     stage: &[i16],
@@ -135,14 +177,16 @@ pub fn interpolate_frame(
     ensures { λ _. ⌜ now (output .exit) ≡ paste (now (output .entry)) (to .0)
         (interpolateFrame (drop (from .0) (now (stage .entry))) channels ratio width) channels ⌝ }
 {
-    let f = from.0;
-    let t = to.0;
-    let weights = coefficients(table, ratio, width);
-    let mut c: usize = 0;
-    while c < channels {
-        let first = Samples(f + c);
-        let sample = interpolate(stage, first, channels, &weights);
-        output[t + c] = sample;
-        c += 1;
-    }
+    let reciprocal = reciprocal_of(width);
+    ratio_frame(
+        table,
+        stage,
+        from,
+        channels,
+        ratio,
+        width,
+        reciprocal,
+        output,
+        to,
+    );
 }

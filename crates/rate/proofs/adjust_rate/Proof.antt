@@ -32,8 +32,8 @@ add-t20 c =
     let s = start c in
     record { fits = omega (arith, count-le (s .args .channels) (s .args .tail .0 + s .args .new .0) (s .pre .lent .some), s .pre .lent .holds) }
 
-scan-tail-requires : tie.Need-scan-tail-requires
-scan-tail-requires c κs =
+convert-tail-requires : tie.Need-convert-tail-requires
+convert-tail-requires c κs =
     let d = c .before .before in
     let s = start d in
     let m = rates-most (s .args .rate) (s .args .pitch) (s .pre .exact) in (
@@ -44,7 +44,7 @@ scan-tail-requires c κs =
 
 returns-2 : tie.Need-returns-2
 returns-2 c =
-    let call = c .before .scan-tail in
+    let call = c .before .convert-tail in
     let r = c .before .before .before in
     let d = r .before in
     let s = start d in
@@ -62,8 +62,8 @@ same-length c = search needs
 sinc-table-requires : tie.Need-sinc-table-requires
 sinc-table-requires c κs = search needs
 
-slice-aggregate-scan-tail : tie.Need-slice-aggregate-scan-tail
-slice-aggregate-scan-tail c = search needs
+slice-aggregate-convert-tail : tie.Need-slice-aggregate-convert-tail
+slice-aggregate-convert-tail c = search needs
 
 rates-of-requires : tie.Need-rates-of-requires
 rates-of-requires c κs = search needs
@@ -71,4 +71,4 @@ rates-of-requires c κs = search needs
 pub adjust-rate-spec : {M : Type 1} → statement M
 adjust-rate-spec =
     tie.close
-    (tie.spec returns sinc-table-requires slice-aggregate-scan-tail add-t20 rates-of-requires scan-tail-requires same-length returns-2)
+    (tie.spec returns sinc-table-requires slice-aggregate-convert-tail add-t20 rates-of-requires convert-tail-requires same-length returns-2)

@@ -1,126 +1,31 @@
 -- `sinc::coefficients` meets its contract. The loop's invariant: the first i weights are the coefficients of the first i taps.
 -- Assumes nothing.
-use mathlib.Core.Path.{_≡_, refl, sym, ap, _∙_}
-use mathlib.Core.List.{List}
-use Prim.Native.Nat.{ℕ, _-_, _*_, _/_, _%_, _≤_, _<_}
-use native.Mathlib.Nat.{mod-lt}
-use native.Mathlib.Omega.{arith}
 use borrow.Author.Needs.{needs}
+use mathlib.Core.Path.{_≡_, refl, ap, _∙_}
+use Prim.Native.Nat.{ℕ, _+_, _-_, _≤_}
+use native.Mathlib.Omega.{arith}
 use lib.IntN.{ℤ, pos}
-use lib.ListN.{length, set, length-set, replicate}
-use lib.Seq.{paste}
+use lib.ListN.{length, getD, length-set}
 use mir.Syntax.{w32}
 use mir.Val.{toZ, ofZ}
 use mir.Facts.{toZ-ofZ}
-use Rattle.laws.specs.Reciprocal.{reciprocalParts, reciprocalOf}
-use Rattle.sinc.specs.Sinc.{sincFilterPoints, lobePoints, tabulate, sincCoefficient, sincCoefficients}
-use Rattle.sinc.proofs.Coefficient.{reciprocal-lt, place-lt, place-product-lt, place-is, place-reaches, behind-is, sincCoefficient-is}
-use Rattle.sinc.proofs.Tabulated.{front-turn}
+use Rattle.sinc.specs.Sinc.{sincFilterPoints, sincCoefficient}
+use Rattle.sinc.proofs.Weights.{Filled, filled-turn}
 use Rattle.sinc.proofs.coefficients.Statement.{statement}
 use Rattle.sinc.proofs.coefficients.Tie as tie
 
--- ---- the invariant
-
 abbrev Inv-loop : tie.InvT-loop
-Inv-loop table ratio width n reciprocal points place remainder weights₀ i₀ weights i =
-    (i ≤ sincFilterPoints) × (length weights ≡ sincFilterPoints) × (weights ≡ paste weights₀ 0 (sincCoefficients ratio width) i)
+Inv-loop table ratio width reciprocal weights₀ i₀ weights i =
+    (i ≤ sincFilterPoints) × (length weights ≡ sincFilterPoints) × Filled i (λ j. sincCoefficient j ratio width) weights
 
 abbrev μ-loop : tie.MeasureT-loop
-μ-loop table ratio width n reciprocal points place remainder weights₀ i₀ weights i = sincFilterPoints - i
-
--- ---- places, and what is known there
-
--- the place and the remainder, as they are computed
-module _ (c : tie.Start Inv-loop μ-loop) where
-  abbrev points : ℕ
-  points = lobePoints * c .args .ratio
-
-  abbrev place : ℕ
-  place = points * reciprocalOf (c .args .width) / reciprocalParts
-
-  place-computed : place ≡ points / c .args .width
-  place-computed = place-is (c .args .ratio) (c .args .width) (c .pre .1) (c .pre .2)
-
-  remainder-computed : points - place * c .args .width ≡ points % c .args .width
-  remainder-computed = behind-is (c .args .ratio) (c .args .width) (c .pre .1) (c .pre .2)
-
-  reached : place * c .args .width ≤ points
-  reached = place-reaches (c .args .ratio) (c .args .width) (c .pre .1) (c .pre .2)
-
-  -- the place lies within a lobe
-  within : points / c .args .width < lobePoints
-  within = place-lt (c .args .ratio) (c .args .width) (c .pre .1)
-
-abbrev start : tie.At-loop Inv-loop μ-loop → tie.Start Inv-loop μ-loop
-start c = c .before
-
-abbrev turn : tie.After-find-sinc-coefficient Inv-loop μ-loop → tie.At-loop Inv-loop μ-loop
-turn c = c .before .before
-
--- ---- needs
-
-add-reciprocal : tie.Need-add-reciprocal Inv-loop μ-loop
-add-reciprocal c = record { fits = omega (arith, reciprocal-lt (c .args .width)) }
-
-mul-place : tie.Need-mul-place Inv-loop μ-loop
-mul-place c = record { fits = place-product-lt (c .args .ratio) (c .args .width) (c .pre .1) (c .pre .2) }
-
-mul-remainder : tie.Need-mul-remainder Inv-loop μ-loop
-mul-remainder c = record { fits = omega (arith, reached c) }
-
-sub-remainder : tie.Need-sub-remainder Inv-loop μ-loop
-sub-remainder c = reached c
-
-add-find-sinc-coefficient : tie.Need-add-find-sinc-coefficient Inv-loop μ-loop
-add-find-sinc-coefficient c =
-    let s = start (c .before) in
-    rw (place-computed s) (record { fits = omega (arith, within s) })
-
-find-sinc-coefficient-requires : tie.Need-find-sinc-coefficient-requires Inv-loop μ-loop
-find-sinc-coefficient-requires c κs =
-    let s = start (c .before) in
-    rw (remainder-computed s, place-computed s) (s .pre .0, omega (arith, within s), mod-lt (points s) (omega arith), s .pre .2, refl)
-
-loop-again : tie.Need-loop-again Inv-loop μ-loop
-unfolding sincCoefficients
-loop-again c =
-    let l = turn c .loop in
-    let s = start (turn c) in
-    let a = s .args in
-    let call = c .find-sinc-coefficient in
-    let f : ℕ → ℤ = λ j. sincCoefficient j (a .ratio) (a .width) in
-    let zeros : List ℤ = replicate sincFilterPoints (pos 0) in
-    let e : toZ w32 (ofZ w32 (call .result)) ≡ f (l .i) =
-    toZ-ofZ {w = w32} (record { sfits = call .ok })
-    ∙ rw (remainder-computed s, place-computed s) at (call .ensures)
-    ∙ sym (sincCoefficient-is (l .i) (a .ratio) (a .width)) in (
-      omega arith,
-      length-set (l .weights) (l .i) _ ∙ l .inv .1,
-      rw e (ap (λ (r : List ℤ). set r (l .i) (f (l .i))) (l .inv .2)
-          ∙ front-turn zeros sincFilterPoints f (l .i) (pos 0) (omega arith) (omega arith)),
-    )
-
-returns : tie.Need-returns Inv-loop μ-loop
-unfolding sincCoefficients tabulate
-returns c =
-    let l = c .before .loop in
-    let a = start (c .before) .args in
-    let e : l .i ≡ sincFilterPoints = omega arith in
-    l .inv .2 ∙ ap (paste (replicate sincFilterPoints (pos 0)) 0 (sincCoefficients (a .ratio) (a .width))) e
-
--- ---- what search closes
-
-div-reciprocal : tie.Need-div-reciprocal Inv-loop μ-loop
-div-reciprocal c = search needs
-
-mul-points : tie.Need-mul-points Inv-loop μ-loop
-mul-points c = search needs
+μ-loop table ratio width reciprocal weights₀ i₀ weights i = sincFilterPoints - i
 
 loop-holds : tie.Need-loop-holds Inv-loop μ-loop
-loop-holds c = search needs
+loop-holds c = (omega arith, refl, λ j h. absurd (omega arith))
 
-mul-find-sinc-coefficient : tie.Need-mul-find-sinc-coefficient Inv-loop μ-loop
-mul-find-sinc-coefficient c = search needs
+tap-coefficient-requires : tie.Need-tap-coefficient-requires Inv-loop μ-loop
+tap-coefficient-requires c κs = search needs
 
 mul-weights : tie.Need-mul-weights Inv-loop μ-loop
 mul-weights c = search needs
@@ -134,8 +39,30 @@ add-i c = search needs
 loop-less : tie.Need-loop-less Inv-loop μ-loop
 loop-less c = search needs
 
+loop-again : tie.Need-loop-again Inv-loop μ-loop
+loop-again c =
+    let d = c .before .before in
+    let l = d .loop in
+    let a = d .before .args in
+    let f : ℕ → ℤ = λ j. sincCoefficient j (a .ratio) (a .width) in
+    let call = c .tap-coefficient in
+    let v : ℤ = toZ w32 (ofZ w32 (call .result)) in
+    let value : v ≡ f (l .i) = toZ-ofZ {w = w32} (record { sfits = call .ok }) ∙ call .ensures in (
+      omega arith,
+      length-set (l .weights) (l .i) _ ∙ l .inv .1,
+      filled-turn (l .weights) (l .i) f v (omega (arith, l .inv .1)) (l .inv .2) value,
+    )
+
+returns : tie.Need-returns Inv-loop μ-loop
+returns c =
+    let l = c .before .loop in
+    let front : (i : ℕ) → 0 + i ≡ i = λ i. omega arith in
+    record {
+      room = omega (arith, l .inv .1);
+      value = λ i h. ap (λ (n : ℕ). getD (l .weights) n (pos 0)) (front i) ∙ l .inv .2 i (omega arith);
+    }
+
 pub coefficients-spec : {M : Type 1} → statement M
 coefficients-spec =
     tie.close
-    (tie.spec Inv-loop μ-loop div-reciprocal add-reciprocal mul-points mul-place mul-remainder sub-remainder loop-holds mul-find-sinc-coefficient
-    add-find-sinc-coefficient find-sinc-coefficient-requires mul-weights array-set-from-weights add-i loop-less loop-again returns)
+    (tie.spec Inv-loop μ-loop loop-holds tap-coefficient-requires mul-weights array-set-from-weights add-i loop-less loop-again returns)

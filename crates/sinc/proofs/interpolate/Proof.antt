@@ -13,26 +13,27 @@ use mir.Val.{SFits, toZ}
 use mir.Facts.{toZ-ofZ}
 use Rattle.laws.proofs.Widening.{widened-fits}
 use Rattle.sinc.specs.Sinc.{sincFilterPoints, weightedSum}
+use Rattle.sinc.specs.Weights.{weightedSample}
 use Rattle.sinc.proofs.Taps.{limit, Tap, weight-fits, product-fits, next-abs, sum-fits, sum-reads, held-is}
 use Rattle.sinc.proofs.interpolate.Statement.{statement}
 use Rattle.sinc.proofs.interpolate.Tie as tie
 
 -- ---- the invariant
 
--- the taps of a channel, the first at `from`; the weights
+-- the taps of a channel, the first at `from`; the weights, the first at `at`
 abbrev taps : List ℤ → ℕ → ℕ → ℕ → ℤ
 taps stage from channels i = getD stage (from + i * channels) (pos 0)
 
-abbrev values : List ℤ → ℕ → ℤ
-values weights i = getD weights i (pos 0)
+abbrev values : List ℤ → ℕ → ℕ → ℤ
+values weights at i = getD weights (at + i) (pos 0)
 
 abbrev Inv-loop : tie.InvT-loop
-Inv-loop stage channels weights f sum₀ i₀ sum i =
-    (i ≤ sincFilterPoints) × (toZ w64 sum ≡ weightedSum (taps stage f channels) (values weights) i)
-    × (natAbs (weightedSum (taps stage f channels) (values weights) i) ≤ limit i)
+Inv-loop stage channels weights at f sum₀ i₀ sum i =
+    (i ≤ sincFilterPoints) × (toZ w64 sum ≡ weightedSum (taps stage f channels) (values weights at) i)
+    × (natAbs (weightedSum (taps stage f channels) (values weights at) i) ≤ limit i)
 
 abbrev μ-loop : tie.MeasureT-loop
-μ-loop stage channels weights f sum₀ i₀ sum i = sincFilterPoints - i
+μ-loop stage channels weights at f sum₀ i₀ sum i = sincFilterPoints - i
 
 -- ---- places, and what is known there
 
@@ -45,7 +46,7 @@ module _ (c : tie.Start Inv-loop μ-loop) where
   taps-of = taps (c .args .stage .now) (c .args .from .0) (c .args .channels)
 
   abbrev values-of : ℕ → ℤ
-  values-of = values (c .args .weights .now)
+  values-of = values (c .args .weights .now) (c .args .at)
 
 -- the tap at i lies in the stage
 inside : (c : tie.In-loop Inv-loop μ-loop)
@@ -69,7 +70,7 @@ module _ (c : tie.After-weight Inv-loop μ-loop) where
       record {
         sample = sample-read (c .before);
         weight = record { sfits = c .weight .given };
-        small = start turn .pre .1 (turn .loop .i) (omega arith);
+        small = start turn .pre .1 .1 (turn .loop .i) (omega arith);
         early = omega arith;
         before = turn .loop .inv .2;
       }
@@ -112,6 +113,7 @@ loop-again : tie.Need-loop-again Inv-loop μ-loop
 loop-again c = (omega arith, rw (turn c .loop .inv .1) (sum-reads (tap c)), next-abs (tap c))
 
 returns : tie.Need-returns Inv-loop μ-loop
+unfolding weightedSample
 returns c =
     let l = ended c .loop in
     let s = start (ended c) in
@@ -123,11 +125,14 @@ returns c =
 
 -- ---- what search closes
 
+add-weight : tie.Need-add-weight Inv-loop μ-loop
+add-weight c = search needs
+
 mul-weight : tie.Need-mul-weight Inv-loop μ-loop
 mul-weight c = search needs
 
-element-copy-out-weight : tie.Need-element-copy-out-weight Inv-loop μ-loop
-element-copy-out-weight c = search needs
+shared-slice-copy-out-weight : tie.Need-shared-slice-copy-out-weight Inv-loop μ-loop
+shared-slice-copy-out-weight c = search needs
 
 add-i : tie.Need-add-i Inv-loop μ-loop
 add-i c = search needs
@@ -141,5 +146,5 @@ hold-requires c κs = search needs
 pub interpolate-spec : {M : Type 1} → statement M
 interpolate-spec =
     tie.close
-    (tie.spec Inv-loop μ-loop loop-holds mul-tap add-tap mul-tap-2 shared-slice-copy-out-tap cast-tap mul-weight element-copy-out-weight cast-weight
-    mul-sum add-sum add-i loop-less loop-again hold-requires returns)
+    (tie.spec Inv-loop μ-loop loop-holds mul-tap add-tap mul-tap-2 shared-slice-copy-out-tap cast-tap add-weight mul-weight shared-slice-copy-out-weight
+    cast-weight mul-sum add-sum add-i loop-less loop-again hold-requires returns)

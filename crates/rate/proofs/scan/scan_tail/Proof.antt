@@ -5,8 +5,9 @@ use mathlib.Core.Path.{_≡_, sym, ap, _∙_, subst}
 use mathlib.Core.Logic.{⊎-elim}
 use Prim.Native.Nat.{ℕ, _+_, _-_, _*_, _/_, _≤_, _<_, _^_}
 use native.Mathlib.Omega.{arith}
-use native.Mathlib.Nat.{mul-le-mul, mul-le-mul-right}
+use native.Mathlib.Nat.{mul-le-mul, mul-le-mul-left, mul-le-mul-right}
 use lib.ListN.{length, drop, length-drop}
+use lib.Seq.{paste}
 use Rattle.frames.specs.Framing.{framesOf}
 use Rattle.frames.proofs.Framing.{length-framesOf}
 use Rattle.frames.proofs.Room.{frames-le, samples-le, samples-over, count-le}
@@ -14,9 +15,10 @@ use Rattle.sinc.specs.Sinc.{sincFilterPoints}
 use Rattle.rate.specs.declared.Rates.{Rates}
 use Rattle.rate.specs.declared.Position.{Position}
 use Rattle.rate.specs.Halving.{maxHalvedRate}
-use Rattle.rate.specs.Tail.{due, next, interpolated}
+use Rattle.rate.specs.Tail.{due, next, interpolateWindow, interpolated}
 use Rattle.rate.specs.Conversion.{convert}
 use Rattle.rate.proofs.Positions.{Small, placed-small, steps-placed, ratio-lt, due-more, due-no-more, next-start, next-on}
+use Rattle.rate.proofs.Cycles.{cycle-le, phase-more, ratio-is, phase-lt}
 use Rattle.rate.proofs.Window.{window-is, length-interpolated}
 use Rattle.rate.proofs.Turns.{Scanning, scanning-start, scanning-turn, scanning-full, scan-done, Emitting, emitting-start, emitting-turn}
 use Rattle.rate.proofs.scan.scan_tail.Statement.{statement}
@@ -25,20 +27,20 @@ use Rattle.rate.proofs.scan.scan_tail.Tie as tie
 -- ---- invariants
 
 abbrev Inv-loop : tie.InvT-loop
-Inv-loop table stage channels output₀ t w room new-rate old-rate p n₀ made₀ j right output n made =
+Inv-loop table kept stage channels cycle output₀ t w room new-rate old-rate phases old-step reciprocal p n₀ made₀ j right end output n made =
     Emitting channels w (record { new = new-rate; old = old-rate }) (record { old = p; new = n₀ })
     (framesOf channels sincFilterPoints (drop (j * channels) stage)) output₀ output (framesOf channels made₀ (drop (w * channels) output₀)) made n
 
 abbrev μ-loop : tie.MeasureT-loop
-μ-loop table stage channels output₀ t w room new-rate old-rate p n₀ made₀ j right output n made = right - n * old-rate
+μ-loop table kept stage channels cycle output₀ t w room new-rate old-rate phases old-step reciprocal p n₀ made₀ j right end output n made = right - n * old-rate
 
 abbrev Inv-scan : tie.InvT-scan
-Inv-scan table stage channels output₀ t w room new-rate old-rate p₀ n₀ made₀ j₀ output p n made j =
+Inv-scan table kept stage channels cycle output₀ t w room new-rate old-rate phases old-step reciprocal p₀ n₀ made₀ j₀ output p n made j =
     (j ≤ t - sincFilterPoints) × Scanning channels w (record { new = new-rate; old = old-rate }) (record { old = p₀; new = n₀ })
     (framesOf channels t stage) output₀ output j made (record { old = p; new = n })
 
 abbrev μ-scan : tie.MeasureT-scan
-μ-scan table stage channels output₀ t w room new-rate old-rate p₀ n₀ made₀ j₀ output p n made j = t - j
+μ-scan table kept stage channels cycle output₀ t w room new-rate old-rate phases old-step reciprocal p₀ n₀ made₀ j₀ output p n made j = t - j
 
 -- ---- places, and what is known there
 
@@ -54,14 +56,14 @@ AtLoop = tie.At-loop Inv-loop μ-loop Inv-scan μ-scan
 -- at the scan: its frames, the position, the numbers there
 module _ (c : AtScan) where
   abbrev entry : AtEntry
-  entry = c .before .before .before
+  entry = c .before .before .before .before
 
   abbrev position : Position
   position = record { old = c .scan .p; new = c .scan .n }
 
   -- the frames that the output holds
-  counted : c .before .before .frames .result .0 ≡ length (entry .args .output .now) / entry .args .channels
-  counted = c .before .before .frames .ensures
+  counted : c .before .before .before .frames .result .0 ≡ length (entry .args .output .now) / entry .args .channels
+  counted = c .before .before .before .frames .ensures
 
   small : Small (entry .args .rates) position
   small =
@@ -121,13 +123,22 @@ module _ (c : tie.Else1 Inv-loop μ-loop Inv-scan μ-scan) where
       let more : place d + 1 ≤ whole d / begun d .args .channels = omega (arith, place-le d, waits-le d, counted (scanned d), c .if1 .left) in
       omega (arith, samples-le (begun d .args .channels) (place d + 1) (whole d) (begun d .pre .1 .some) more, long d)
 
+  -- some phases of the cycle lie ahead of it
+  phase-of : loop-of .loop .n * begun loop-of .args .cycle .old < (scanned loop-of .scan .p + 1) * begun loop-of .args .cycle .new
+  phase-of =
+      let s = begun loop-of in
+      phase-more (s .args .rates) (s .args .cycle) (s .pre .3) (scanned loop-of .scan .p) (loop-of .loop .n) (c .before .loop-test .taken)
+
   place-lt : place loop-of < whole loop-of
   place-lt =
       let d = loop-of in
       omega (arith, count-le (begun d .args .channels) (place d + 1) (begun d .pre .1 .some), room, long d)
 
+  made-fits : loop-of .loop .made + 1 < 2 ^ 64
+  made-fits = omega (arith, place-lt)
+
 -- no frame fits
-full : (d : AtLoop) → d .loop .made ≡ scanned d .before .before .frames .result .0 - begun d .args .waiting .0
+full : (d : AtLoop) → d .loop .made ≡ scanned d .before .before .before .frames .result .0 - begun d .args .waiting .0
     → length (d .loop .output) < place d * begun d .args .channels + begun d .args .channels
 full d e =
     let over : whole d / begun d .args .channels < place d + 1 = omega (arith, waits-le d, counted (scanned d)) in
@@ -158,7 +169,7 @@ sub-room c =
 
 scan-holds : tie.Need-scan-holds Inv-loop μ-loop Inv-scan μ-scan
 scan-holds c =
-    let s = c .before .before in
+    let s = c .before .before .before in
     let a = s .args in
     let l = framesOf (a .channels) (a .tail .0) (a .stage .now) in
     (omega arith, scanning-start (a .channels) (a .waiting .0) (a .rates) (a .at) l (a .output .now) (s .pre .1 .waits))
@@ -168,6 +179,15 @@ add-right c = record { fits = omega (arith, small (c .before) .below) }
 
 mul-right : tie.Need-mul-right Inv-loop μ-loop Inv-scan μ-scan
 mul-right c = record { fits = omega (arith, small (c .before) .right-most) }
+
+add-end : tie.Need-add-end Inv-loop μ-loop Inv-scan μ-scan
+add-end c = record { fits = omega (arith, small (c .before) .below) }
+
+mul-end : tie.Need-mul-end Inv-loop μ-loop Inv-scan μ-scan
+mul-end c =
+    let s = entry (c .before) in
+    let less = cycle-le (s .args .rates) (s .args .cycle) (s .pre .3) .0 in
+    record { fits = omega (arith, small (c .before) .right-most, mul-le-mul-left (c .before .scan .p + 1) less) }
 
 loop-holds : tie.Need-loop-holds Inv-loop μ-loop Inv-scan μ-scan
 unfolding emitting-start
@@ -180,11 +200,20 @@ loop-holds c =
 mul-loop : tie.Need-mul-loop Inv-loop μ-loop Inv-scan μ-scan
 mul-loop c = record { fits = product-fits c }
 
-add-ratio : tie.Need-add-ratio Inv-loop μ-loop Inv-scan μ-scan
-add-ratio c = record { fits = omega (arith, place-lt c) }
+add-phase : tie.Need-add-phase Inv-loop μ-loop Inv-scan μ-scan
+add-phase c = record { fits = omega (arith, place-lt c) }
 
-mul-ratio : tie.Need-mul-ratio Inv-loop μ-loop Inv-scan μ-scan
-mul-ratio c = record { fits = product-fits (loop-of c) }
+mul-phase : tie.Need-mul-phase Inv-loop μ-loop Inv-scan μ-scan
+mul-phase c =
+    let s = begun (loop-of c) in
+    let less = cycle-le (s .args .rates) (s .args .cycle) (s .pre .3) .1 in
+    record { fits = omega (arith, product-fits (loop-of c), mul-le-mul-left (loop-of c .loop .n) less) }
+
+sub-phase : tie.Need-sub-phase Inv-loop μ-loop Inv-scan μ-scan
+sub-phase c = omega (arith, phase-of c)
+
+sub-phase-2 : tie.Need-sub-phase-2 Inv-loop μ-loop Inv-scan μ-scan
+sub-phase-2 c = omega (arith, phase-of c)
 
 make-frame-requires : tie.Need-make-frame-requires Inv-loop μ-loop Inv-scan μ-scan
 make-frame-requires c κs =
@@ -193,11 +222,15 @@ make-frame-requires c κs =
     let l = scanned d .scan in
     let from : l .n ≤ d .loop .n = omega (arith, d .loop .inv .new) in
     let ratio = ratio-lt (s .args .rates) (l .p) (l .n) (d .loop .n) (small (scanned d) .passed) from (c .before .before .loop-test .taken) in
-    let taps = mul-le-mul-right (s .args .channels) (ahead d) in
-    ((s .pre .0, ratio, s .pre .2 .new-most), (omega (arith, taps, s .pre .1 .holds), room (c .before)))
+    let phase = phase-lt (s .args .rates) (s .args .cycle) (s .pre .3) (l .p) (d .loop .n) (c .before .before .loop-test .taken) ratio in
+    let narrow : s .args .cycle .step * s .args .cycle .new ≤ maxHalvedRate = omega (arith, s .pre .3 .new, s .pre .2 .new-most) in
+    let taps = mul-le-mul-right (s .args .channels) (ahead d) in (
+      (s .pre .0, s .pre .4, record { some = s .pre .3 .some; below = phase; narrow = narrow; parts = scanned d .before .reciprocal-of .ensures }),
+      (omega (arith, taps, s .pre .1 .holds), room (c .before)),
+    )
 
 add-made : tie.Need-add-made Inv-loop μ-loop Inv-scan μ-scan
-add-made c = record { fits = omega (arith, place-lt (made-at c)) }
+add-made c = record { fits = made-fits (made-at c) }
 
 add-n : tie.Need-add-n Inv-loop μ-loop Inv-scan μ-scan
 add-n c = record { fits = omega (arith, last (loop-of (made-at c))) }
@@ -212,10 +245,14 @@ loop-again c =
     let x = drop (scanned d .scan .j * a .channels) (a .stage .now) in
     let staged = mul-le-mul-right (a .channels) (ahead d) in
     let taps : a .channels ≤ length x = omega (arith, length-drop (scanned d .scan .j * a .channels) (a .stage .now), s .pre .1 .holds) in
-    emitting-turn b (c .before .make-frame .last .1 .1 .1 .1 .1 .1 .0) (more-due d (made-at c .before .loop-test .taken))
+    let more = made-at c .before .loop-test .taken in
+    let ratio = ratio-is (a .rates) (a .cycle) (s .pre .3) (scanned d .scan .p) (d .loop .n) more in
+    let frame = c .before .make-frame .ensures
+    ∙ (λ i. paste (d .loop .output) (place d * a .channels) (interpolateWindow (framesOf (a .channels) sincFilterPoints x) (ratio i) (s .pre .3 .new i))
+    (a .channels)) in
+    emitting-turn b (c .before .make-frame .last .1 .1 .1 .1 .1 .1 .1 .1 .0) (more-due d more)
     (omega (arith, room (made-at c), b .behind .long))
-    (length-interpolated (a .rates) (record { old = scanned d .scan .p; new = d .loop .n }) (a .channels) x taps)
-    (c .before .make-frame .ensures)
+    (length-interpolated (a .rates) (record { old = scanned d .scan .p; new = d .loop .n }) (a .channels) x taps) frame
 
 add-p : tie.Need-add-p Inv-loop μ-loop Inv-scan μ-scan
 add-p c = record { fits = omega (arith, small (scanned (c .before)) .below) }
@@ -257,8 +294,8 @@ returns c =
     rw (x .4) (scanning-full (l .inv .1) (x .1 .inv) window _ (more-due d (x .2 .taken)) (omega (arith, ahead d)) (full d (x .3 .taken))))
     (c .before .scan-test .came)
 
-sub-t23 : tie.Need-sub-t23 Inv-loop μ-loop Inv-scan μ-scan
-sub-t23 c = omega (arith, c .before .before .scan .inv .0)
+sub-t29 : tie.Need-sub-t29 Inv-loop μ-loop Inv-scan μ-scan
+sub-t29 c = omega (arith, c .before .before .scan .inv .0)
 
 same-length-2 : tie.Need-same-length-2 Inv-loop μ-loop Inv-scan μ-scan
 same-length-2 c = left-long (c .before)
@@ -278,14 +315,11 @@ returns-2 c =
 frames-requires : tie.Need-frames-requires Inv-loop μ-loop Inv-scan μ-scan
 frames-requires c κs = search needs
 
+reciprocal-of-requires : tie.Need-reciprocal-of-requires Inv-loop μ-loop Inv-scan μ-scan
+reciprocal-of-requires c κs = search needs
+
 add-scan : tie.Need-add-scan Inv-loop μ-loop Inv-scan μ-scan
 add-scan c = search needs
-
-sub-ratio : tie.Need-sub-ratio Inv-loop μ-loop Inv-scan μ-scan
-sub-ratio c = search needs
-
-sub-ratio-2 : tie.Need-sub-ratio-2 Inv-loop μ-loop Inv-scan μ-scan
-sub-ratio-2 c = search needs
 
 loop-less : tie.Need-loop-less Inv-loop μ-loop Inv-scan μ-scan
 loop-less c = search needs
@@ -302,6 +336,6 @@ add-if3 c = search needs
 pub scan-tail-spec : {M : Type 1} → statement M
 scan-tail-spec =
     tie.close
-    (tie.spec Inv-loop μ-loop Inv-scan μ-scan frames-requires sub-room scan-holds add-scan add-right mul-right loop-holds mul-loop add-ratio mul-ratio sub-ratio
-    sub-ratio-2 make-frame-requires add-made add-n loop-less loop-again add-p add-j scan-less scan-again add-if3 same-length returns sub-t23 same-length-2
-    returns-2)
+    (tie.spec Inv-loop μ-loop Inv-scan μ-scan frames-requires sub-room reciprocal-of-requires scan-holds add-scan add-right mul-right add-end mul-end
+    loop-holds mul-loop add-phase mul-phase sub-phase sub-phase-2 make-frame-requires add-made add-n loop-less loop-again add-p add-j scan-less scan-again
+    add-if3 same-length returns sub-t29 same-length-2 returns-2)
