@@ -12,13 +12,16 @@ use reels::reel::first_held;
 use reels::state::RunState;
 use reels::state::count_stall;
 ghost use mathlib.Core.Path.{_≡_};
+ghost use mathlib.Core.List.{map};
 ghost use Prim.Native.Nat.{_+_, _-_, _*_, _/_, _%_, _^_, _≤_, _<_};
 ghost use lib.ListN.{length};
 ghost use Rattle.frames.specs.Areas.{areas};
+ghost use Rattle.floats.specs.Write.{sampleOut};
 ghost use Rattle.adding.specs.Calls.{writeCall, OrderAfter};
-ghost use Rattle.plans.specs.Plans.{blockSamples, blockBytes, Usable};
+ghost use Rattle.plans.specs.Plans.{outputArea, blockSamples, blockBytes, Usable};
 ghost use Rattle.serving.specs.Steady.{AreasSized};
 ghost use Rattle.reels.specs.Serving.{Serving};
+ghost use Rattle.reels.specs.Reels.{Drained};
 ghost use Rattle.blocks.specs.Blocks.{WriteAnswered, NoneWaits, BlockWritten, Turned};
 
 // Where a write that begins at `at` ends: it fills the input up to the plan's `full` frames, or takes all that is left.
@@ -40,7 +43,7 @@ fn write_end(at: usize, len: usize, held: Frames, plan: Plan) -> usize
 // One write.
 fn write(
     reel: Reel,
-    samples: &[f32],
+    samples: &[i16],
     channels: usize,
     input: &mut [i16],
     stage: &mut [i16],
@@ -49,12 +52,12 @@ fn write(
 ) -> Reel
     requires { ⌜ (1 ≤ channels) × (reel .stream .channels ≡ channels) × (length (now samples) % channels ≡ 0) ⌝ }
     ensures { λ r. ⌜ WriteAnswered ((reel .written + length (now (samples .entry)) / channels) % 2 ^ 64) reel
-        (writeCall (reel .stream) (now (samples .entry))
+        (writeCall (reel .stream) (map sampleOut (now (samples .entry)))
         (areas (now (input .entry)) (now (stage .entry)) (now (output .entry)) (now (scratch .entry))) .answer) r ⌝ }
-    ensures { λ _. ⌜ OrderAfter (writeCall (reel .stream) (now (samples .entry))
+    ensures { λ _. ⌜ OrderAfter (writeCall (reel .stream) (map sampleOut (now (samples .entry)))
         (areas (now (input .entry)) (now (stage .entry)) (now (output .entry)) (now (scratch .entry))) .answer) ⌝ }
 {
-    let answer = sonic::write_f32(reel.stream, samples, input, stage, output, scratch);
+    let answer = sonic::write_i16(reel.stream, samples, input, stage, output, scratch);
     let n = Samples(samples.len()).frames(channels);
     let place = first_held(reel.written, reel.stream.held.0 as u64);
     let stalls = count_stall(reel.stalls, place, answer);
@@ -66,11 +69,30 @@ fn write(
     after
 }
 
+// Writes out the frames waiting, if there are as many as `few`. The test stands before the call, since a reel that is
+// handed on and back is copied.
+fn drain_full(
+    reel: Reel,
+    few: usize,
+    output: &mut [i16],
+    values: &mut [f32],
+    bytes: &mut [u8],
+) -> Reel
+    requires { ⌜ (1 ≤ few) × (32 ≤ length (now values)) × (2 * length (now values) ≤ length (now bytes))
+        × (outputArea ≡ length (now output)) ⌝ }
+    ensures { λ r. ⌜ Drained few reel r ⌝ }
+{
+    if reel.stream.waiting.0 < few {
+        return reel;
+    }
+    reel.drain(few, output, values, bytes)
+}
+
 // Writes a block to the stream, and writes out what that makes. Between its writes fewer frames wait than a block
 // holds.
 fn write_block(
     mut reel: Reel,
-    block: &[f32],
+    block: &[i16],
     plan: Plan,
     input: &mut [i16],
     stage: &mut [i16],
@@ -99,7 +121,7 @@ fn write_block(
             scratch,
         );
         reel = maps::put_ended(reel, last, plan);
-        reel = reel.drain(few, output, values, bytes);
+        reel = drain_full(reel, few, output, values, bytes);
         at = end;
     }
     reel.drain(1, output, values, bytes)
@@ -113,7 +135,7 @@ pub fn turn(
     stage: &mut [i16],
     output: &mut [i16],
     scratch: &mut [i16],
-    block: &mut [f32],
+    block: &mut [i16],
     values: &mut [f32],
     bytes: &mut [u8],
 ) -> Reel

@@ -16,7 +16,7 @@ pub fn skim(reel: Reel, plan: Plan) -> Reel
     let mut stage = [0i16; plans::STAGE_AREA];
     let mut output = [0i16; plans::OUTPUT_AREA];
     let mut scratch = [0i16; plans::SCRATCH_AREA];
-    let mut block = [0f32; BLOCK_SAMPLES];
+    let mut block = [0i16; BLOCK_SAMPLES];
     let mut values = [0f32; BLOCK_SAMPLES];
     let mut bytes = [0u8; BLOCK_BYTES];
     running::run(

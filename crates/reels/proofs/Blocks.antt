@@ -11,7 +11,7 @@ use Prim.Native.Nat.{ℕ, _+_, _-_, _*_, _/_, _%_, _^_, _≤_}
 use native.Mathlib.Nat.{add-assoc, add-comm, mul-assoc, mul-comm, min-eq-left, le-div-iff-mul-le}
 use native.Mathlib.Nat.{div-add-mod', div-mul-le-self, mod-add-mod, mul-add-div-right, mul-add-mod-self-right, mul-mod-left}
 use native.Mathlib.Omega.{arith}
-use lib.Ieee.{Float}
+use lib.IntN.{ℤ}
 use lib.ListN.{length, take, drop, length-take, length-drop}
 use Rattle.plans.specs.Plans.{blockSamples}
 
@@ -45,21 +45,21 @@ counted w n k after e =
 pub few-least : (ch : ℕ) → 1 ≤ ch → ch ≤ 32 → 1 ≤ blockSamples / ch
 few-least ch low high = le-div-iff-mul-le {k = ch} {x = 1} {y = blockSamples} low .1 (omega arith)
 
-pub write-length : (block : List Float) (at end : ℕ) → at ≤ end → end ≤ length block → length (take (end - at) (drop at block)) ≡ end - at
+pub write-length : (block : List ℤ) (at end : ℕ) → at ≤ end → end ≤ length block → length (take (end - at) (drop at block)) ≡ end - at
 write-length block at end h l = length-take (end - at) (drop at block) ∙ min-eq-left {n = end - at} (omega (arith, length-drop at block))
 
 -- the frames up to `at`, and those of the write from there to `end`
-pub write-frames : (block : List Float) (at end : ℕ) {ch : ℕ} → 1 ≤ ch → at ≤ end → end ≤ length block → at % ch ≡ 0
+pub write-frames : (block : List ℤ) (at end : ℕ) {ch : ℕ} → 1 ≤ ch → at ≤ end → end ≤ length block → at % ch ≡ 0
     → at / ch + length (take (end - at) (drop at block)) / ch ≡ end / ch
 write-frames block at end {ch} c h l e =
     ap (λ (k : ℕ). at / ch + k / ch) (write-length block at end h l) ∙ joined-frames at end ch c h e
 
 -- the samples of a part from the front
-pub front-length : (block : List Float) (n : ℕ) → n ≤ length block → length (take n block) ≡ n
+pub front-length : (block : List ℤ) (n : ℕ) → n ≤ length block → length (take n block) ≡ n
 front-length block n h = length-take n block ∙ min-eq-left h
 
 -- a write from the end of a frame to the end of a frame is of whole frames
-pub write-whole : (block : List Float) (at end ch : ℕ) → at ≤ end → end ≤ length block → at % ch ≡ 0 → end % ch ≡ 0
+pub write-whole : (block : List ℤ) (at end ch : ℕ) → at ≤ end → end ≤ length block → at % ch ≡ 0 → end % ch ≡ 0
     → length (take (end - at) (drop at block)) % ch ≡ 0
 write-whole block at end ch h l a e =
     let n = at / ch in

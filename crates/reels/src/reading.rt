@@ -37,7 +37,7 @@ fn count(mut reel: Reel, filled: BlockBytes, plan: Plan) -> Reel
 }
 
 // Reads a block. Of a WAVE file no more is read than its data chunk has.
-pub fn read_block(reel: Reel, plan: Plan, block: &mut [f32], bytes: &mut [u8]) -> BlockRead
+pub fn read_block(reel: Reel, plan: Plan, block: &mut [i16], bytes: &mut [u8]) -> BlockRead
     requires { ⌜ Usable plan × (reel .partial ≡ 0) × (blockSamples ≡ length (now block))
         × (blockBytes ≡ length (now bytes)) ⌝ }
     ensures { λ r. ⌜ (r .samples ≤ length (now (block .exit))) × BlockReadAs plan reel (now (bytes .exit)) r

@@ -18,7 +18,7 @@ pub fn run(
     stage: &mut [i16],
     output: &mut [i16],
     scratch: &mut [i16],
-    block: &mut [f32],
+    block: &mut [i16],
     values: &mut [f32],
     bytes: &mut [u8],
 ) -> Reel

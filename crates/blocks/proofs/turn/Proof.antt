@@ -14,15 +14,15 @@ use Rattle.blocks.proofs.turn.Tie as tie
 -- ---- the places: after the block was read, and written
 
 abbrev start : tie.After-read-block → tie.Start
-start c = c .before .before .before .before .before .before
+start c = c .before .before .before .before .before
 
 abbrev after-read : tie.After-write-block-arg → tie.After-read-block
-after-read c = c .before .before .before .before .before
+after-read c = c .before .before .before .before
 
 abbrev read-before : tie.After-write-block-arg7 → tie.After-read-block
 read-before c = after-read (c .before .before .before .before .before .before)
 
-abbrev after-write : tie.After-slice-known7 → tie.After-write-block
+abbrev after-write : tie.After-slice-known5 → tie.After-write-block
 after-write c = c .before .before .before .before .before .before .before .before
 
 -- ---- the needs

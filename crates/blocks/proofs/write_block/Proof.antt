@@ -2,14 +2,16 @@
 use borrow.Author.Needs.{needs}
 use mathlib.Core.Path.{_≡_, refl, sym, ap, _∙_, subst}
 use mathlib.Core.Bool.{true}
-use mathlib.Core.List.{List}
+use mathlib.Core.List.{List, map}
 use mathlib.Core.Logic.{⊎-elim}
 use Prim.Native.Nat.{ℕ, _+_, _-_, _*_, _/_, _%_, _^_, _≤_, _<_}
 use native.Mathlib.Nat.{zero-div, zero-mod}
 use native.Mathlib.Omega.{arith}
+use lib.IntN.{ℤ}
 use lib.Ieee.{Float}
-use lib.ListN.{length, take, drop}
+use lib.ListN.{length, take, drop, length-map}
 use Rattle.frames.specs.Areas.{Areas, areas}
+use Rattle.floats.specs.Write.{sampleOut}
 use Rattle.adding.specs.Calls.{writeCall}
 use Rattle.reels.specs.Reels.{takesMore}
 use Rattle.plans.specs.Plans.{blockSamples}
@@ -28,7 +30,7 @@ use Rattle.blocks.proofs.write_block.Tie as tie
 
 module _ {I : tie.InvT-loop} {μ : tie.MeasureT-loop} where
   abbrev start : tie.At-loop I μ → tie.Start I μ
-  start l = l .before .before .before .before .before
+  start l = l .before .before .before .before
 
   abbrev turn-loop : tie.Then1 I μ → tie.At-loop I μ
   turn-loop c = c .before .before .before
@@ -36,7 +38,7 @@ module _ {I : tie.InvT-loop} {μ : tie.MeasureT-loop} where
   abbrev after-end : tie.After-write-arg5 I μ → tie.After-write-end I μ
   after-end c = c .before .before .before .before .before .before
 
-  abbrev after-put : tie.After-drain-arg3 I μ → tie.After-put-ended I μ
+  abbrev after-put : tie.After-drain-full-arg3 I μ → tie.After-put-ended I μ
   after-put c = c .before .before .before
 
   abbrev written : tie.After-scratch I μ → tie.After-write I μ
@@ -45,13 +47,13 @@ module _ {I : tie.InvT-loop} {μ : tie.MeasureT-loop} where
   abbrev after-write : tie.After-put-ended I μ → tie.After-write I μ
   after-write c = written (c .before)
 
-  abbrev after-drain : tie.After-slice-known4 I μ → tie.After-drain I μ
+  abbrev after-drain : tie.After-slice-known4 I μ → tie.After-drain-full I μ
   after-drain c = c .before .before .before .before .before
 
-  abbrev last-drain : tie.After-slice-known6 I μ → tie.After-drain2 I μ
+  abbrev last-drain : tie.After-slice-known6 I μ → tie.After-drain I μ
   last-drain c = c .before .before .before .before .before
 
-  abbrev left-loop : tie.After-drain-arg6 I μ → tie.Left-loop I μ
+  abbrev left-loop : tie.After-drain-arg3 I μ → tie.Left-loop I μ
   left-loop c = c .before .before .before
 
 -- ---- the invariant: the place in the block, the lengths, and what was written
@@ -67,7 +69,7 @@ abbrev μ-loop : tie.MeasureT-loop
 
 loop-holds : tie.Need-loop-holds Inv-loop μ-loop
 loop-holds c =
-    let s = c .before .before .before .before in
+    let s = c .before .before .before in
     let channels = s .args .plan .channels in
     let fits : s .args .reel .written < 2 ^ 64 = omega (arith, s .good .0) in (
       omega arith,
@@ -83,7 +85,7 @@ loop-holds c =
     )
 
 frames-requires : tie.Need-frames-requires Inv-loop μ-loop
-frames-requires c κs = c .before .before .before .pre .0 .0 .limits .channels-low
+frames-requires c κs = c .before .before .pre .0 .0 .limits .channels-low
 
 write-end-requires : tie.Need-write-end-requires Inv-loop μ-loop
 write-end-requires c κs =
@@ -118,8 +120,8 @@ roomy l =
 put-ended-requires : tie.Need-put-ended-requires Inv-loop μ-loop
 put-ended-requires c κs = start (turn-loop (after-end (written c .before) .before)) .pre .0 .0 .limits
 
-drain-requires : tie.Need-drain-requires Inv-loop μ-loop
-drain-requires c κs =
+drain-full-requires : tie.Need-drain-full-requires Inv-loop μ-loop
+drain-full-requires c κs =
     let w = after-write (after-put c) in
     let l = turn-loop (after-end (w .before) .before) in
     let u = start l .pre .0 .0 .limits in
@@ -144,9 +146,10 @@ loop-again c =
     let at = l .loop .at in
     let channels-low = s .pre .0 .0 .limits .channels-low in
     let lent : Areas = areas (l .loop .input) (l .loop .stage) (l .loop .output) (l .loop .scratch) in
-    let samples : List Float = take (end .result - at) (drop at (s .args .block .now)) in
+    let samples : List ℤ = take (end .result - at) (drop at (s .args .block .now)) in
+    let values : List Float = map sampleOut samples in
     let done = w .write .ensures in
-    let same = write-keeps (l .loop .reel .stream) samples lent (done .0 .stream-is) in
+    let same = write-keeps (l .loop .reel .stream) values lent (done .0 .stream-is) in
     let before : at ≤ end .result = omega (arith, end .ensures .0) in
     let frames = write-frames (s .args .block .now) at (end .result) channels-low before (end .ensures .1) (inv .7) in
     let goes = sym (e .before .before .takes-more .ensures) ∙ e .before .if1 .taken in
@@ -154,24 +157,25 @@ loop-again c =
     let ch = s .args .plan .channels in
     let few : r .stream .waiting .0 ≤ blockSamples / ch =
     omega (arith, inv .9 (takes-sound (s .args .plan) (r .stream .held .0) (r .state) goes), l .before .frames .ensures) in
-    let within : r .stream .held .0 + length samples / ch ≤ s .args .plan .limit =
-    subst (λ (k : ℕ). r .stream .held .0 + k / ch ≤ s .args .plan .limit) (sym (write-length (s .args .block .now) at (end .result) before (end .ensures .1))) (end .ensures .3) in
-    let serving = write-serving (s .args .plan) r (w .write .result) samples lent _ (roomy l .2) few within goes (inv .8 .serving) (done .1) (done .0) in (
+    let long = length-map samples sampleOut ∙ write-length (s .args .block .now) at (end .result) before (end .ensures .1) in
+    let within : r .stream .held .0 + length values / ch ≤ s .args .plan .limit =
+    subst (λ (k : ℕ). r .stream .held .0 + k / ch ≤ s .args .plan .limit) (sym long) (end .ensures .3) in
+    let serving = write-serving (s .args .plan) r (w .write .result) values lent _ (roomy l .2) few within goes (inv .8 .serving) (done .1) (done .0) in (
       end .ensures .1,
       omega (arith, w .write .kept .1 .1 .1 .0, inv .1),
       omega (arith, w .write .kept .1 .1 .1 .1 .0, inv .2),
-      omega (arith, d .drain .kept .1 .1 .0, w .write .kept .1 .1 .1 .1 .1 .0, inv .3),
+      omega (arith, d .drain-full .kept .1 .1 .0, w .write .kept .1 .1 .1 .1 .1 .0, inv .3),
       omega (arith, w .write .kept .1 .1 .1 .1 .1 .1 .0, inv .4),
-      omega (arith, d .drain .kept .1 .1 .1 .0, inv .5),
-      omega (arith, d .drain .kept .1 .1 .1 .1 .0, inv .6),
+      omega (arith, d .drain-full .kept .1 .1 .1 .0, inv .5),
+      omega (arith, d .drain-full .kept .1 .1 .1 .1 .0, inv .6),
       end .ensures .2,
-      part-more {answer = writeCall (l .loop .reel .stream) samples lent .answer} _ _ _ frames goes (inv .8) (done .0) same
-          serving (p .put-ended .ensures) (d .drain .ensures .out),
-      λ x. omega (arith, d .drain .ensures .fewer x),
+      part-more {answer = writeCall (l .loop .reel .stream) values lent .answer} _ _ _ frames goes (inv .8) (done .0) same
+          serving (p .put-ended .ensures) (d .drain-full .ensures .out),
+      λ x. omega (arith, d .drain-full .ensures .fewer x),
     )
 
-drain-requires-2 : tie.Need-drain-requires-2 Inv-loop μ-loop
-drain-requires-2 c κs = let r = roomy (left-loop c .before) in (omega arith, r .0, r .1, sym (r .2 .output))
+drain-requires : tie.Need-drain-requires Inv-loop μ-loop
+drain-requires c κs = let r = roomy (left-loop c .before) in (omega arith, r .0, r .1, sym (r .2 .output))
 
 returns : tie.Need-returns Inv-loop μ-loop
 returns c =
@@ -184,7 +188,7 @@ returns c =
     λ g. ⊎-elim (λ w. absurd (failed-once g (sym (w .1 .ensures) ∙ w .2 .left)))
     (λ w. let same : l .loop .at ≡ length (a .block .now) = omega (arith, l .loop .inv .0) in ap (λ (k : ℕ). k / channels) same)
     (left .loop-test .came) in
-    part-end _ _ _ all (omega arith) (l .loop .inv .8) (d .drain2 .ensures)
+    part-end _ _ _ all (omega arith) (l .loop .inv .8) (d .drain .ensures)
 
 -- ---- what search closes
 
@@ -210,41 +214,20 @@ same-length-2 : tie.Need-same-length-2 Inv-loop μ-loop
 same-length-2 c = let d = last-drain c in omega (arith, left-loop (d .before) .before .loop .inv .2)
 
 same-length-3 : tie.Need-same-length-3 Inv-loop μ-loop
-same-length-3 c = let d = last-drain c in omega (arith, d .drain2 .kept .1 .1 .0, left-loop (d .before) .before .loop .inv .3)
+same-length-3 c = let d = last-drain c in omega (arith, d .drain .kept .1 .1 .0, left-loop (d .before) .before .loop .inv .3)
 
 same-length-4 : tie.Need-same-length-4 Inv-loop μ-loop
 same-length-4 c = let d = last-drain c in omega (arith, left-loop (d .before) .before .loop .inv .4)
 
 same-length-5 : tie.Need-same-length-5 Inv-loop μ-loop
-same-length-5 c = let d = last-drain c in omega (arith, d .drain2 .kept .1 .1 .1 .0, left-loop (d .before) .before .loop .inv .5)
+same-length-5 c = let d = last-drain c in omega (arith, d .drain .kept .1 .1 .1 .0, left-loop (d .before) .before .loop .inv .5)
 
 same-length-6 : tie.Need-same-length-6 Inv-loop μ-loop
-same-length-6 c = let d = last-drain c in omega (arith, d .drain2 .kept .1 .1 .1 .1 .0, left-loop (d .before) .before .loop .inv .6)
+same-length-6 c = let d = last-drain c in omega (arith, d .drain .kept .1 .1 .1 .1 .0, left-loop (d .before) .before .loop .inv .6)
 
 pub write-block-spec : {M : Type 1} → statement M
 write-block-spec =
     tie.close
-    (tie.spec
-    Inv-loop
-    μ-loop
-    frames-requires
-    loop-holds
-    takes-more-requires
-    write-end-requires
-    mul-write
-    sub-write
-    part-write-start
-    part-write-end
-    write-requires
-    put-ended-requires
-    drain-requires
-    loop-less
-    loop-again
-    drain-requires-2
-    same-length
-    same-length-2
-    same-length-3
-    same-length-4
-    same-length-5
-    same-length-6
-    returns)
+    (tie.spec Inv-loop μ-loop frames-requires loop-holds takes-more-requires write-end-requires mul-write sub-write part-write-start part-write-end
+    write-requires put-ended-requires drain-full-requires loop-less loop-again drain-requires same-length same-length-2 same-length-3 same-length-4
+    same-length-5 same-length-6 returns)

@@ -36,7 +36,7 @@ slice-aggregate-run-4 : tie.Need-slice-aggregate-run-4
 slice-aggregate-run-4 c = samples-length scratchArea
 
 slice-aggregate-run-5 : tie.Need-slice-aggregate-run-5
-slice-aggregate-run-5 c = values-length zero
+slice-aggregate-run-5 c = samples-length blockSamples
 
 slice-aggregate-run-6 : tie.Need-slice-aggregate-run-6
 slice-aggregate-run-6 c = values-length zero
@@ -53,7 +53,7 @@ run-requires c κs =
     let scratch = slice-aggregate-run-4 (c .before .before .before) in (
       c .before .before .before .before .before .before .before .pre,
       (
-        values-length zero,
+        samples-length blockSamples,
         values-length zero,
         bytes-length,
         record { input = sym input; stage = sym stage; output = sym output; scratch = sym scratch },

@@ -13,15 +13,15 @@ use Rattle.running.proofs.run.Tie as tie
 
 module _ {I : tie.InvT-loop} {μ : tie.MeasureT-loop} where
   abbrev start : tie.At-loop I μ → tie.Start I μ
-  start l = l .before .before .before .before
+  start l = l .before .before .before
 
-  abbrev after-turns : tie.After-slice-known6 I μ → tie.After-turns I μ
-  after-turns c = c .before .before .before .before .before .before .before .before .before .before
+  abbrev after-turns : tie.After-slice-known4 I μ → tie.After-turns I μ
+  after-turns c = c .before .before .before .before .before .before .before .before .before
 
   abbrev turns-loop : tie.After-turns I μ → tie.At-loop I μ
   turns-loop c = c .before .before .before .before .before .before .before .before .before .before .before
 
-  abbrev ended : tie.After-slice-known8 I μ → tie.After-finish I μ
+  abbrev ended : tie.After-slice-known6 I μ → tie.After-finish I μ
   ended c = c .before .before .before .before .before .before .before .before
 
   abbrev left-loop : tie.After-finish-arg6 I μ → tie.At-loop I μ
@@ -46,7 +46,7 @@ sized l =
     record { input = inv .0 ∙ z .input; stage = inv .1 ∙ z .stage; output = inv .2 ∙ z .output; scratch = inv .3 ∙ z .scratch }
 
 loop-holds : tie.Need-loop-holds Inv-loop μ-loop
-loop-holds c = (refl, refl, refl, refl, refl, refl, refl, c .before .before .before .pre .0 .1)
+loop-holds c = (refl, refl, refl, refl, refl, refl, refl, c .before .before .pre .0 .1)
 
 turns-requires : tie.Need-turns-requires Inv-loop μ-loop
 turns-requires c κs =

@@ -18,7 +18,7 @@ use Rattle.skimming.proofs.turns.Tie as tie
 
 module _ {I : tie.InvT-loop} {μ : tie.MeasureT-loop} where
   abbrev start : tie.At-loop I μ → tie.Start I μ
-  start l = l .before .before .before .before
+  start l = l .before .before .before
 
   abbrev unended : tie.After-turn-arg7 I μ → tie.Then1 I μ
   unended c = c .before .before .before .before .before .before .before
@@ -26,8 +26,8 @@ module _ {I : tie.InvT-loop} {μ : tie.MeasureT-loop} where
   abbrev turn-loop : tie.After-turn-arg7 I μ → tie.At-loop I μ
   turn-loop c = unended c .before .before .before
 
-  abbrev after-turn : tie.After-slice-known6 I μ → tie.After-turn I μ
-  after-turn c = c .before .before .before .before .before .before .before .before .before .before
+  abbrev after-turn : tie.After-slice-known4 I μ → tie.After-turn I μ
+  after-turn c = c .before .before .before .before .before .before .before .before .before
 
 -- ---- the invariant: the lengths and what the turns keep
 
@@ -41,7 +41,7 @@ abbrev μ-loop : tie.MeasureT-loop
     turns
 
 loop-holds : tie.Need-loop-holds Inv-loop μ-loop
-loop-holds c = (refl, refl, refl, refl, refl, refl, refl, c .before .before .before .pre .0 .1)
+loop-holds c = (refl, refl, refl, refl, refl, refl, refl, c .before .before .pre .0 .1)
 
 reads-more-requires : tie.Need-reads-more-requires Inv-loop μ-loop
 reads-more-requires c κs = search needs

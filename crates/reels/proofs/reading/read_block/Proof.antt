@@ -19,7 +19,7 @@ abbrev after-block : tie.After-fill → tie.After-block
 after-block c = c .before .before
 
 abbrev start : tie.After-fill → tie.Start
-start c = after-block c .before .before .before .before .before
+start c = after-block c .before .before .before .before
 
 abbrev after-fill : tie.After-samples → tie.After-fill
 after-fill c = c .before .before .before .before
@@ -28,13 +28,13 @@ abbrev after-samples : tie.After-decode-arg2 → tie.After-samples
 after-samples c = c .before .before
 
 abbrev after-decode : tie.After-count → tie.After-decode
-after-decode c = c .before .before .before
+after-decode c = c .before .before
 
 -- ---- the samples of whole frames
 
 size-fits : (c : tie.After-block) → c .block .result ≤ blockBytes
 size-fits c =
-    let s = c .before .before .before .before .before in
+    let s = c .before .before .before .before in
     let a = s .args in
     omega (arith, c .block .ensures, block-most (a .reel .source) (2 * a .plan .block))
 
@@ -53,11 +53,11 @@ few c =
     )
 
 slice-relend-prefix-fill : tie.Need-slice-relend-prefix-fill
-slice-relend-prefix-fill c = omega (arith, size-fits c, c .before .before .before .before .before .pre .3)
+slice-relend-prefix-fill c = omega (arith, size-fits c, c .before .before .before .before .pre .3)
 
 slice-aggregate-fill : tie.Need-slice-aggregate-fill
 slice-aggregate-fill c =
-    simp length-take (omega (arith, size-fits (c .before), c .before .before .before .before .before .before .pre .3))
+    simp length-take (omega (arith, size-fits (c .before), c .before .before .before .before .before .pre .3))
 
 samples-requires : tie.Need-samples-requires
 samples-requires c κs = omega (arith, few (c .before .before .before))
