@@ -58,9 +58,6 @@ euclid-end r a b h z =
 pub by-one : (r : Rates) → CycleOf r (by r 1)
 by-one r = record { some = omega arith; new = omega arith; old = omega arith; few = λ h. absurd (omega arith) }
 
-pub one-step : (r : Rates) → CycleOf r (record { step = 1; new = r .new; old = r .old })
-one-step r = record { some = omega arith; new = omega arith; old = omega arith; few = λ h. absurd (omega arith) }
-
 -- ---- the phase of the frame n at the position p: (p + 1)·new − n·old − 1
 
 -- neither exceeds its rate

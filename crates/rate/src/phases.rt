@@ -35,25 +35,35 @@ fn common_step(rates: Rates) -> usize
     a
 }
 
+// The cycle whose phases are the ratios themselves: nothing is kept.
+fn every_ratio(rates: Rates) -> Cycle
+    ensures { λ r. ⌜ CycleOf rates r ⌝ }
+{
+    Cycle {
+        step: 1,
+        new: rates.new,
+        old: rates.old,
+    }
+}
+
 // The cycle of a call that scans a tail of this many frames. Its step is 1, so that no coefficients are kept, unless
-// the scan comes to each phase twice.
+// the scan comes to each phase twice. One that consumes a single frame does not, and takes no division.
 pub(crate) fn cycle_of(rates: Rates, tail: Frames) -> Cycle
     requires { ⌜ (rates .new ≤ maxHalvedRate) × (1 ≤ rates .old) × (rates .old ≤ maxHalvedRate) ⌝ }
     ensures { λ r. ⌜ CycleOf rates r ⌝ }
 {
     let t = tail.0;
+    if t < 2 + SINC_FILTER_POINTS {
+        return every_ratio(rates);
+    }
     let step = common_step(rates);
     let old = rates.old / step;
-    if 2 * old + SINC_FILTER_POINTS <= t {
-        return Cycle {
-            step,
-            new: rates.new / step,
-            old,
-        };
+    if t < 2 * old + SINC_FILTER_POINTS {
+        return every_ratio(rates);
     }
     Cycle {
-        step: 1,
-        new: rates.new,
-        old: rates.old,
+        step,
+        new: rates.new / step,
+        old,
     }
 }
