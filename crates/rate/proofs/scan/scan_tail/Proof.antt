@@ -141,7 +141,9 @@ module _ (c : tie.Else1 Inv-loop μ-loop Inv-scan μ-scan) where
   placed f = paste (loop-of .loop .output) (place loop-of * begun loop-of .args .channels) f (begun loop-of .args .channels)
 
   abbrev window : List Frame
-  window = framesOf (begun loop-of .args .channels) sincFilterPoints (drop (scanned loop-of .scan .j * begun loop-of .args .channels) (begun loop-of .args .stage .now))
+  window =
+      framesOf (begun loop-of .args .channels) sincFilterPoints
+      (drop (scanned loop-of .scan .j * begun loop-of .args .channels) (begun loop-of .args .stage .now))
 
   abbrev phase : ℕ
   phase = (scanned loop-of .scan .p + 1) * begun loop-of .args .cycle .new - loop-of .loop .n * begun loop-of .args .cycle .old - 1
