@@ -11,12 +11,24 @@ keep-phases-requires c κs =
     let e = d .cycle-of .ensures in
     (s .pre .0, e .some, omega (arith, e .new, s .pre .2 .new-most), omega (arith, e .few (c .before .if1 .taken)))
 
+scan-tail-requires : tie.Need-scan-tail-requires
+scan-tail-requires c κs =
+    let d = c .before .before .before .before .before .before .before in
+    let s = d .before in
+    (s .pre .0, s .pre .1, s .pre .2, d .cycle-of .ensures, λ _. c .before .before .before .keep-phases .ensures)
+
+returns : tie.Need-returns
+returns c = c .before .scan-tail .ensures
+
 -- nothing is kept
 scan-tail-requires-2 : tie.Need-scan-tail-requires-2
 scan-tail-requires-2 c κs =
     let d = c .before .before .before .before in
     let s = d .before in
     (s .pre .0, s .pre .1, s .pre .2, d .cycle-of .ensures, λ h. absurd (omega (arith, c .before .before .if1 .left)))
+
+returns-2 : tie.Need-returns-2
+returns-2 c = c .before .scan-tail2 .ensures
 
 -- ---- what search closes
 
@@ -29,23 +41,14 @@ slice-aggregate-keep-phases c = search needs
 slice-aggregate-scan-tail : tie.Need-slice-aggregate-scan-tail
 slice-aggregate-scan-tail c = search needs
 
-scan-tail-requires : tie.Need-scan-tail-requires
-scan-tail-requires c κs = search needs
-
 same-length : tie.Need-same-length
 same-length c = search needs
-
-returns : tie.Need-returns
-returns c = search needs
 
 slice-aggregate-scan-tail-2 : tie.Need-slice-aggregate-scan-tail-2
 slice-aggregate-scan-tail-2 c = search needs
 
 same-length-2 : tie.Need-same-length-2
 same-length-2 c = search needs
-
-returns-2 : tie.Need-returns-2
-returns-2 c = search needs
 
 pub convert-tail-spec : {M : Type 1} → statement M
 convert-tail-spec =

@@ -10,7 +10,7 @@ use lib.ListN.{length, drop, length-drop}
 use lib.Seq.{paste}
 use Rattle.frames.specs.Framing.{framesOf}
 use Rattle.sinc.specs.Sinc.{sincFilterPoints, interpolateFrame}
-use Rattle.sinc.specs.Weights.{CoefficientsAt}
+use Rattle.sinc.specs.Weights.{weightedFrame, CoefficientsAt}
 use Rattle.sinc.proofs.Weights.{weights-small, weightedFrame-is}
 use Rattle.rate.specs.Tail.{interpolateWindow}
 use Rattle.rate.proofs.Window.{interpolateWindow-is}
@@ -42,15 +42,30 @@ module _ (s : tie.Start) where
   weights-are : 1 < s .args .cycle .step → CoefficientsAt ratio width (sincFilterPoints * s .args .phase) (s .args .kept .now)
   weights-are h = s .pre .0 .1 h (s .args .phase) (s .pre .0 .2 .below)
 
-  -- the frame at the ratio, as the contract says it
-  frame-is : paste (s .args .output .now) (s .args .to .0 * s .args .channels) (interpolateFrame samples (s .args .channels) ratio width) (s .args .channels)
-      ≡ paste (s .args .output .now) (s .args .to .0 * s .args .channels)
-      (interpolateWindow (framesOf (s .args .channels) sincFilterPoints samples) ratio width) (s .args .channels)
+  -- the frame at the ratio, and the output with a frame in its place
+  abbrev frame : List ℤ
+  frame = interpolateWindow (framesOf (s .args .channels) sincFilterPoints samples) ratio width
+
+  abbrev placed : List ℤ → List ℤ
+  placed f = paste (s .args .output .now) (s .args .to .0 * s .args .channels) f (s .args .channels)
+
+  frame-is : interpolateFrame samples (s .args .channels) ratio width ≡ frame
   frame-is =
-      let a = s .args in
-      let long : a .channels ≤ length samples = omega (arith, length-drop (a .first .0 * a .channels) (a .stage .now), s .pre .1 .0) in
-      ap (λ (f : List ℤ). paste (a .output .now) (a .to .0 * a .channels) f (a .channels))
-      (sym (interpolateWindow-is (a .channels) ratio width samples long))
+      let long : s .args .channels ≤ length samples = omega (arith, length-drop (s .args .first .0 * s .args .channels) (s .args .stage .now), s .pre .1 .0) in
+      sym (interpolateWindow-is (s .args .channels) ratio width samples long)
+
+  -- by kept weights
+  kept-is : (out : List ℤ) → 1 < s .args .cycle .step
+      → out ≡ placed (weightedFrame samples (s .args .channels) (s .args .kept .now) (sincFilterPoints * s .args .phase)) → out ≡ placed frame
+  kept-is out h e = e ∙ ap placed (weightedFrame-is (weights-are h) samples (s .args .channels) ∙ frame-is)
+
+  -- by those of the ratio, which is the phase
+  ratio-frame-is : (out : List ℤ) → s .args .cycle .step ≡ 1
+      → out ≡ placed (interpolateFrame samples (s .args .channels) (s .args .phase) (s .args .cycle .new)) → out ≡ placed frame
+  ratio-frame-is out one e =
+      let same : s .args .phase ≡ ratio = rw one (omega arith) in
+      let wide : s .args .cycle .new ≡ width = rw one (omega arith) in
+      e ∙ ap placed ((λ i. interpolateFrame samples (s .args .channels) (same i) (wide i)) ∙ frame-is)
 
 -- ---- needs
 
@@ -73,15 +88,9 @@ weighted-frame-requires c κs =
 returns : tie.Need-returns
 returns c =
     let d = c .before .before in
-    let s = d .before .before .before .before .before in
-    let a = s .args in
-    let e = weights-are s (d .before .if1 .taken) in
-    let samples-at = d .before .before .before .before in
-    let placed = rw (samples-at .samples .ensures, d .before .before .before .samples2 .ensures) at (c .before .weighted-frame .ensures) in
-    placed
-    ∙ ap (λ (f : List ℤ). paste (a .output .now) (a .to .0 * a .channels) f (a .channels))
-    (weightedFrame-is e (samples s) (a .channels))
-    ∙ frame-is s
+    let at = d .before .before .before .before in
+    kept-is (at .before) _ (d .before .if1 .taken)
+    (rw (at .samples .ensures, d .before .before .before .samples2 .ensures) at (c .before .weighted-frame .ensures))
 
 ratio-frame-requires : tie.Need-ratio-frame-requires
 ratio-frame-requires c κs =
@@ -96,16 +105,9 @@ ratio-frame-requires c κs =
 returns-2 : tie.Need-returns-2
 returns-2 c =
     let d = c .before .before in
-    let s = d .before .before .before .before .before in
-    let a = s .args in
-    let one : a .cycle .step ≡ 1 = omega (arith, s .pre .0 .2 .some, d .before .if1 .left) in
-    let same : a .phase ≡ ratio s = rw one (omega arith) in
-    let wide : a .cycle .new ≡ width s = rw one (omega arith) in
-    let samples-at = d .before .before .before .before in
-    let placed = rw (samples-at .samples .ensures, d .before .before .before .samples2 .ensures) at (c .before .ratio-frame .ensures) in
-    placed
-    ∙ (λ i. paste (a .output .now) (a .to .0 * a .channels) (interpolateFrame (samples s) (a .channels) (same i) (wide i)) (a .channels))
-    ∙ frame-is s
+    let at = d .before .before .before .before in
+    ratio-frame-is (at .before) _ (omega (arith, at .before .pre .0 .2 .some, d .before .if1 .left))
+    (rw (at .samples .ensures, d .before .before .before .samples2 .ensures) at (c .before .ratio-frame .ensures))
 
 -- ---- what search closes
 

@@ -3,12 +3,14 @@
 use borrow.Author.Needs.{needs}
 use mathlib.Core.Path.{_≡_, sym, ap, _∙_, subst}
 use mathlib.Core.Logic.{⊎-elim}
+use mathlib.Core.List.{List}
 use Prim.Native.Nat.{ℕ, _+_, _-_, _*_, _/_, _≤_, _<_, _^_}
 use native.Mathlib.Omega.{arith}
 use native.Mathlib.Nat.{mul-le-mul, mul-le-mul-left, mul-le-mul-right}
+use lib.IntN.{ℤ}
 use lib.ListN.{length, drop, length-drop}
 use lib.Seq.{paste}
-use Rattle.frames.specs.Framing.{framesOf}
+use Rattle.frames.specs.Framing.{Frame, framesOf}
 use Rattle.frames.proofs.Framing.{length-framesOf}
 use Rattle.frames.proofs.Room.{frames-le, samples-le, samples-over, count-le}
 use Rattle.sinc.specs.Sinc.{sincFilterPoints}
@@ -134,6 +136,26 @@ module _ (c : tie.Else1 Inv-loop μ-loop Inv-scan μ-scan) where
       let d = loop-of in
       omega (arith, count-le (begun d .args .channels) (place d + 1) (begun d .pre .1 .some), room, long d)
 
+  -- the frame made is that of the position
+  abbrev placed : Frame → List ℤ
+  placed f = paste (loop-of .loop .output) (place loop-of * begun loop-of .args .channels) f (begun loop-of .args .channels)
+
+  abbrev window : List Frame
+  window =
+      framesOf (begun loop-of .args .channels) sincFilterPoints
+      (drop (scanned loop-of .scan .j * begun loop-of .args .channels) (begun loop-of .args .stage .now))
+
+  abbrev phase : ℕ
+  phase = (scanned loop-of .scan .p + 1) * begun loop-of .args .cycle .new - loop-of .loop .n * begun loop-of .args .cycle .old - 1
+
+  frame-is : (out : List ℤ) → let y = begun loop-of .args .cycle in out ≡ placed (interpolateWindow window (y .step * (phase + 1) - 1) (y .step * y .new))
+      → out ≡ placed (interpolated (begun loop-of .args .rates) (record { old = scanned loop-of .scan .p; new = loop-of .loop .n }) window)
+  unfolding interpolated
+  frame-is out e =
+      let s = begun loop-of in
+      let ratio = ratio-is (s .args .rates) (s .args .cycle) (s .pre .3) (scanned loop-of .scan .p) (loop-of .loop .n) (c .before .loop-test .taken) in
+      e ∙ (λ i. placed (interpolateWindow window (ratio i) (s .pre .3 .new i)))
+
   made-fits : loop-of .loop .made + 1 < 2 ^ 64
   made-fits = omega (arith, place-lt)
 
@@ -236,7 +258,6 @@ add-n : tie.Need-add-n Inv-loop μ-loop Inv-scan μ-scan
 add-n c = record { fits = omega (arith, last (loop-of (made-at c))) }
 
 loop-again : tie.Need-loop-again Inv-loop μ-loop Inv-scan μ-scan
-unfolding interpolated
 loop-again c =
     let d = loop-of (made-at c) in
     let s = begun d in
@@ -245,14 +266,10 @@ loop-again c =
     let x = drop (scanned d .scan .j * a .channels) (a .stage .now) in
     let staged = mul-le-mul-right (a .channels) (ahead d) in
     let taps : a .channels ≤ length x = omega (arith, length-drop (scanned d .scan .j * a .channels) (a .stage .now), s .pre .1 .holds) in
-    let more = made-at c .before .loop-test .taken in
-    let ratio = ratio-is (a .rates) (a .cycle) (s .pre .3) (scanned d .scan .p) (d .loop .n) more in
-    let frame = c .before .make-frame .ensures
-    ∙ (λ i. paste (d .loop .output) (place d * a .channels) (interpolateWindow (framesOf (a .channels) sincFilterPoints x) (ratio i) (s .pre .3 .new i))
-    (a .channels)) in
-    emitting-turn b (c .before .make-frame .last .1 .1 .1 .1 .1 .1 .1 .1 .0) (more-due d more)
+    emitting-turn b (c .before .make-frame .last .1 .1 .1 .1 .1 .1 .1 .1 .0) (more-due d (made-at c .before .loop-test .taken))
     (omega (arith, room (made-at c), b .behind .long))
-    (length-interpolated (a .rates) (record { old = scanned d .scan .p; new = d .loop .n }) (a .channels) x taps) frame
+    (length-interpolated (a .rates) (record { old = scanned d .scan .p; new = d .loop .n }) (a .channels) x taps)
+    (frame-is (made-at c) _ (c .before .make-frame .ensures))
 
 add-p : tie.Need-add-p Inv-loop μ-loop Inv-scan μ-scan
 add-p c = record { fits = omega (arith, small (scanned (c .before)) .below) }
