@@ -1,4 +1,5 @@
-// The write, of values or of 16-bit samples: its parts are those of `write_parts`, with the samples stored between them.
+// The write, of values or of 16-bit samples: the parts are those of `write_parts`, and the samples are stored between
+// them.
 use adding::Wrote;
 use floats::samples::samples_back;
 use floats::samples::samples_in;

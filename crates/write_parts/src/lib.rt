@@ -1,5 +1,5 @@
-// The parts that a write of values and one of 16-bit samples share: refusals 3 to 5 by the stream and the areas' lengths,
-// before the samples are stored; 6, 7 and 12 by the work on them. `specs/Writing.antt` says what they answer.
+// What a write of values and one of 16-bit samples share: refusals 3 to 5 by the stream and the areas' lengths, before
+// the samples are stored; 6, 7 and 12 by the work on them. `specs/Writing.antt` says what is answered.
 use adding::Wrote;
 use adding::process_added;
 use frames::Frames;
