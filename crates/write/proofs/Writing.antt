@@ -25,8 +25,8 @@ use Rattle.adding.specs.Calls.{acceptedCall, writeCall}
 use Rattle.adding.specs.Adding.{Accepted, AddEnsures}
 use Rattle.adding.proofs.Answers.{CallAnswered, call-done}
 use Rattle.adding.proofs.Adding.{answerBy, workOf, worked-in-order, added-answered}
-use Rattle.write.specs.declared.Begun.{Begun}
-use Rattle.write.specs.Writing.{BegunAs, answerOf, WorkAnswered}
+use Rattle.write_parts.specs.declared.Begun.{Begun}
+use Rattle.write_parts.specs.Writing.{BegunAs, answerOf, WorkAnswered}
 
 -- the n frames that it adds, as the input holds them
 abbrev pub written : SonicStream → List Float → ℕ → List Frame

@@ -10,7 +10,7 @@ use Rattle.frames.specs.Areas.{Areas, areas}
 use Rattle.frames.specs.Framing.{Behind}
 use Rattle.adding.specs.Adding.{AddReady}
 use Rattle.adding.proofs.Joining.{written-behind, ready-with, accepted-place, accepted-samples}
-use Rattle.write.specs.Writing.{BegunAs}
+use Rattle.write_parts.specs.Writing.{BegunAs}
 use Rattle.write.proofs.Writing.{written, write-refused, write-answered}
 use Rattle.write.proofs.write_f32.Statement.{statement}
 use Rattle.write.proofs.write_f32.Tie as tie

@@ -1,6 +1,6 @@
 -- `write::write_i16` meets its contract. Assumes nothing.
 use borrow.Author.Needs.{needs}
-use mathlib.Core.Path.{_≡_, sym, ap, _∙_, subst}
+use mathlib.Core.Path.{_≡_, sym, subst}
 use mathlib.Core.List.{List, map}
 use Prim.Native.Nat.{ℕ, _/_}
 use native.Mathlib.Omega.{arith}
@@ -11,8 +11,8 @@ use Rattle.frames.specs.Framing.{Behind}
 use Rattle.floats.specs.Write.{sampleOut}
 use Rattle.adding.specs.Adding.{AddReady}
 use Rattle.adding.proofs.Joining.{written-behind, ready-with, accepted-place, accepted-samples}
-use Rattle.write.specs.declared.Begun.{Begun}
-use Rattle.write.specs.Writing.{BegunAs}
+use Rattle.write_parts.specs.declared.Begun.{Begun}
+use Rattle.write_parts.specs.Writing.{BegunAs}
 use Rattle.write.proofs.Writing.{written, write-refused, write-answered}
 use Rattle.write.proofs.write_i16.Statement.{statement}
 use Rattle.write.proofs.write_i16.Tie as tie

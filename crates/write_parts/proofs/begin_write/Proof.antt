@@ -1,4 +1,4 @@
--- `write::begin_write` meets its contract. Assumes nothing.
+-- `write_parts::begin_write` meets its contract. Assumes nothing.
 use borrow.Author.Needs.{needs}
 use mathlib.Core.Path.{_≡_, sym, _∙_, subst}
 use mathlib.Core.Bool.{Bool, true, false}
@@ -10,8 +10,8 @@ use Rattle.stream.proofs.InOrder.{good-of, bad-of, limits-of}
 use Rattle.stream.proofs.AreaTests.{areas-of}
 use Rattle.adding.proofs.Answers.{stream-refused, areas-refused, input-refused}
 use Rattle.adding.proofs.Joining.{add-ready}
-use Rattle.write.proofs.begin_write.Statement.{statement}
-use Rattle.write.proofs.begin_write.Tie as tie
+use Rattle.write_parts.proofs.begin_write.Statement.{statement}
+use Rattle.write_parts.proofs.begin_write.Tie as tie
 
 -- ---- places
 

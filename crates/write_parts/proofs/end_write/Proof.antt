@@ -1,11 +1,11 @@
--- `write::end_write` meets its contract. Assumes nothing.
+-- `write_parts::end_write` meets its contract. Assumes nothing.
 use borrow.Author.Needs.{needs}
 use mathlib.Core.Path.{_≡_, refl}
 use Rattle.frames.specs.Areas.{Areas, areas}
 use Rattle.process.specs.declared.Work.{Work}
-use Rattle.write.specs.Writing.{answerOf, WorkAnswered}
-use Rattle.write.proofs.end_write.Statement.{statement}
-use Rattle.write.proofs.end_write.Tie as tie
+use Rattle.write_parts.specs.Writing.{answerOf, WorkAnswered}
+use Rattle.write_parts.proofs.end_write.Statement.{statement}
+use Rattle.write_parts.proofs.end_write.Tie as tie
 
 -- ---- places
 

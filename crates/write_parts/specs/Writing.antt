@@ -10,7 +10,7 @@ use Rattle.process.specs.Process.{Made}
 use Rattle.adding.specs.declared.Wrote.{Wrote}
 use Rattle.adding.specs.Calls.{CallResult, callBy, refusalOf, CallEnsures}
 use Rattle.adding.specs.Adding.{AddReady, AddEnsures}
-use Rattle.write.specs.declared.Begun.{Begun}
+use Rattle.write_parts.specs.declared.Begun.{Begun}
 
 -- what the tests say of a write of so many samples: it is refused with this number, whatever its work m would be and
 -- its answer c to that; or refusals 3 to 5 are not met, and it adds n frames
