@@ -17,7 +17,7 @@
  * nearest even, exceptions masked, neither flush-to-zero nor denormals-are-zero. Another rounding changes frames. Flush-to-zero and
  * denormals-are-zero, which audio hosts set, are outside of what is proved; they were seen to change no answer to a stream that
  * kelpladder_open gave and the calls handed on, whose numbers are 0 or far from subnormal, but they can change that to a made-up one
- * (tests/environment.c). The library is for x86-64. A call takes less than 4,000 bytes of stack and no heap, uses memset of the C library
+ * (tests/environment.c). The library is for x86-64. A call takes less than 6,000 bytes of stack and no heap, uses memset of the C library
  * and nothing else, and shares nothing: threads may call at the same time, each with its own stream and areas. */
 #ifndef KELPLADDER_H
 #define KELPLADDER_H

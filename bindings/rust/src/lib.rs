@@ -44,7 +44,7 @@
 //!
 //! - the floating-point environment of the calling thread is the default one, as Rust asks of all code: round to nearest even, exceptions
 //!   masked, neither flush-to-zero nor denormals-are-zero (MXCSR). The last two were not seen to change an answer; another rounding does.
-//! - the thread has 4,000 bytes of stack for the library, beside those of this crate.
+//! - the thread has 6,000 bytes of stack for the library, beside those of this crate.
 
 #![deny(missing_docs)]
 
