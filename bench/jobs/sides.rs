@@ -17,7 +17,7 @@ pub trait Side {
 }
 
 /// Frames that a period search looks at.
-fn required(reel: Reel) -> usize {
+pub fn required(reel: Reel) -> usize {
     2 * (reel.rate as usize / 65)
 }
 
@@ -39,6 +39,11 @@ impl Ours {
         let stream = calls::set_step_over(lower.stream, u32::from(job.step_over)).stream;
         let area = || vec![0i16; length];
         Ours { stream, input: area(), stage: area(), output: area(), scratch: vec![0; required(reel)], frames: vec![0.0; length] }
+    }
+
+    /// The frames held.
+    pub fn held(&self) -> usize {
+        self.stream.held
     }
 
     fn lend(&mut self) -> calls::Areas<'_> {

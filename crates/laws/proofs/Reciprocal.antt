@@ -1,7 +1,7 @@
--- Division by a reciprocal in parts of 2^44: n·m/2^44 is n/k for the m of `reciprocalOf k`, where (n + k)·k is at most 2^44; the same of
--- integers, toward zero. Assumes nothing.
-use mathlib.Core.Path.{_≡_, refl, sym, ap, _∙_, subst}
-use Prim.Native.Nat.{ℕ, zero, suc, _+_, _*_, _/_, _≤_, _<_}
+-- Division by a reciprocal in parts of 2^44: n·m/2^44 is n/k for the m of `reciprocalOf k`, where (n + k)·k is at most 2^44.
+-- Assumes nothing.
+use mathlib.Core.Path.{_≡_, sym, subst}
+use Prim.Native.Nat.{ℕ, _+_, _*_, _/_, _≤_, _<_}
 use native.Mathlib.Nat.{
   le-trans,
   mul-add,
@@ -15,11 +15,8 @@ use native.Mathlib.Nat.{
   le-of-lt,
   le-div-iff-mul-le,
   div-eq-of-lt-le,
-  zero-div,
 }
 use native.Mathlib.Omega.{arith}
-use lib.IntN.{ℤ, pos, negsuc, negℤ, natAbs, _*ℤ_}
-use lib.Signed.{quotZ}
 use Rattle.laws.specs.Reciprocal.{reciprocalParts, reciprocalOf}
 
 -- q is n/k, w is p/k: n·(w + 1)/p is q
@@ -49,14 +46,3 @@ reciprocal-divides n k some small =
 -- the product, where n is at most s·k
 pub product-le : (n k s : ℕ) → n ≤ s * k → n * reciprocalOf k ≤ s * (reciprocalParts + k)
 product-le n k s size = scaled-le n k reciprocalParts (reciprocalParts / k) s size (mul-div-le reciprocalParts k)
-
--- ---- integers
-
-quot-neg : (x k : ℕ) → quotZ (negℤ (pos x)) (pos k) ≡ negℤ (pos (x / k))
-quot-neg zero k = rw (zero-div k)
-quot-neg (suc x) k = refl
-
-pub quot-by-reciprocal : (z : ℤ) (k : ℕ) → 1 ≤ k → (natAbs z + k) * k ≤ reciprocalParts → quotZ (z *ℤ pos (reciprocalOf k)) (pos reciprocalParts) ≡ quotZ z (pos k)
-quot-by-reciprocal (pos a) k some small = ap pos (reciprocal-divides a k some small)
-quot-by-reciprocal (negsuc a) k some small =
-    quot-neg (suc a * reciprocalOf k) reciprocalParts ∙ ap (λ (n : ℕ). negℤ (pos n)) (reciprocal-divides (suc a) k some small)

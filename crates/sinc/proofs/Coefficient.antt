@@ -1,9 +1,9 @@
 -- The coefficient of a tap: its table place and remainder, its size, and each step by which `find_sinc_coefficient` computes it.
 -- In order: the reciprocal of N; place and remainder; a blend of two entries; the steps of the code; the size of a coefficient. Assumes nothing.
-use mathlib.Core.Path.{_≡_, _∙_}
-use Prim.Native.Nat.{ℕ, _+_, _-_, _*_, _/_, _%_, _^_, _≤_, _<_}
+use mathlib.Core.Path.{_≡_, ap, _∙_}
+use mathlib.Core.Bool.{Bool, true, false}
+use Prim.Native.Nat.{ℕ, _+_, _-_, _*_, _/_, _%_, _≤_, _<_}
 use native.Mathlib.Nat.{
-  le-of-lt,
   le-trans,
   add-mul,
   mul-comm,
@@ -11,25 +11,25 @@ use native.Mathlib.Nat.{
   mul-le-mul-right,
   div-le-self,
   div-le-of-le-mul,
-  div-mul-le-self,
   div-lt-iff-lt-mul,
   div-add-mod',
   mod-lt,
 }
 use native.Mathlib.Omega.{arith}
-use lib.IntN.{ℤ, pos, natAbs, _+ℤ_, _-ℤ_, _*ℤ_}
+use lib.IntN.{ℤ, pos, negℤ, natAbs, _+ℤ_, _-ℤ_, _*ℤ_, negℤ-negℤ}
 use lib.ListN.{getD}
 use lib.Signed.{quotZ}
-use mir.Syntax.{w16, w32, w64}
+use mir.Syntax.{w16, w64}
 use mir.Val.{SFits, toZ}
 use mir.Facts.{toZ-ofZ, toZ-pos}
 use Rattle.laws.specs.Reciprocal.{reciprocalParts, reciprocalOf}
-use Rattle.laws.proofs.Integers.{sfits-of-natAbs, natAbs-add-le, natAbs-mul, natAbs-quot, pos-sub}
-use Rattle.laws.proofs.Reciprocal.{reciprocal-divides, product-le, quot-by-reciprocal}
-use Rattle.laws.proofs.Widening.{i16, i32, widened-reads}
+use Rattle.laws.proofs.Integers.{sfits-of-natAbs, pos-sub}
+use Rattle.laws.proofs.Widening.{i16, i64, widened-reads}
 use Rattle.sinc.specs.SincTable.{sincTable, sincTableSize}
 use Rattle.sinc.specs.Sinc.{sincFilterPoints, lobePoints, maxWidth, tablePlace, remainder, tableValue, sincCoefficient}
+use Rattle.sinc.specs.Lobes.{belowZero, OnSide, EntriesOnSide}
 use Rattle.sinc.proofs.TableRule.{entry-abs}
+use Rattle.sinc.proofs.Lobes.{signed, natAbs-signed, signed-add, signed-twice, quot-signed, side-mul, lobe-side}
 
 -- ---- the reciprocal of N
 
@@ -37,7 +37,7 @@ pub reciprocal-lt : (N : ℕ) → reciprocalOf N < 2 * reciprocalParts
 reciprocal-lt N = omega (arith, div-le-self reciprocalParts N)
 
 -- it divides whatever is at most 65,534·N
-reciprocal-serves : (n N : ℕ) → N ≤ maxWidth → n ≤ 65534 * N → (n + N) * N ≤ reciprocalParts
+pub reciprocal-serves : (n N : ℕ) → N ≤ maxWidth → n ≤ 65534 * N → (n + N) * N ≤ reciprocalParts
 reciprocal-serves n N narrow size =
     let sum : n + N ≤ 1073725440 = omega arith in
     le-trans (mul-le-mul sum narrow) (omega arith)
@@ -47,22 +47,6 @@ reciprocal-serves n N narrow size =
 -- the place within a lobe
 pub place-lt : (r N : ℕ) → r < N → lobePoints * r / N < lobePoints
 place-lt r N h = div-lt-iff-lt-mul {k = N} {x = lobePoints * r} {y = lobePoints} (omega arith) .1 (omega arith)
-
--- the code's place and remainder
-module _ (r N : ℕ) (h : r < N) (narrow : N ≤ maxWidth) where
-  pub place-product-lt : lobePoints * r * reciprocalOf N < 2 ^ 64
-  place-product-lt =
-      let small : lobePoints * r ≤ lobePoints * N = omega arith in
-      omega (arith, product-le (lobePoints * r) N lobePoints small)
-
-  pub place-is : lobePoints * r * reciprocalOf N / reciprocalParts ≡ lobePoints * r / N
-  place-is = reciprocal-divides (lobePoints * r) N (omega arith) (reciprocal-serves (lobePoints * r) N narrow (omega arith))
-
-  pub place-reaches : lobePoints * r * reciprocalOf N / reciprocalParts * N ≤ lobePoints * r
-  place-reaches = rw place-is (div-mul-le-self (lobePoints * r) N)
-
-  pub behind-is : lobePoints * r - lobePoints * r * reciprocalOf N / reciprocalParts * N ≡ lobePoints * r % N
-  behind-is = rw place-is (omega (arith, div-add-mod' (lobePoints * r) N))
 
 pub tablePlace-lt : (i r N : ℕ) → i < sincFilterPoints → r < N → tablePlace i r N + 1 < sincTableSize
 unfolding tablePlace
@@ -80,110 +64,155 @@ sincCoefficient-is i r N = rw (remainder-is i r N)
 
 -- ---- a blend of two entries
 
-abbrev pub blend : ℤ → ℤ → ℕ → ℕ → ℤ
-blend x y N e = x *ℤ pos (N - e) +ℤ y *ℤ pos e
-
 abbrev pub double : ℤ → ℤ → ℕ → ℕ → ℤ
-double x y N e = pos 2 *ℤ blend x y N e
+double x y N e = pos 2 *ℤ (x *ℤ pos (N - e) +ℤ y *ℤ pos e)
 
-pub record Blend (x y : ℤ) (N e : ℕ) : Type 0 where
+-- two entries on a side of zero
+pub record Blend (below : Bool) (x y : ℤ) (N e : ℕ) : Type 0 where
   pub left-small : natAbs x ≤ 32767
   pub right-small : natAbs y ≤ 32767
+  pub left-side : OnSide below x
+  pub right-side : OnSide below y
   pub inside : e < N
 
-module _ {x y : ℤ} {N e : ℕ} (b : Blend x y N e) where
+-- the size of `double`
+abbrev pub size : ℤ → ℤ → ℕ → ℕ → ℕ
+size x y N e = natAbs x * (2 * (N - e)) + natAbs y * (2 * e)
+
+module _ {below : Bool} {x y : ℤ} {N e : ℕ} (b : Blend below x y N e) where
   pub left-sample : SFits w16 x
   left-sample = sfits-of-natAbs x (omega (arith, b .left-small))
 
   pub right-sample : SFits w16 y
   right-sample = sfits-of-natAbs y (omega (arith, b .right-small))
 
-  left-abs : natAbs (x *ℤ pos (N - e)) ≤ 32767 * (N - e)
-  left-abs = rw natAbs-mul (mul-le-mul-right (N - e) (b .left-small))
+  left-le : natAbs x * (2 * (N - e)) ≤ 32767 * (2 * (N - e))
+  left-le = mul-le-mul-right (2 * (N - e)) (b .left-small)
 
-  right-abs : natAbs (y *ℤ pos e) ≤ 32767 * e
-  right-abs = rw natAbs-mul (mul-le-mul-right e (b .right-small))
+  right-le : natAbs y * (2 * e) ≤ 32767 * (2 * e)
+  right-le = mul-le-mul-right (2 * e) (b .right-small)
 
-  blend-abs : natAbs (blend x y N e) ≤ 32767 * N
-  blend-abs = omega (arith, natAbs-add-le (x *ℤ pos (N - e)) (y *ℤ pos e), left-abs, right-abs, b .inside)
+  pub size-le : size x y N e ≤ 65534 * N
+  size-le = omega (arith, left-le, right-le, b .inside)
 
-  double-abs : natAbs (double x y N e) ≤ 65534 * N
-  double-abs = rw natAbs-mul (omega (arith, blend-abs))
+  pub share-le : size x y N e / N ≤ 65534
+  share-le = div-le-of-le-mul N (omega (arith, size-le, mul-comm N 65534))
 
-  mean-abs : natAbs (quotZ (double x y N e) (pos N)) ≤ 65534
-  mean-abs = rw natAbs-quot (div-le-of-le-mul N (omega (arith, double-abs, mul-comm N 65534)))
+  double-is : double x y N e ≡ signed below (size x y N e)
+  double-is =
+      let same : 2 * (natAbs x * (N - e) + natAbs y * e) ≡ size x y N e = omega arith in
+      rw (side-mul below x (N - e) (b .left-side), side-mul below y e (b .right-side), signed-add below (natAbs x * (N - e)) (natAbs y * e))
+      (signed-twice below (natAbs x * (N - e) + natAbs y * e) ∙ ap (signed below) same)
+
+  pub mean-is : quotZ (double x y N e) (pos N) ≡ signed below (size x y N e / N)
+  mean-is = rw double-is (quot-signed below (size x y N e) N)
 
 -- ---- the steps of the code: `-fits` says that a step fits, `-reads` what it reads back as
 
-module _ {x y : ℤ} {N e : ℕ} (b : Blend x y N e) (narrow : N ≤ maxWidth) where
-  width-reads : toZ w32 N ≡ pos N
-  width-reads = toZ-pos w32 (omega arith)
+-- 2 * k
+twice-is : (k : ℕ) → k ≤ maxWidth → pos 2 *ℤ toZ w64 k ≡ pos (2 * k)
+twice-is k h = rw (toZ-pos w64 {n = k} (omega arith))
 
-  remainder-reads : toZ w32 e ≡ pos e
-  remainder-reads = toZ-pos w32 (omega (arith, b .inside))
+pub twice-fits : (k : ℕ) → k ≤ maxWidth → SFits w64 (pos 2 *ℤ toZ w64 k)
+twice-fits k h = rw (twice-is k h) (record { sfits = omega arith })
 
-  -- n - e
-  rest-is : toZ w32 N -ℤ toZ w32 e ≡ pos (N - e)
-  rest-is = rw (width-reads, remainder-reads, pos-sub N e (le-of-lt (b .inside)))
+twice-reads : (k : ℕ) → k ≤ maxWidth → i64 (pos 2 *ℤ toZ w64 k) ≡ pos (2 * k)
+twice-reads k h = toZ-ofZ (twice-fits k h) ∙ twice-is k h
 
-  pub rest-fits : SFits w32 (toZ w32 N -ℤ toZ w32 e)
-  rest-fits = rw rest-is (sfits-of-natAbs (pos (N - e)) (omega arith))
+-- n, the left part, the right part
+abbrev pub rest : ℕ → ℕ → ℤ
+rest N e = i64 (pos 2 *ℤ toZ w64 N) -ℤ i64 (pos 2 *ℤ toZ w64 e)
 
-  rest-reads : i32 (toZ w32 N -ℤ toZ w32 e) ≡ pos (N - e)
-  rest-reads = toZ-ofZ rest-fits ∙ rest-is
+abbrev pub leftPart : ℤ → ℕ → ℕ → ℤ
+leftPart x N e = i64 (i16 x) *ℤ i64 (rest N e)
 
-  -- left_value * (n - e)
-  left-is : i32 (i16 x) *ℤ i32 (toZ w32 N -ℤ toZ w32 e) ≡ x *ℤ pos (N - e)
-  left-is = rw (widened-reads w32 tt (left-sample b), rest-reads)
+abbrev pub rightPart : ℤ → ℕ → ℤ
+rightPart y e = i64 (i16 y) *ℤ i64 (pos 2 *ℤ toZ w64 e)
 
-  pub left-fits : SFits w32 (i32 (i16 x) *ℤ i32 (toZ w32 N -ℤ toZ w32 e))
-  left-fits = rw left-is (sfits-of-natAbs (x *ℤ pos (N - e)) (omega (arith, left-abs b)))
+module _ {below : Bool} {x y : ℤ} {N e : ℕ} (b : Blend below x y N e) (narrow : N ≤ maxWidth) where
+  remainder-le : e ≤ maxWidth
+  remainder-le = omega (arith, b .inside)
 
-  -- right_value * e
-  right-is : i32 (i16 y) *ℤ toZ w32 e ≡ y *ℤ pos e
-  right-is = rw (widened-reads w32 tt (right-sample b), remainder-reads)
+  rest-is : rest N e ≡ pos (2 * (N - e))
+  rest-is =
+      let same : 2 * N - 2 * e ≡ 2 * (N - e) = omega arith in
+      rw (twice-reads N narrow, twice-reads e remainder-le, pos-sub (2 * N) (2 * e) (omega (arith, b .inside))) (ap pos same)
 
-  pub right-fits : SFits w32 (i32 (i16 y) *ℤ toZ w32 e)
-  right-fits = rw right-is (sfits-of-natAbs (y *ℤ pos e) (omega (arith, right-abs b, b .inside)))
+  pub rest-fits : SFits w64 (rest N e)
+  rest-fits = rw rest-is (record { sfits = omega arith })
 
-  -- the sum
-  sum-is : i32 (i32 (i16 x) *ℤ i32 (toZ w32 N -ℤ toZ w32 e)) +ℤ i32 (i32 (i16 y) *ℤ toZ w32 e) ≡ blend x y N e
-  sum-is = rw (toZ-ofZ left-fits, left-is, toZ-ofZ right-fits, right-is)
+  left-is : leftPart x N e ≡ signed below (natAbs x * (2 * (N - e)))
+  left-is = rw (widened-reads w64 tt (left-sample b), toZ-ofZ rest-fits, rest-is) (side-mul below x (2 * (N - e)) (b .left-side))
 
-  pub sum-fits : SFits w32 (i32 (i32 (i16 x) *ℤ i32 (toZ w32 N -ℤ toZ w32 e)) +ℤ i32 (i32 (i16 y) *ℤ toZ w32 e))
-  sum-fits = rw sum-is (sfits-of-natAbs (blend x y N e) (omega (arith, blend-abs b)))
+  pub left-fits : SFits w64 (leftPart x N e)
+  left-fits =
+      rw left-is
+      (sfits-of-natAbs (signed below (natAbs x * (2 * (N - e)))) (omega (arith, natAbs-signed below (natAbs x * (2 * (N - e))), left-le b)))
 
-  pub sum-reads : i32 (i32 (i32 (i16 x) *ℤ i32 (toZ w32 N -ℤ toZ w32 e)) +ℤ i32 (i32 (i16 y) *ℤ toZ w32 e)) ≡ blend x y N e
+  pub left-reads : i64 (leftPart x N e) ≡ signed below (natAbs x * (2 * (N - e)))
+  left-reads = toZ-ofZ left-fits ∙ left-is
+
+  right-is : rightPart y e ≡ signed below (natAbs y * (2 * e))
+  right-is = rw (widened-reads w64 tt (right-sample b), twice-reads e remainder-le) (side-mul below y (2 * e) (b .right-side))
+
+  pub right-fits : SFits w64 (rightPart y e)
+  right-fits =
+      rw right-is (sfits-of-natAbs (signed below (natAbs y * (2 * e))) (omega (arith, natAbs-signed below (natAbs y * (2 * e)), right-le b, remainder-le)))
+
+  pub right-reads : i64 (rightPart y e) ≡ signed below (natAbs y * (2 * e))
+  right-reads = toZ-ofZ right-fits ∙ right-is
+
+-- the size, of entries that are not below zero
+module _ {x y : ℤ} {N e : ℕ} (b : Blend false x y N e) (narrow : N ≤ maxWidth) where
+  sum-is : i64 (leftPart x N e) +ℤ i64 (rightPart y e) ≡ pos (size x y N e)
+  sum-is = rw (left-reads b narrow, right-reads b narrow)
+
+  pub sum-fits : SFits w64 (i64 (leftPart x N e) +ℤ i64 (rightPart y e))
+  sum-fits = rw sum-is (record { sfits = omega (arith, size-le b) })
+
+  pub sum-reads : i64 (i64 (leftPart x N e) +ℤ i64 (rightPart y e)) ≡ pos (size x y N e)
   sum-reads = toZ-ofZ sum-fits ∙ sum-is
 
-  -- 2 * sum
-  pub double-fits : SFits w32 (double x y N e)
-  double-fits = sfits-of-natAbs (double x y N e) (omega (arith, double-abs b))
+-- the size, of entries that are not above zero
+less-negative : (m n : ℕ) → pos m -ℤ negℤ (pos n) ≡ pos (m + n)
+less-negative m n = ap (λ (z : ℤ). pos m +ℤ z) (negℤ-negℤ (pos n))
 
-  -- times the reciprocal
-  product-abs : natAbs (double x y N e *ℤ pos (reciprocalOf N)) ≤ 65534 * (reciprocalParts + N)
-  product-abs = rw natAbs-mul (product-le (natAbs (double x y N e)) N 65534 (double-abs b))
+module _ {x y : ℤ} {N e : ℕ} (b : Blend true x y N e) (narrow : N ≤ maxWidth) where
+  left-size-is : pos 0 -ℤ i64 (leftPart x N e) ≡ pos (natAbs x * (2 * (N - e)))
+  left-size-is = rw (left-reads b narrow) (less-negative 0 (natAbs x * (2 * (N - e))) ∙ ap pos (omega arith))
 
-  pub product-fits : SFits w64 (double x y N e *ℤ pos (reciprocalOf N))
-  product-fits = sfits-of-natAbs (double x y N e *ℤ pos (reciprocalOf N)) (omega (arith, product-abs))
+  pub left-size-fits : SFits w64 (pos 0 -ℤ i64 (leftPart x N e))
+  left-size-fits = rw left-size-is (record { sfits = omega (arith, left-le b) })
 
-  -- the quotient
-  pub mean-is : quotZ (double x y N e *ℤ pos (reciprocalOf N)) (pos reciprocalParts) ≡ quotZ (double x y N e) (pos N)
-  mean-is = quot-by-reciprocal (double x y N e) N (omega (arith, b .inside)) (reciprocal-serves (natAbs (double x y N e)) N narrow (double-abs b))
+  size-is : i64 (pos 0 -ℤ i64 (leftPart x N e)) -ℤ i64 (rightPart y e) ≡ pos (size x y N e)
+  size-is = rw (toZ-ofZ left-size-fits, left-size-is, right-reads b narrow) (less-negative (natAbs x * (2 * (N - e))) (natAbs y * (2 * e)))
 
-  pub mean-fits : SFits w32 (quotZ (double x y N e) (pos N))
-  mean-fits = sfits-of-natAbs (quotZ (double x y N e) (pos N)) (omega (arith, mean-abs b))
+  pub size-fits : SFits w64 (i64 (pos 0 -ℤ i64 (leftPart x N e)) -ℤ i64 (rightPart y e))
+  size-fits = rw size-is (record { sfits = omega (arith, size-le b) })
+
+  pub size-reads : i64 (i64 (pos 0 -ℤ i64 (leftPart x N e)) -ℤ i64 (rightPart y e)) ≡ pos (size x y N e)
+  size-reads = toZ-ofZ size-fits ∙ size-is
 
 -- ---- the size of a coefficient
 
 -- two neighbours of the table
-pub entries : (L e N : ℕ) → L + 1 < sincTableSize → e < N → Blend (getD sincTable L (pos 0)) (getD sincTable (L + 1) (pos 0)) N e
-entries L e N h k = record { left-small = entry-abs L (omega arith); right-small = entry-abs (L + 1) (omega arith); inside = k }
+pub entries : (below : Bool) (L e N : ℕ) → L + 1 < sincTableSize → e < N → EntriesOnSide below L
+    → Blend below (getD sincTable L (pos 0)) (getD sincTable (L + 1) (pos 0)) N e
+entries below L e N h k side = record {
+  left-small = entry-abs L (omega arith);
+  right-small = entry-abs (L + 1) (omega arith);
+  left-side = side .0;
+  right-side = side .1;
+  inside = k;
+}
 
 pub remainder-lt : (i r N : ℕ) → r < N → remainder i r N < N
 remainder-lt i r N h = rw (remainder-is i r N) (mod-lt (lobePoints * r) (omega arith))
 
 -- no coefficient exceeds 65,534 in size
 pub sincCoefficient-abs : (i r N : ℕ) → i < sincFilterPoints → r < N → natAbs (sincCoefficient i r N) ≤ 65534
-unfolding sincCoefficient tableValue
-sincCoefficient-abs i r N k h = mean-abs (entries (tablePlace i r N) (remainder i r N) N (tablePlace-lt i r N k h) (remainder-lt i r N h))
+unfolding sincCoefficient tableValue tablePlace
+sincCoefficient-abs i r N k h =
+    let b = entries (belowZero i) (tablePlace i r N) (remainder i r N) N (tablePlace-lt i r N k h) (remainder-lt i r N h)
+    (lobe-side i (lobePoints * r / N) k (place-lt r N h)) in
+    rw (mean-is b, natAbs-signed (belowZero i) _) (share-le b)

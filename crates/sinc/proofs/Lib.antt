@@ -1,4 +1,5 @@
 pub mod TableRule
+pub mod Lobes
 pub mod Coefficient
 pub mod Tabulated
 pub mod Taps

@@ -1,3 +1,4 @@
 pub mod SincTable
 pub mod Sinc
+pub mod Lobes
 pub mod Weights

@@ -4,7 +4,7 @@ pub mod table;
 
 use frames::Samples;
 ghost use mathlib.Core.Path.{_≡_};
-ghost use Prim.Native.Nat.{_+_, _-_, _*_, _≤_, _<_};
+ghost use Prim.Native.Nat.{_+_, _-_, _*_, _/_, _≤_, _<_};
 ghost use lib.IntN.{pos};
 ghost use lib.ListN.{length, drop, getD};
 ghost use lib.Seq.{paste};
@@ -12,6 +12,7 @@ ghost use Rattle.laws.specs.Reciprocal.{reciprocalOf};
 ghost use Rattle.sinc.specs.SincTable.{sincTable, sincTableSize};
 ghost use Rattle.sinc.specs.Sinc.{sincFilterPoints, maxWidth, tableValue, sincCoefficient};
 ghost use Rattle.sinc.specs.Sinc.{heldSample, interpolateFrame};
+ghost use Rattle.sinc.specs.Lobes.{belowZero, EntriesOnSide};
 ghost use Rattle.sinc.specs.Weights.{SmallWeights, weightedSample, CoefficientsAt};
 
 // The taps of a sample, and so the tail frames that a frame is made of.
@@ -30,28 +31,49 @@ pub fn sinc_table() -> [i16; table::SINC_TABLE_SIZE]
     table::SINC_TABLE
 }
 
-// The value of the filter at `remainder` of `width` parts behind the table place `left`, times 2: divided by the
-// reciprocal of `width`.
+// A size divided by `width`: a multiplication by its reciprocal.
+fn divide(size: u64, width: usize, reciprocal: u64) -> u64
+    requires { ⌜ (1 ≤ width) × (width ≤ maxWidth) × (size ≤ 65534 * width) × (reciprocal ≡ reciprocalOf width) ⌝ }
+    ensures { λ r. ⌜ r ≡ size / width ⌝ }
+{
+    size * reciprocal / RECIPROCAL_PARTS
+}
+
+// The value of the filter at `remainder` of `width` parts behind the table place `left`, times 2. No entry there is
+// above zero if `below`, else none is below zero. So the size of their sum is divided and the sign put back, which
+// rounds toward zero.
 fn find_sinc_coefficient(
     table: &[i16],
     left: usize,
     remainder: usize,
     width: usize,
     reciprocal: u64,
+    below: bool,
 ) -> i32
     requires { ⌜ (now table ≡ sincTable) × (left + 1 < sincTableSize) × (remainder < width) × (width ≤ maxWidth)
-        × (reciprocal ≡ reciprocalOf width) ⌝ }
+        × (reciprocal ≡ reciprocalOf width) × EntriesOnSide below left ⌝ }
     ensures { λ r. ⌜ r ≡ tableValue left remainder width ⌝ }
 {
     let right = left + 1;
-    let left_value = table[left] as i32;
-    let right_value = table[right] as i32;
-    let n = width as i32;
-    let e = remainder as i32;
-    let sum = left_value * (n - e) + right_value * e;
-    let double = (2 * sum) as i64;
-    let parts = reciprocal as i64;
-    (double * parts / (RECIPROCAL_PARTS as i64)) as i32
+    let left_value = table[left] as i64;
+    let right_value = table[right] as i64;
+    let e = 2 * (remainder as i64);
+    let n = 2 * (width as i64) - e;
+    let left_part = left_value * n;
+    let right_part = right_value * e;
+    if below {
+        let size = (0 - left_part - right_part) as u64;
+        return (0 - (divide(size, width, reciprocal) as i64)) as i32;
+    }
+    let size = (left_part + right_part) as u64;
+    (divide(size, width, reciprocal) as i64) as i32
+}
+
+// Whether no entry of tap i's lobe is above zero.
+fn is_below_zero(i: usize) -> bool
+    ensures { λ r. ⌜ r ≡ belowZero i ⌝ }
+{
+    if i < 6 { i % 2 == 0 } else { i % 2 == 1 }
 }
 
 // The reciprocal of a width, in parts; of 0 it is 1.
@@ -71,10 +93,10 @@ fn tap_coefficient(table: &[i16], i: usize, ratio: usize, width: usize, reciproc
     ensures { λ r. ⌜ r ≡ sincCoefficient i ratio width ⌝ }
 {
     let points = LOBE_POINTS * ratio;
-    let place = (points as u64 * reciprocal / RECIPROCAL_PARTS) as usize;
+    let place = divide(points as u64, width, reciprocal) as usize;
     let remainder = points - place * width;
     let left = LOBE_POINTS * i + place;
-    find_sinc_coefficient(table, left, remainder, width, reciprocal)
+    find_sinc_coefficient(table, left, remainder, width, reciprocal, is_below_zero(i))
 }
 
 // The coefficients of the 12 taps.
