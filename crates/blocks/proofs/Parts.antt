@@ -16,6 +16,7 @@ use Rattle.adding.specs.declared.Wrote.{Wrote}
 use Rattle.passes.specs.declared.Passes.{Passes}
 use Rattle.inputs.proofs.Begun.{block-most}
 use Rattle.plans.specs.declared.Plan.{Plan}
+use Rattle.plans.specs.Plans.{outputArea}
 use Rattle.reels.specs.declared.reading.BlockRead.{BlockRead}
 use Rattle.reels.specs.declared.reel.Reel.{Reel}
 use Rattle.reels.specs.declared.state.RunState.{RunState}
@@ -110,10 +111,11 @@ part-start {p} {r} n z h y =
     }
 
 -- one more write, a part of the map written and frames written out after it
-pub part-more : {plan : Plan} {r s t u v : Reel} {answer : Wrote} (n k m : ℕ) → n + k ≡ m → takesMore plan s ≡ true → PartWritten plan n r s
-    → WriteAnswered ((s .written + k) % 2 ^ 64) s answer t → t .stream .channels ≡ s .stream .channels → Serving plan t → MapWritten t u → WrittenOut u v
+pub part-more : {plan : Plan} {r s t u v : Reel} {answer : Wrote} {samples : ℕ} (n k m : ℕ) → n + k ≡ m → samples ≡ outputArea (plan .small)
+    → takesMore plan s ≡ true → PartWritten plan n r s
+    → WriteAnswered ((s .written + k) % 2 ^ 64) s answer t → t .stream .channels ≡ s .stream .channels → Serving plan t → MapWritten t u → WrittenOut samples u v
     → PartWritten plan m r v
-part-more {plan} {r} {s} n k m e g p w c y a o =
+part-more {plan} {r} {s} n k m e z g p w c y a o =
     record {
       still = λ h. p .still g;
       written-is =
@@ -122,13 +124,14 @@ part-more {plan} {r} {s} n k m e g p w c y a o =
       input-kept = input-trans (p .input-kept) (input-trans (w .input-kept) (input-trans (a .input-kept) (o .input-kept)));
       flushed-kept = o .flushed-kept ∙ a .flushed-kept ∙ w .flushed-is ∙ p .flushed-kept;
       channels-kept = o .channels-kept ∙ ap (λ (x : SonicStream). x .channels) (a .stream-kept) ∙ c ∙ p .channels-kept;
-      serving = o .serving-kept plan (map-serving plan a y);
+      serving = o .serving-kept plan z (map-serving plan a y);
     }
 
 -- the writes end with the block, or where the run has stopped
-pub part-end : {plan : Plan} {r s t : Reel} (n m few : ℕ) → (takesMore plan s ≡ true → n ≡ m) → few ≤ 1 → PartWritten plan n r s → Drained few s t
+pub part-end : {plan : Plan} {r s t : Reel} {samples : ℕ} (n m few : ℕ) → (takesMore plan s ≡ true → n ≡ m) → few ≤ 1
+    → samples ≡ outputArea (plan .small) → PartWritten plan n r s → Drained samples few s t
     → BlockWritten plan m r t
-part-end {plan} {r} {s} {t} n m few all one p d =
+part-end {plan} {r} {s} {t} n m few all one z p d =
     record {
       part =
           record {
@@ -139,7 +142,7 @@ part-end {plan} {r} {s} {t} n m few all one p d =
             input-kept = input-trans (p .input-kept) (d .out .input-kept);
             flushed-kept = d .out .flushed-kept ∙ p .flushed-kept;
             channels-kept = d .out .channels-kept ∙ p .channels-kept;
-            serving = d .out .serving-kept plan (p .serving);
+            serving = d .out .serving-kept plan z (p .serving);
           };
       none-waits = λ e. omega (arith, d .fewer e);
     }

@@ -15,7 +15,7 @@ use Rattle.fill.specs.declared.Told.{Told}
 use Rattle.fill.specs.declared.Outcome.the-variants.{Stalled}
 use Rattle.adding.specs.Calls.{writeCall, OrderAfter}
 use Rattle.plans.specs.declared.Plan.{Plan}
-use Rattle.plans.specs.Plans.{blockSamples, limitOf, planOf, Usable}
+use Rattle.plans.specs.Plans.{blockSamples, isSmall, limitOf, planOf, Usable}
 use Rattle.serving.specs.Steady.{AreasSized, WriteWent}
 use Rattle.serving.proofs.Claims.{write-served}
 use Rattle.reels.specs.declared.reel.Reel.{Reel}
@@ -50,7 +50,7 @@ few-after p s at n plan o t true e left = tt
 few-after p s at n plan o t false e left =
     ⊎-elim (λ h. absurd (true≢false (ap isStalled (sym (h .0)) ∙ e))) (λ h. rw plan h) left
 
-pub write-serving : (p : Plan) (r t : Reel) (samples : List Float) (a : Areas) (written : ℕ) → AreasSized a
+pub write-serving : (p : Plan) (r t : Reel) (samples : List Float) (a : Areas) (written : ℕ) → AreasSized (p .small) a
     → r .stream .waiting .0 ≤ blockSamples / p .channels → r .stream .held .0 + length samples / p .channels ≤ p .limit
     → takesMore p r ≡ true → Serving p r → OrderAfter (writeCall (r .stream) samples a .answer)
     → WriteAnswered written r (writeCall (r .stream) samples a .answer) t → Serving p t
@@ -59,7 +59,8 @@ write-serving p r t samples a written z waits few e y order w =
     let within : s .held .0 + length samples / s .channels ≤ limitOf s =
     subst (λ (q : Plan). s .held .0 + length samples / q .channels ≤ q .limit) (y .plan-is) few in
     let block : s .waiting .0 ≤ blockSamples / s .channels = subst (λ (q : Plan). s .waiting .0 ≤ blockSamples / q .channels) (y .plan-is) waits in
-    let never = write-served s (y .steady) a z block samples within (writeCall s samples a .answer) refl order in
+    let sized : AreasSized (isSmall s) a = subst (λ (q : Plan). AreasSized (q .small) a) (y .plan-is) z in
+    let never = write-served s (y .steady) a sized block samples within (writeCall s samples a .answer) refl order in
     let state = w .state-is ∙ becomes (r .state) _ (takes-sound p (s .held .0) (r .state) e) in
     answered-serving p s (y .steady) (y .plan-is) _ (WriteWent s (length samples / s .channels)) tt
     (λ o u g. (g .steady, g .same, few-after p s _ _ (y .plan-is) o u (isStalled (o .outcome)) refl (g .left))) t (writeCall s samples a .answer) never

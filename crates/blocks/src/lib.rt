@@ -18,7 +18,7 @@ ghost use lib.ListN.{length};
 ghost use Rattle.frames.specs.Areas.{areas};
 ghost use Rattle.floats.specs.Write.{sampleOut};
 ghost use Rattle.adding.specs.Calls.{writeCall, OrderAfter};
-ghost use Rattle.plans.specs.Plans.{outputArea, blockSamples, blockBytes, Usable};
+ghost use Rattle.plans.specs.Plans.{blockSamples, blockBytes, Usable};
 ghost use Rattle.serving.specs.Steady.{AreasSized};
 ghost use Rattle.reels.specs.Serving.{Serving};
 ghost use Rattle.reels.specs.Reels.{Drained};
@@ -78,9 +78,8 @@ fn drain_full(
     values: &mut [f32],
     bytes: &mut [u8],
 ) -> Reel
-    requires { ⌜ (1 ≤ few) × (32 ≤ length (now values)) × (2 * length (now values) ≤ length (now bytes))
-        × (outputArea ≡ length (now output)) ⌝ }
-    ensures { λ r. ⌜ Drained few reel r ⌝ }
+    requires { ⌜ (1 ≤ few) × (32 ≤ length (now values)) × (2 * length (now values) ≤ length (now bytes)) ⌝ }
+    ensures { λ r. ⌜ Drained (length (now (output .entry))) few reel r ⌝ }
 {
     if reel.stream.waiting.0 < few {
         return reel;
@@ -103,7 +102,8 @@ fn write_block(
 ) -> Reel
     requires { ⌜ Usable plan × (reel .stream .channels ≡ plan .channels) × (length (now block) % plan .channels ≡ 0) ⌝ }
     requires { ⌜ (32 ≤ length (now values)) × (2 * length (now values) ≤ length (now bytes))
-        × AreasSized (areas (now input) (now stage) (now output) (now scratch)) × Serving plan reel × NoneWaits reel ⌝ }
+        × AreasSized (plan .small) (areas (now input) (now stage) (now output) (now scratch)) × Serving plan reel
+        × NoneWaits reel ⌝ }
     ensures { λ r. ⌜ BlockWritten plan (length (now (block .entry)) / plan .channels) reel r ⌝ }
 {
     let few = Samples(BLOCK_SAMPLES).frames(plan.channels).0;
@@ -143,7 +143,8 @@ pub fn turn(
         × (reel .partial ≡ 0) ⌝ }
     requires { ⌜ (blockSamples ≡ length (now block)) × (blockSamples ≡ length (now values))
         × (blockBytes ≡ length (now bytes))
-        × AreasSized (areas (now input) (now stage) (now output) (now scratch)) × Serving plan reel × NoneWaits reel ⌝ }
+        × AreasSized (plan .small) (areas (now input) (now stage) (now output) (now scratch)) × Serving plan reel
+        × NoneWaits reel ⌝ }
     ensures { λ r. ⌜ Turned plan reel r ⌝ }
 {
     let read = read_block(reel, plan, block, bytes);

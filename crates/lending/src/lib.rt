@@ -4,12 +4,14 @@ use plans::BLOCK_BYTES;
 use plans::BLOCK_SAMPLES;
 use plans::Plan;
 use reels::reel::Reel;
+ghost use mathlib.Core.Path.{_≡_};
+ghost use mathlib.Core.Bool.{false};
 ghost use Rattle.plans.specs.Plans.{Usable};
 ghost use Rattle.skimming.specs.Skimming.{Underway, Complete};
 
-// Does a job.
+// Does a job that is not small.
 pub fn skim(reel: Reel, plan: Plan) -> Reel
-    requires { ⌜ Usable plan × Underway plan reel ⌝ }
+    requires { ⌜ Usable plan × Underway plan reel × (plan .small ≡ false) ⌝ }
     ensures { λ r. ⌜ Complete plan r ⌝ }
 {
     let mut input = [0i16; plans::INPUT_AREA];

@@ -1,1 +1,3 @@
 pub mod Planning
+pub mod Sizes
+pub mod Lengths

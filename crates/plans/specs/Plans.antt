@@ -3,7 +3,8 @@ use mathlib.Core.Bool.{Bool, false, cond}
 use Prim.Native.Nat.{ℕ, _+_, _-_, _*_, _/_, _≤_, min}
 use lib.Dec.{leb}
 use lib.IntN.{pos}
-use lib.Ieee.{Float, fin, binary32, mul, div, toUnsigned}
+use lib.Ieee.{Float, fin, binary32, mul, div, le, toUnsigned}
+use Rattle.floats.specs.Numbers.{half}
 use Rattle.period.specs.Rates.{minPeriod, maxPeriod, maxRequired, InLimits}
 use Rattle.rate.specs.Halving.{ratesOf}
 use Rattle.stream.specs.declared.SonicStream.{SonicStream}
@@ -12,15 +13,15 @@ use Rattle.plans.specs.declared.Service.{Service}
 
 -- ---- sizes: the constants of src/lib.rt
 
--- the samples of each area
+-- the samples of each area; stage and output are smaller for a small job
 abbrev pub inputArea : ℕ
 inputArea = 196608
 
-abbrev pub stageArea : ℕ
-stageArea = 1048576
+unfoldable pub stageArea : Bool → ℕ
+stageArea small = cond small 196992 1048576
 
-abbrev pub outputArea : ℕ
-outputArea = 1048576
+unfoldable pub outputArea : Bool → ℕ
+outputArea small = cond small 409600 1048576
 
 abbrev pub scratchArea : ℕ
 scratchArea = 15384
@@ -37,6 +38,10 @@ abbrev pub tailFrames : ℕ
 tailFrames = 12
 
 -- ---- the jobs that they serve
+
+-- a small job: speed/pitch is 4 or more, and the pitch 0.5 or more
+unfoldable pub isSmall : SonicStream → Bool
+isSmall s = cond (leb 4 (toUnsigned 64 (div binary32 (s .speed) (s .pitch)))) (le half (s .pitch)) false
 
 -- 3.0, as an f32
 abbrev pub three : Float
@@ -60,7 +65,7 @@ heldWithin room growth = (room - tailFrames) / growth
 -- the stretched frames whose frames at the new rate the output has room for, behind fewer than a block
 unfoldable pub outputRoom : SonicStream → ℕ
 outputRoom s =
-    (outputArea / s .channels - 2 - blockSamples / s .channels) * ratesOf (s .rate) (s .pitch) .old
+    (outputArea (isSmall s) / s .channels - 2 - blockSamples / s .channels) * ratesOf (s .rate) (s .pitch) .old
     / ratesOf (s .rate) (s .pitch) .new
 
 -- the most frames held for which the growth is a bound, since play time is rounded: any where speed/pitch is 2 or more,
@@ -75,7 +80,7 @@ limitOf s =
     let growth : ℕ = growthOf (s .speed) (s .pitch) (maxPeriod (s .rate)) in
     min (heldMost s)
     (min (inputArea / s .channels)
-    (min (heldWithin (stageArea / s .channels) growth) (heldWithin (outputRoom s) growth)))
+    (min (heldWithin (stageArea (isSmall s) / s .channels) growth) (heldWithin (outputRoom s) growth)))
 
 -- whether the areas serve a job: the most frames that a write or a flush holds are within the limit
 abbrev pub served : SonicStream → Bool
@@ -91,6 +96,7 @@ planOf s =
       full = fillTo (s .speed) (s .pitch) (minPeriod (s .rate)) (maxRequired (s .rate));
       required = maxRequired (s .rate);
       limit = limitOf s;
+      small = isSmall s;
     }
 
 -- the plan of a job that the areas serve

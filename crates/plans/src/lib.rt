@@ -8,8 +8,8 @@ ghost use mathlib.Core.Bool.{true};
 ghost use Prim.Native.Nat.{_≤_, min};
 ghost use Rattle.search.specs.Search.{longestPeriod};
 ghost use Rattle.stream.specs.Refusals.{inOrder};
-ghost use Rattle.plans.specs.Plans.{scratchArea, growthOf, fillTo, heldWithin, outputRoom, heldMost, limitOf};
-ghost use Rattle.plans.specs.Plans.{planOf, serviceOf};
+ghost use Rattle.plans.specs.Plans.{scratchArea, isSmall, stageArea, outputArea, growthOf, fillTo, heldWithin};
+ghost use Rattle.plans.specs.Plans.{outputRoom, heldMost, limitOf, planOf, serviceOf};
 
 // The samples of each area. They serve 16,000 Hz in one channel at every speed and pitch, and 44,100 Hz in two at every
 // speed.
@@ -18,6 +18,12 @@ pub const INPUT_AREA: usize = 196_608;
 pub const STAGE_AREA: usize = 1_048_576;
 
 pub const OUTPUT_AREA: usize = 1_048_576;
+
+// Those of a small job: what it makes of a full input is no more. They are set to zero at the start, and it is seen in
+// the tool's time how many there are.
+pub const SMALL_STAGE_AREA: usize = 196_992;
+
+pub const SMALL_OUTPUT_AREA: usize = 409_600;
 
 // What a search at 500,000 Hz looks at.
 pub const SCRATCH_AREA: usize = 15_384;
@@ -31,7 +37,7 @@ pub const BLOCK_BYTES: usize = 8_192;
 const TAIL_FRAMES: usize = 12;
 
 // How a job is done: its rate and channels, the samples of a block in whole frames, the frames that a write fills the
-// input up to, the frames that a search looks at, and the most frames that a call may hold.
+// input up to, the frames that a search looks at, the most frames that a call may hold, and whether the job is small.
 pub struct Plan {
     pub rate: u64,
     pub channels: usize,
@@ -39,6 +45,7 @@ pub struct Plan {
     pub full: usize,
     pub required: usize,
     pub limit: usize,
+    pub small: bool,
 }
 
 // Whether the areas serve a job.
@@ -51,6 +58,40 @@ fn least(a: usize, b: usize) -> usize
     ensures { λ r. ⌜ r ≡ min a b ⌝ }
 {
     if a < b { a } else { b }
+}
+
+// Whether a job is small: at 4 and more times the pitch as speed the stretch only skips, and from pitch 0.5 on rate
+// conversion makes about two frames of one at the most.
+fn is_small(stream: SonicStream) -> bool
+    ensures { λ r. ⌜ r ≡ isSmall stream ⌝ }
+{
+    let s = floats::casts::f32_to_usize(stream.speed / stream.pitch);
+    if s < 4 {
+        return false;
+    }
+    stream.pitch >= 0.5
+}
+
+// The samples of a job's stage.
+fn stage_area(stream: SonicStream) -> usize
+    ensures { λ r. ⌜ r ≡ stageArea (isSmall stream) ⌝ }
+{
+    if is_small(stream) {
+        SMALL_STAGE_AREA
+    } else {
+        STAGE_AREA
+    }
+}
+
+// The samples of its output.
+fn output_area(stream: SonicStream) -> usize
+    ensures { λ r. ⌜ r ≡ outputArea (isSmall stream) ⌝ }
+{
+    if is_small(stream) {
+        SMALL_OUTPUT_AREA
+    } else {
+        OUTPUT_AREA
+    }
 }
 
 // The most frames that the stretch makes of each that it uses. A skip step makes fewer than it uses. An insert step of
@@ -104,7 +145,7 @@ fn output_room(stream: SonicStream) -> usize
 {
     let channels = stream.channels as usize;
     let rates = rate::rates_of(stream.rate, stream.pitch);
-    let area = Samples(OUTPUT_AREA).frames(channels).0;
+    let area = Samples(output_area(stream)).frames(channels).0;
     let block = Samples(BLOCK_SAMPLES).frames(channels).0;
     (area - 2 - block) * rates.old / rates.new
 }
@@ -132,7 +173,7 @@ fn limit(stream: SonicStream) -> Frames
     let held = held_most(stream);
     let longest = period::max_period(stream.rate as usize);
     let growth = growth(stream.speed, stream.pitch, longest);
-    let staged = held_within(Samples(STAGE_AREA).frames(channels).0, growth);
+    let staged = held_within(Samples(stage_area(stream)).frames(channels).0, growth);
     let made = held_within(output_room(stream), growth);
     let taken = Samples(INPUT_AREA).frames(channels).0;
     Frames(least(held, least(taken, least(staged, made))))
@@ -160,6 +201,7 @@ fn plan_of(stream: SonicStream, limit: Frames) -> Plan
         full,
         required: required.0,
         limit: limit.0,
+        small: is_small(stream),
     }
 }
 

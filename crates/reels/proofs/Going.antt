@@ -72,7 +72,7 @@ notes-trans a b =
 pub same-notes : {r : Reel} → SameNotes r r
 same-notes = record { stalls-same = refl; from-same = refl; passed-same = refl; gave-same = refl; tail-same = refl; passes-same = refl }
 
-pub out-same : {r : Reel} → WrittenOut r r
+pub out-same : {samples : ℕ} {r : Reel} → WrittenOut samples r r
 out-same =
     record {
       input-kept = same-input;
@@ -84,10 +84,10 @@ out-same =
       held-kept = refl;
       state-stays = λ e. refl;
       accounted = λ e. refl;
-      serving-kept = λ p s. s;
+      serving-kept = λ p z s. s;
     }
 
-pub out-trans : {r s t : Reel} → WrittenOut r s → WrittenOut s t → WrittenOut r t
+pub out-trans : {samples : ℕ} {r s t : Reel} → WrittenOut samples r s → WrittenOut samples s t → WrittenOut samples r t
 out-trans {r} {s} {t} a b =
     let before : sound (t .state) ≡ true → sound (s .state) ≡ true = λ e. ap sound (sym (b .state-stays e)) ∙ e in
     record {
@@ -100,7 +100,7 @@ out-trans {r} {s} {t} a b =
       held-kept = b .held-kept ∙ a .held-kept;
       state-stays = λ e. b .state-stays e ∙ a .state-stays (before e);
       accounted = λ e. b .accounted e ∙ a .accounted (before e);
-      serving-kept = λ p y. b .serving-kept p (a .serving-kept p y);
+      serving-kept = λ p z y. b .serving-kept p z (a .serving-kept p z y);
     }
 
 -- a stream that takes more, in a state that a sound one may have become, did so before
@@ -110,7 +110,7 @@ stays-takes p r t held stays e =
     let same = stays (takes-sound p (t .stream .held .0) (t .state) e) in
     ap (λ (n : ℕ). takes p n (r .state)) (sym held) ∙ ap (takes p (t .stream .held .0)) (sym same) ∙ e
 
-pub out-takes : (p : Plan) {r t : Reel} → WrittenOut r t → takesMore p t ≡ true → takesMore p r ≡ true
+pub out-takes : (p : Plan) {samples : ℕ} {r t : Reel} → WrittenOut samples r t → takesMore p t ≡ true → takesMore p r ≡ true
 out-takes p {r} {t} w e = stays-takes p r t (w .held-kept) (w .state-stays) e
 
 pub moved : (out n waiting after left : ℕ) → after ≡ (out + n) % 2 ^ 64 → left ≡ waiting - n → n ≤ waiting

@@ -1,4 +1,4 @@
--- A reel of a served job stays one: serving-moved and serving-stays, in a state that stayed or failed; answered-serving, after a call. Assumes nothing.
+-- A reel of a served job, output-of, stays one: serving-moved and serving-stays, in a state that stayed or failed; answered-serving, after a call. Assumes nothing.
 use mathlib.Core.Path.{_≡_, refl, sym, ap, _∙_, subst}
 use mathlib.Core.Bool.{Bool, true, false, cond}
 use Prim.Native.Nat.{ℕ}
@@ -6,7 +6,7 @@ use Rattle.stream.specs.declared.SonicStream.{SonicStream}
 use Rattle.fill.specs.declared.Told.{Told}
 use Rattle.adding.specs.declared.Wrote.{Wrote}
 use Rattle.adding.specs.Calls.{streamAfter}
-use Rattle.plans.specs.Plans.{planOf}
+use Rattle.plans.specs.Plans.{isSmall, outputArea, planOf}
 use Rattle.plans.specs.declared.Plan.{Plan}
 use Rattle.serving.specs.Steady.{Steady, SameJob, NeverRefused}
 use Rattle.serving.proofs.Served.{plan-same}
@@ -14,6 +14,10 @@ use Rattle.reels.specs.declared.reel.Reel.{Reel}
 use Rattle.reels.specs.declared.state.RunState.{RunState}
 use Rattle.reels.specs.States.{sound, kept, isStalled, stateIn}
 use Rattle.reels.specs.Serving.{OnlyTotals, FewHeld, Serving}
+
+-- its output is that of its plan
+pub output-of : (p : Plan) (r : Reel) (samples : ℕ) → Serving p r → samples ≡ outputArea (p .small) → samples ≡ outputArea (isSmall (r .stream))
+output-of p r samples y z = subst (λ (q : Plan). samples ≡ outputArea (q .small)) (y .plan-is) z
 
 -- a state that is sound is the one before
 few-stays : (p : Plan) (held : ℕ) (s t : RunState) → (sound t ≡ true → t ≡ s) → FewHeld p held s → FewHeld p held t

@@ -19,6 +19,7 @@ use Rattle.read.specs.Reading.{streamAfterRead}
 use Rattle.passes.specs.declared.Passes.{Passes}
 use Rattle.passes.specs.Passes.{none}
 use Rattle.plans.specs.declared.Plan.{Plan}
+use Rattle.plans.specs.Plans.{outputArea}
 use Rattle.inputs.specs.declared.Source.{Source}
 use Rattle.inputs.specs.declared.BlockBytes.{BlockBytes}
 use Rattle.inputs.specs.Sources.{blockOf, sourceAfter, Begins}
@@ -132,8 +133,8 @@ pub record BlockCounted (p : Plan) (r : Reel) (f : BlockBytes) (r' : Reel) : Typ
 
 -- ---- frames written out
 
--- after frames that wait were written out: unless that failed, each waits or is counted
-pub record WrittenOut (r r' : Reel) : Type 0 where
+-- after frames that wait in an output of so many samples were written out: unless that failed, each waits or is counted
+pub record WrittenOut (samples : ℕ) (r r' : Reel) : Type 0 where
   pub input-kept : SameInput r r'
   pub written-kept : r' .written ≡ r .written
   pub flushed-kept : r' .flushed ≡ r .flushed
@@ -144,18 +145,18 @@ pub record WrittenOut (r r' : Reel) : Type 0 where
   pub state-stays : sound (r' .state) ≡ true → r' .state ≡ r .state
   pub accounted : sound (r' .state) ≡ true → (r' .«frames_out» + r' .stream .waiting .0) % 2 ^ 64
       ≡ (r .«frames_out» + r .stream .waiting .0) % 2 ^ 64
-  pub serving-kept : (p : Plan) → Serving p r → Serving p r'
+  pub serving-kept : (p : Plan) → samples ≡ outputArea (p .small) → Serving p r → Serving p r'
 
 -- after one turn, a read with this answer, which takes a frame or more if any waits
-pub record FewerWait (answer : Gave) (r r' : Reel) : Type 0 where
-  pub out : WrittenOut r r'
+pub record FewerWait (samples : ℕ) (answer : Gave) (r r' : Reel) : Type 0 where
+  pub out : WrittenOut samples r r'
   pub stream-is : r' .stream ≡ streamAfterRead answer
   pub fewer : sound (r' .state) ≡ true → 0 < r .stream .waiting .0
       → r' .stream .waiting .0 < r .stream .waiting .0
 
 -- after the turns, which leave fewer than `few`
-pub record Drained (few : ℕ) (r r' : Reel) : Type 0 where
-  pub out : WrittenOut r r'
+pub record Drained (samples few : ℕ) (r r' : Reel) : Type 0 where
+  pub out : WrittenOut samples r r'
   pub fewer : sound (r' .state) ≡ true → r' .stream .waiting .0 < few
 
 -- ---- a block read

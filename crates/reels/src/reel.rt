@@ -21,7 +21,7 @@ ghost use Prim.Native.Nat.{_-_, _*_, _≤_};
 ghost use lib.ListN.{length};
 ghost use Rattle.pcm.specs.Pcm.{Encoded};
 ghost use Rattle.read.specs.Reading.{readCall};
-ghost use Rattle.plans.specs.Plans.{outputArea, blockSamples, Usable};
+ghost use Rattle.plans.specs.Plans.{blockSamples, Usable};
 ghost use Rattle.reels.specs.States.{kept, failed};
 ghost use Rattle.reels.specs.Reels.{takesMore, readsMore, freshReel};
 ghost use Rattle.reels.specs.Reels.{Answered, Stopped, FewerWait, Drained};
@@ -188,10 +188,9 @@ impl Reel {
 
     // Reads a block of the frames waiting, and writes it out.
     fn write_out(mut self, output: &mut [i16], values: &mut [f32], bytes: &mut [u8]) -> Reel
-        requires { ⌜ (32 ≤ length (now values)) × (2 * length (now values) ≤ length (now bytes))
-            × (outputArea ≡ length (now output)) ⌝ }
-        ensures { λ r. ⌜ FewerWait (readCall (self .stream) blockSamples (now (values .entry))
-            (now (output .entry)) .answer) self r ⌝ }
+        requires { ⌜ (32 ≤ length (now values)) × (2 * length (now values) ≤ length (now bytes)) ⌝ }
+        ensures { λ r. ⌜ FewerWait (length (now (output .entry)))
+            (readCall (self .stream) blockSamples (now (values .entry)) (now (output .entry)) .answer) self r ⌝ }
     {
         let channels = self.stream.channels as usize;
         match read::read_f32(self.stream, Frames(BLOCK_SAMPLES), values, output) {
@@ -214,9 +213,8 @@ impl Reel {
 
     // Writes out the frames waiting, while there are as many as `few`, at least 1. Each turn gives one or more.
     pub fn drain(self, few: usize, output: &mut [i16], values: &mut [f32], bytes: &mut [u8]) -> Reel
-        requires { ⌜ (1 ≤ few) × (32 ≤ length (now values)) × (2 * length (now values) ≤ length (now bytes))
-            × (outputArea ≡ length (now output)) ⌝ }
-        ensures { λ r. ⌜ Drained few self r ⌝ }
+        requires { ⌜ (1 ≤ few) × (32 ≤ length (now values)) × (2 * length (now values) ≤ length (now bytes)) ⌝ }
+        ensures { λ r. ⌜ Drained (length (now (output .entry))) few self r ⌝ }
     {
         let mut reel = self;
         let mut turns = reel.stream.waiting.0;

@@ -24,7 +24,8 @@ pub fn run(
 ) -> Reel
     requires { ⌜ Usable plan × Underway plan reel ⌝ }
     requires { ⌜ (blockSamples ≡ length (now block)) × (blockSamples ≡ length (now values))
-        × (blockBytes ≡ length (now bytes)) × AreasSized (areas (now input) (now stage) (now output) (now scratch)) ⌝ }
+        × (blockBytes ≡ length (now bytes))
+        × AreasSized (plan .small) (areas (now input) (now stage) (now output) (now scratch)) ⌝ }
     ensures { λ r. ⌜ Complete plan r ⌝ }
 {
     let mut rounds = u64::MAX;

@@ -22,9 +22,9 @@ use Rattle.process.specs.Process.{wholeFrames, joined, writeWork, flushWork, ex
 use Rattle.adding.specs.declared.Wrote.{Wrote}
 use Rattle.adding.specs.Calls.{refusedCall, acceptedCall, callBy, refusalOf, writeCall, flushCall, OrderAfter}
 use Rattle.adding.proofs.Adding.{workOf}
-use Rattle.plans.specs.Plans.{outputArea, blockSamples, limitOf, served}
+use Rattle.plans.specs.Plans.{outputArea, blockSamples, isSmall, limitOf, served}
 use Rattle.serving.specs.Steady.{Steady, AreasSized, SameJob, WriteWent, FlushWent, NeverRefused}
-use Rattle.serving.proofs.Served.{limit-same, made-fits, work-fits, work-same, work-steady}
+use Rattle.serving.proofs.Served.{small-same, limit-same, made-fits, work-fits, work-same, work-steady}
 use Rattle.serving.proofs.Fresh.{steady-unheld}
 
 -- by the number of its refusal, 0 or 12
@@ -44,7 +44,7 @@ whole-is channels samples = length-framesOf channels (length samples / channels)
 served-same : (s t : SonicStream) → SameJob s t → served s ≡ true → served t ≡ true
 served-same s t j v = rw (limit-same s t j, j .rate) v
 
-module _ (s : SonicStream) (y : Steady s) (a : Areas) (z : AreasSized a) (waits : s .waiting .0 ≤ blockSamples / s .channels) where
+module _ (s : SonicStream) (y : Steady s) (a : Areas) (z : AreasSized (isSmall s) a) (waits : s .waiting .0 ≤ blockSamples / s .channels) where
   -- a call that adds the n frames fs
   module _ (fs : List Frame) (n : ℕ) (count : length fs ≡ n) (few : s .held .0 + n ≤ limitOf s) where
     within : s .held .0 + length fs ≤ limitOf s
@@ -60,7 +60,7 @@ module _ (s : SonicStream) (y : Steady s) (a : Areas) (z : AreasSized a) (waits 
         (work-fits s y a z waits fs within)) done
 
     -- so many of its frames behind those waiting
-    fits : (k : ℕ) → k ≤ length (workOf s a fs .frames) → (s .waiting .0 + k) * s .channels ≤ outputArea
+    fits : (k : ℕ) → k ≤ length (workOf s a fs .frames) → (s .waiting .0 + k) * s .channels ≤ outputArea (isSmall s)
     fits = made-fits s y a z waits fs within
 
     written : (k : ℕ) → k ≤ length (workOf s a fs .frames) → inOrder (streamOf (workOf s a fs .state) (s .waiting .0 + k)) ≡ true
@@ -76,7 +76,7 @@ module _ (s : SonicStream) (y : Steady s) (a : Areas) (z : AreasSized a) (waits 
         let same : SameJob s t = record { rate = j .rate; channels = j .channels; speed = j .speed; pitch = j .pitch } in
         record {
           steady = steady-unheld t (record { in-order = e; held = refl; tail = refl; play = refl }) (served-same s t same (y .is-served))
-              (rw (j .channels) (fits k few'));
+              (rw (small-same s t same, j .channels) (fits k few'));
           same = same;
           none = refl;
         }

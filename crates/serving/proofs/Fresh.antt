@@ -18,9 +18,9 @@ use Rattle.stream.specs.Settings.{fresh, openCall, withSetting}
 use Rattle.stream.specs.Refusals.{badRate, badChannels, rateBad, channelsBad}
 use Rattle.stream.proofs.Stays.{open-in-order, setting-in-order, waiting-in-order}
 use Rattle.stream.proofs.Streams.{held-is, tail-is}
-use Rattle.plans.specs.Plans.{outputArea, served}
+use Rattle.plans.specs.Plans.{outputArea, isSmall, served}
 use Rattle.serving.specs.Steady.{Steady, Unheld, Fresh, SameJob}
-use Rattle.serving.proofs.Served.{pace-ready, limit-same}
+use Rattle.serving.proofs.Served.{pace-ready, small-same, limit-same}
 
 -- ---- opened and set
 
@@ -62,7 +62,7 @@ fresh-set s v f =
       waiting = f .waiting;
     }
 
-pub steady-unheld : (s : SonicStream) → Unheld s → served s ≡ true → s .waiting .0 * s .channels ≤ outputArea → Steady s
+pub steady-unheld : (s : SonicStream) → Unheld s → served s ≡ true → s .waiting .0 * s .channels ≤ outputArea (isSmall s) → Steady s
 steady-unheld s f v w =
     record {
       in-order = f .in-order;
@@ -86,7 +86,7 @@ steady-read s w fewer y =
         is-served = rw (limit-same s t same) (y .is-served);
         tail-few = rw (tail-is s [] []) (y .tail-few);
         held-few = rw (limit-same s t same, held) (y .held-few);
-        waiting-fits = le-trans (mul-le-mul-right (s .channels) fewer) (y .waiting-fits);
+        waiting-fits = rw (small-same s t same) (le-trans (mul-le-mul-right (s .channels) fewer) (y .waiting-fits));
         paced = rw held (y .paced);
       },
       same,

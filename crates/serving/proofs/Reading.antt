@@ -13,15 +13,16 @@ use Rattle.stream.specs.Stream.{stateOf, streamOf}
 use Rattle.stream.specs.Refusals.{readRefusal, outputBad, maxArea}
 use Rattle.stream.proofs.Streams.{held-is}
 use Rattle.read.specs.Reading.{readCall, readBy, readCount}
-use Rattle.plans.specs.Plans.{outputArea}
+use Rattle.plans.specs.Plans.{outputArea, isSmall}
+use Rattle.plans.proofs.Sizes.{output-most}
 use Rattle.serving.specs.Steady.{Steady, ReadWent}
 use Rattle.serving.proofs.Fresh.{steady-read}
 
-module _ (s : SonicStream) (y : Steady s) (output : List ℤ) (z : length output ≡ outputArea) where
+module _ (s : SonicStream) (y : Steady s) (output : List ℤ) (z : length output ≡ outputArea (isSmall s)) where
   not-refused : readRefusal s output ≡ 0
   unfolding readRefusal outputBad
   not-refused =
-      rw (y .in-order, le-ltb maxArea (length output) (omega (arith, z)), le-ltb (length output) (s .waiting .0 * s .channels) (omega (arith, z, y .waiting-fits)))
+      rw (y .in-order, le-ltb maxArea (length output) (omega (arith, z, output-most (isSmall s))), le-ltb (length output) (s .waiting .0 * s .channels) (omega (arith, z, y .waiting-fits)))
 
   went : (n : ℕ) (waiting : List Frame) → ReadWent s (readBy 0 s n waiting .answer)
   unfolding streamOf stateOf

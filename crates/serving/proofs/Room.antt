@@ -10,7 +10,8 @@ use Rattle.period.specs.Rates.{InLimits, maxPeriod, maxRequired}
 use Rattle.rate.specs.declared.Rates.{Rates}
 use Rattle.rate.specs.Halving.{ratesOf}
 use Rattle.stream.specs.declared.SonicStream.{SonicStream}
-use Rattle.plans.specs.Plans.{inputArea, stageArea, outputArea, blockSamples, tailFrames, growthOf, heldWithin, outputRoom, limitOf, served}
+use Rattle.plans.specs.Plans.{inputArea, stageArea, outputArea, blockSamples, tailFrames, isSmall, growthOf, heldWithin, outputRoom, limitOf, served}
+use Rattle.plans.proofs.Sizes.{output-least}
 
 -- a tail and the frames that h frames grow to, where more than none are within the room
 within : (room growth some h : ℕ) → 1 ≤ growth → 1 ≤ some → some ≤ heldWithin room growth → h ≤ heldWithin room growth
@@ -28,6 +29,12 @@ module _ (s : SonicStream) (i : InLimits (s .rate) (s .channels)) (v : served s 
   abbrev growth : ℕ
   growth = growthOf (s .speed) (s .pitch) (maxPeriod (s .rate))
 
+  abbrev stage : ℕ
+  stage = stageArea (isSmall s)
+
+  abbrev output : ℕ
+  output = outputArea (isSmall s)
+
   required : 1 ≤ 3 * maxRequired (s .rate)
   required = omega (arith, i .rate-low)
 
@@ -39,10 +46,10 @@ module _ (s : SonicStream) (i : InLimits (s .rate) (s .channels)) (v : served s 
     unfolding limitOf
     limit-input = samples-le (s .channels) h inputArea (i .channels-low) (omega (arith, few))
 
-    pub limit-stage : tailFrames + growthOf (s .speed) (s .pitch) (maxPeriod (s .rate)) * h ≤ stageArea / s .channels
+    pub limit-stage : tailFrames + growthOf (s .speed) (s .pitch) (maxPeriod (s .rate)) * h ≤ stageArea (isSmall s) / s .channels
     unfolding limitOf
     limit-stage =
-        within (stageArea / s .channels) growth (3 * maxRequired (s .rate)) h (growth-some s) required (omega (arith, searches)) (omega (arith, few))
+        within (stage / s .channels) growth (3 * maxRequired (s .rate)) h (growth-some s) required (omega (arith, searches)) (omega (arith, few))
 
     room : tailFrames + growth * h ≤ outputRoom s
     unfolding limitOf
@@ -50,15 +57,16 @@ module _ (s : SonicStream) (i : InLimits (s .rate) (s .channels)) (v : served s 
 
     pub limit-output : 0 < ratesOf (s .rate) (s .pitch) .new
         → (tailFrames + growthOf (s .speed) (s .pitch) (maxPeriod (s .rate)) * h) * ratesOf (s .rate) (s .pitch) .new
-        ≤ (outputArea / s .channels - 2 - blockSamples / s .channels) * ratesOf (s .rate) (s .pitch) .old
+        ≤ (outputArea (isSmall s) / s .channels - 2 - blockSamples / s .channels) * ratesOf (s .rate) (s .pitch) .old
     unfolding outputRoom
     limit-output n = le-div-iff-mul-le n .0 room
 
   -- behind a block
-  pub block-waits : (waiting made : ℕ) → waiting ≤ blockSamples / s .channels → made ≤ outputArea / s .channels - 2 - blockSamples / s .channels
-      → (waiting + made) * s .channels ≤ outputArea
+  pub block-waits : (waiting made : ℕ) → waiting ≤ blockSamples / s .channels → made ≤ outputArea (isSmall s) / s .channels - 2 - blockSamples / s .channels
+      → (waiting + made) * s .channels ≤ outputArea (isSmall s)
   block-waits waiting made w m =
       let b = blockSamples / s .channels in
-      let block : b * s .channels ≤ outputArea = omega (arith, samples-le (s .channels) b blockSamples (i .channels-low) (omega arith)) in
-      let fits : b ≤ outputArea / s .channels = frames-le (s .channels) b outputArea (i .channels-low) block in
-      samples-le (s .channels) (waiting + made) outputArea (i .channels-low) (omega (arith, w, m, fits))
+      let block : b * s .channels ≤ output =
+      omega (arith, samples-le (s .channels) b blockSamples (i .channels-low) (omega arith), output-least (isSmall s)) in
+      let fits : b ≤ output / s .channels = frames-le (s .channels) b output (i .channels-low) block in
+      samples-le (s .channels) (waiting + made) output (i .channels-low) (omega (arith, w, m, fits))

@@ -43,20 +43,25 @@ use Rattle.adding.specs.Calls.{refusalOf}
 use Rattle.adding.proofs.Adding.{workOf}
 use Rattle.adding.proofs.Room.{added-held}
 use Rattle.adding.proofs.Accepting.{areas-bad-of, total-alone}
-use Rattle.plans.specs.Plans.{inputArea, stageArea, outputArea, blockSamples, tailFrames, growthOf, outputRoom, heldMost, limitOf, served, planOf}
+use Rattle.plans.specs.Plans.{inputArea, stageArea, outputArea, blockSamples, tailFrames, isSmall, growthOf, outputRoom, heldMost, limitOf, served, planOf}
+use Rattle.plans.proofs.Sizes.{stage-least, stage-most, output-least, output-most}
 use Rattle.serving.specs.Steady.{Steady, AreasSized, SameJob, WriteWent}
 use Rattle.serving.proofs.Room.{limit-input, limit-stage, limit-output, block-waits}
 use Rattle.serving.proofs.Pacing.{PacedWith, PacedState, staged-most, left-paced}
 
 -- ---- streams of one job have one limit
 
+pub small-same : (s t : SonicStream) → SameJob s t → isSmall t ≡ isSmall s
+unfolding isSmall
+small-same s t j = rw (j .speed, j .pitch)
+
 pub limit-same : (s t : SonicStream) → SameJob s t → limitOf t ≡ limitOf s
 unfolding limitOf outputRoom
-limit-same s t j = rw (j .rate, j .channels, j .speed, j .pitch)
+limit-same s t j = rw (small-same s t j, j .rate, j .channels, j .speed, j .pitch)
 
 -- and one plan
 pub plan-same : (s t : SonicStream) → SameJob s t → planOf t ≡ planOf s
-plan-same s t j = rw (limit-same s t j, j .rate, j .channels, j .speed, j .pitch)
+plan-same s t j = rw (limit-same s t j, small-same s t j, j .rate, j .channels, j .speed, j .pitch)
 
 -- for which the growth is a bound
 limit-held : (s : SonicStream) → limitOf s ≤ heldMost s
@@ -101,10 +106,16 @@ module _ (s : SonicStream) (o : inOrder s ≡ true) where
 
 -- ---- a call that adds the frames fs
 
-module _ (s : SonicStream) (y : Steady s) (a : Areas) (z : AreasSized a) (waits : s .waiting .0 ≤ blockSamples / s .channels)
+module _ (s : SonicStream) (y : Steady s) (a : Areas) (z : AreasSized (isSmall s) a) (waits : s .waiting .0 ≤ blockSamples / s .channels)
     (fs : List Frame) (few : s .held .0 + length fs ≤ limitOf s) where
   abbrev n : ℕ
   n = length fs
+
+  abbrev stage : ℕ
+  stage = stageArea (isSmall s)
+
+  abbrev output : ℕ
+  output = outputArea (isSmall s)
 
   abbrev x : State
   x = joined fs (stateOf s (a .input) (a .stage))
@@ -128,23 +139,23 @@ module _ (s : SonicStream) (y : Steady s) (a : Areas) (z : AreasSized a) (waits 
   input-fits : (s .held .0 + n) * s .channels ≤ inputArea
   input-fits = limit-input s i (y .is-served) (s .held .0 + n) few
 
-  stage-room : tailFrames + growthOf (s .speed) (s .pitch) (maxPeriod (s .rate)) * (s .held .0 + n) ≤ stageArea / s .channels
+  stage-room : tailFrames + growthOf (s .speed) (s .pitch) (maxPeriod (s .rate)) * (s .held .0 + n) ≤ stage / s .channels
   stage-room = limit-stage s i (y .is-served) (s .held .0 + n) few
 
   areas-good : AreasGood s a
   areas-good =
       let held : s .held .0 * s .channels ≤ (s .held .0 + n) * s .channels = mul-le-mul-right (s .channels) (omega arith) in
-      let tail = samples-le (s .channels) (s .tail .0) stageArea (i .channels-low) (omega (arith, y .tail-few, stage-room)) in
+      let tail = samples-le (s .channels) (s .tail .0) stage (i .channels-low) (omega (arith, y .tail-few, stage-room)) in
       let waiting = samples-le (s .channels) (s .waiting .0) blockSamples (i .channels-low) waits in
       record {
         input-short = omega (arith, z .input);
-        stage-short = omega (arith, z .stage);
-        output-short = omega (arith, z .output);
+        stage-short = omega (arith, z .stage, stage-most (isSmall s));
+        output-short = omega (arith, z .output, output-most (isSmall s));
         scratch-short = omega (arith, z .scratch);
         scratch-fits = omega (arith, z .scratch, i .rate-high);
         held = omega (arith, z .input, held, input-fits);
         tail = omega (arith, z .stage, tail);
-        waiting = omega (arith, z .output, waiting);
+        waiting = omega (arith, z .output, waiting, output-least (isSmall s));
       }
 
   call-accepted : Accepted s a n
@@ -171,22 +182,22 @@ module _ (s : SonicStream) (y : Steady s) (a : Areas) (z : AreasSized a) (waits 
 
   stage-fits : (s .tail .0 + m .staged) * s .channels ≤ length (a .stage)
   stage-fits =
-      rw (z .stage) (samples-le (s .channels) (s .tail .0 + m .staged) stageArea (i .channels-low) (omega (arith, y .tail-few, staged, stage-room)))
+      rw (z .stage) (samples-le (s .channels) (s .tail .0 + m .staged) stage (i .channels-low) (omega (arith, y .tail-few, staged, stage-room)))
 
-  made : length (m .frames) ≤ outputArea / s .channels - 2 - blockSamples / s .channels
+  made : length (m .frames) ≤ output / s .channels - 2 - blockSamples / s .channels
   unfolding joined stateOf
   made =
       let p = pitch-range s (y .in-order) in
       let r = rates-within (s .rate) (s .pitch) (i .rate-low) (i .rate-high) (p .0) (p .1) in
       let more : length (x .tail) + m .staged ≤ tailFrames + growthOf (s .speed) (s .pitch) (maxPeriod (s .rate)) * (s .held .0 + n) =
       omega (arith, tail-in, y .tail-few, staged) in
-      made-most x (outputArea / s .channels - 2 - blockSamples / s .channels) (i .rate-high) (p .0) (p .1)
+      made-most x (output / s .channels - 2 - blockSamples / s .channels) (i .rate-high) (p .0) (p .1)
       (state-ready s (y .in-order) (a .input) (a .stage) .position)
       (le-trans (mul-le-mul-right (ratesOf (s .rate) (s .pitch) .new) more)
       (limit-output s i (y .is-served) (s .held .0 + n) few (r .new-least)))
 
   -- so many of the frames made, behind those waiting
-  pub made-fits : (k : ℕ) → k ≤ length (workOf s a fs .frames) → (s .waiting .0 + k) * s .channels ≤ outputArea
+  pub made-fits : (k : ℕ) → k ≤ length (workOf s a fs .frames) → (s .waiting .0 + k) * s .channels ≤ outputArea (isSmall s)
   made-fits k few' = block-waits s i (y .is-served) (s .waiting .0) k waits (le-trans few' made)
 
   output-fits : (s .waiting .0 + length (m .frames)) * s .channels ≤ length (a .output)
@@ -200,7 +211,7 @@ module _ (s : SonicStream) (y : Steady s) (a : Areas) (z : AreasSized a) (waits 
   work-left : Left x (m .told .outcome) (m .state .input) (m .state .«input_play_time»)
   work-left = process-left x (state-paced .held)
 
-  module _ (w : ℕ) (waits-after : w * s .channels ≤ outputArea) where
+  module _ (w : ℕ) (waits-after : w * s .channels ≤ outputArea (isSmall s)) where
     abbrev t : SonicStream
     t = streamOf (m .state) w
 
@@ -231,9 +242,9 @@ module _ (s : SonicStream) (y : Steady s) (a : Areas) (z : AreasSized a) (waits 
     unfolding streamOf
     tail-after = tail-most x (rw tail-in (y .tail-few))
 
-    waiting-after : t .waiting .0 * t .channels ≤ outputArea
+    waiting-after : t .waiting .0 * t .channels ≤ outputArea (isSmall t)
     unfolding streamOf
-    waiting-after = rw (work-same .channels) waits-after
+    waiting-after = rw (small-same s t work-same, work-same .channels) waits-after
 
     pub work-steady : inOrder (streamOf (workOf s a fs .state) w) ≡ true → WriteWent s (length fs) (workOf s a fs .told) (streamOf (workOf s a fs .state) w)
     work-steady e =

@@ -1,7 +1,7 @@
 -- What holds of a served job's stream between its calls, and of the answer of a call. Definitions only.
 -- Assumes nothing.
 use mathlib.Core.Path.{_≡_}
-use mathlib.Core.Bool.{true}
+use mathlib.Core.Bool.{Bool, true}
 use mathlib.Core.Logic.{_⊎_}
 use Prim.Native.Nat.{ℕ, _+_, _*_, _≤_, _<_}
 use lib.ListN.{length}
@@ -14,7 +14,8 @@ use Rattle.fill.specs.declared.Told.{Told}
 use Rattle.fill.specs.declared.Outcome.the-variants.{Stalled}
 use Rattle.read.specs.declared.Gave.{Gave}
 use Rattle.adding.specs.declared.Wrote.{Wrote}
-use Rattle.plans.specs.Plans.{inputArea, stageArea, outputArea, scratchArea, tailFrames, heldMost, limitOf, served}
+use Rattle.plans.specs.Plans.{inputArea, stageArea, outputArea, scratchArea, tailFrames, isSmall, heldMost, limitOf}
+use Rattle.plans.specs.Plans.{served}
 use Rattle.floats.proofs.Pace.{Paced}
 
 -- ---- the stream
@@ -25,7 +26,7 @@ pub record Steady (s : SonicStream) : Type 0 where
   pub is-served : served s ≡ true
   pub tail-few : s .tail .0 ≤ tailFrames
   pub held-few : s .held .0 ≤ limitOf s
-  pub waiting-fits : s .waiting .0 * s .channels ≤ outputArea
+  pub waiting-fits : s .waiting .0 * s .channels ≤ outputArea (isSmall s)
   pub paced : Paced (s .rate) (s .speed) (s .pitch) (maxRequired (s .rate)) (heldMost s) (s .held .0)
       (s .«input_play_time»)
 
@@ -41,11 +42,11 @@ pub record Fresh (s : SonicStream) : Type 0 where
   pub unheld : Unheld s
   pub waiting : s .waiting .0 ≡ 0
 
--- the tool's areas
-pub record AreasSized (a : Areas) : Type 0 where
+-- the tool's areas for a job, small or not
+pub record AreasSized (small : Bool) (a : Areas) : Type 0 where
   pub input : length (a .input) ≡ inputArea
-  pub stage : length (a .stage) ≡ stageArea
-  pub output : length (a .output) ≡ outputArea
+  pub stage : length (a .stage) ≡ stageArea small
+  pub output : length (a .output) ≡ outputArea small
   pub scratch : length (a .scratch) ≡ scratchArea
 
 -- ---- an answer

@@ -10,7 +10,7 @@ use Rattle.period.specs.Rates.{maxRequired}
 use Rattle.adding.specs.Calls.{flushCall}
 use Rattle.stream.proofs.InOrder.{both}
 use Rattle.plans.specs.declared.Plan.{Plan}
-use Rattle.plans.specs.Plans.{blockSamples, limitOf, Usable}
+use Rattle.plans.specs.Plans.{blockSamples, isSmall, limitOf, Usable}
 use Rattle.serving.specs.Steady.{AreasSized, FlushWent}
 use Rattle.serving.proofs.Claims.{flush-served}
 use Rattle.reels.specs.declared.reel.Reel.{Reel}
@@ -52,7 +52,7 @@ few-after : (p : Plan) (held place : ℕ) (s : RunState) (b : Bool) → held ≡
 few-after p held place s true none some = few-stall p held place s
 few-after p held place s false none some = omega (arith, none, some)
 
-module _ (p : Plan) (r t : Reel) (a : Areas) (z : AreasSized a) (u : Usable p) (l : Underway p r) where
+module _ (p : Plan) (r t : Reel) (a : Areas) (z : AreasSized (p .small) a) (u : Usable p) (l : Underway p r) where
   flushed-serving : takesMore p r ≡ true → Flushed p (flushCall (r .stream) a .answer) r t → flushes p r ≡ true → Serving p t
   flushed-serving e f d =
       let s = r .stream in
@@ -61,7 +61,8 @@ module _ (p : Plan) (r t : Reel) (a : Areas) (z : AreasSized a) (u : Usable p) (
       let few : s .held .0 + 2 * maxRequired (s .rate) ≤ limitOf s =
       subst (λ (q : Plan). s .held .0 + 2 * q .required ≤ q .limit) (y .plan-is) (room p (s .held .0) (r .state) u (y .few-held) e) in
       let waits : s .waiting .0 ≤ blockSamples / s .channels = omega (arith, l .none-waits going) in
-      let never = flush-served s (y .steady) a z waits few (flushCall s a .answer) refl (f .ordered d) in
+      let sized : AreasSized (isSmall s) a = subst (λ (q : Plan). AreasSized (q .small) a) (y .plan-is) z in
+      let never = flush-served s (y .steady) a sized waits few (flushCall s a .answer) refl (f .ordered d) in
       let w = f .done d in
       let some : 0 < p .required = omega (arith, u .required-some) in
       answered-serving p s (y .steady) (y .plan-is) _ (FlushWent s) (only-stall (firstHeld (r .written) s) (r .state) (y .only-totals))

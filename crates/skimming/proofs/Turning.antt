@@ -12,6 +12,7 @@ use borrow.Author.Tests.{ne-eqb}
 use lib.Dec.{eqb}
 use Rattle.adding.specs.declared.Wrote.{Wrote}
 use Rattle.plans.specs.declared.Plan.{Plan}
+use Rattle.plans.specs.Plans.{outputArea}
 use Rattle.reels.specs.declared.reel.Reel.{Reel}
 use Rattle.reels.specs.declared.state.RunState.{RunState}
 use Rattle.adding.specs.Calls.{streamAfter}
@@ -92,9 +93,9 @@ underway-stopped {p} {r} {t} l k =
       none-waits = λ e. absurd (failed-once e (unsound-of k));
     }
 
-pub complete : {p : Plan} {r s t : Reel} {answer : Wrote} (few : ℕ) → few ≤ 1 → Underway p r → (takesMore p r ≡ true → r .ended ≡ true)
-    → Flushed p answer r s → Serving p s → Drained few s t → Complete p t
-complete {p} {r} {s} {t} few one l end f y d =
+pub complete : {p : Plan} {r s t : Reel} {answer : Wrote} {samples : ℕ} (few : ℕ) → few ≤ 1 → samples ≡ outputArea (p .small) → Underway p r → (takesMore p r ≡ true → r .ended ≡ true)
+    → Flushed p answer r s → Serving p s → Drained samples few s t → Complete p t
+complete {p} {r} {s} {t} few one z l end f y d =
     let o = d .out in
     let x = ending-of p r s (l .unflushed) f in
     let input = input-trans (x .input-kept) (o .input-kept) in
@@ -107,7 +108,7 @@ complete {p} {r} {s} {t} few one l end f y d =
       flushed-is = λ e. let g = x .still (out-takes p o e) in flag ∙ rw (g, written);
       partial-last = λ e. input .partial-same ∙ l .partial-last (sym (input .ended-same) ∙ e);
       none-waits = λ e. omega (arith, d .fewer e);
-      only-totals = o .serving-kept p y .only-totals;
+      only-totals = o .serving-kept p z y .only-totals;
     }
 
 pub complete-mapped : {p : Plan} {r t : Reel} → Complete p r → MapWritten r t → Complete p t

@@ -66,7 +66,8 @@ pub fn turns(
 ) -> Reel
     requires { ⌜ Usable plan × Underway plan reel ⌝ }
     requires { ⌜ (blockSamples ≡ length (now block)) × (blockSamples ≡ length (now values))
-        × (blockBytes ≡ length (now bytes)) × AreasSized (areas (now input) (now stage) (now output) (now scratch)) ⌝ }
+        × (blockBytes ≡ length (now bytes))
+        × AreasSized (plan .small) (areas (now input) (now stage) (now output) (now scratch)) ⌝ }
     ensures { λ r. ⌜ Underway plan r ⌝ }
 {
     let mut turns = TURNS;
@@ -111,7 +112,7 @@ pub fn finish(
 ) -> Reel
     requires { ⌜ Usable plan × Underway plan reel ⌝ }
     requires { ⌜ (32 ≤ length (now values)) × (2 * length (now values) ≤ length (now bytes))
-        × AreasSized (areas (now input) (now stage) (now output) (now scratch)) ⌝ }
+        × AreasSized (plan .small) (areas (now input) (now stage) (now output) (now scratch)) ⌝ }
     ensures { λ r. ⌜ Complete plan r ⌝ }
 {
     reel = closed(reel, plan);

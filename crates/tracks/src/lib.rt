@@ -10,6 +10,8 @@ use reels::reel::Reel;
 use reels::state::RunState;
 use reports::Files;
 use stream::refusals;
+ghost use mathlib.Core.Path.{_≡_};
+ghost use mathlib.Core.Bool.{true, false};
 ghost use Rattle.period.specs.Rates.{InLimits};
 ghost use Rattle.plans.specs.Plans.{Usable};
 ghost use Rattle.skimming.specs.Skimming.{Underway};
@@ -56,24 +58,53 @@ fn ended(reel: Reel, plan: Plan, name: &[u8], start: i64) -> Ending
     }
 }
 
-// Does a job whose output is open, in the file of this name, if it is not empty. Answers the status. The map is begun
-// behind the last call that may fail and is not told.
-fn written(reel: Reel, plan: Plan, name: &[u8]) -> u64
-    requires { ⌜ Usable plan × Underway plan reel ⌝ }
+// Begins a track: the head of a WAVE file, if it is one. Answers whether that was taken.
+fn begun(reel: Reel, plan: Plan) -> bool
+    requires { ⌜ InLimits (plan .rate) (plan .channels) ⌝ }
 {
-    let named = name.len() > 0;
-    let start = outputs::place();
-    if reel.source.wave && !outputs::write_head(plan) {
-        return files::failed_output(named);
+    if !reel.source.wave {
+        return true;
     }
-    let whole = lending::skim(maps::begin(reel), plan);
-    let done = ended(whole, plan, name, start);
+    outputs::write_head(plan)
+}
+
+// Ends the track of a run, and tells of it. Answers the status.
+fn told(reel: Reel, plan: Plan, name: &[u8], start: i64, map: u32) -> u64
+    requires { ⌜ InLimits (plan .rate) (plan .channels) ⌝ }
+{
+    let done = ended(reel, plan, name, start);
     let used = Files {
-        map: reel.map,
-        named,
+        map,
+        named: name.len() > 0,
         unset: done.unset,
     };
     reports::run(done.reel, plan, used)
+}
+
+// Does a job whose output is open, in the file of this name, if it is not empty. Answers the status. The map is begun
+// behind the last call that may fail and is not told. A caller chooses between this and `written_small`: the pages of
+// a function's areas are all touched when it is entered, and behind one choice both would come to be of one function.
+fn written(reel: Reel, plan: Plan, name: &[u8]) -> u64
+    requires { ⌜ Usable plan × Underway plan reel × (plan .small ≡ false) ⌝ }
+{
+    let start = outputs::place();
+    if !begun(reel, plan) {
+        return files::failed_output(name.len() > 0);
+    }
+    let whole = lending::skim(maps::begin(reel), plan);
+    told(whole, plan, name, start, reel.map)
+}
+
+// The same of a small job.
+fn written_small(reel: Reel, plan: Plan, name: &[u8]) -> u64
+    requires { ⌜ Usable plan × Underway plan reel × (plan .small ≡ true) ⌝ }
+{
+    let start = outputs::place();
+    if !begun(reel, plan) {
+        return files::failed_output(name.len() > 0);
+    }
+    let whole = lending_small::skim_small(maps::begin(reel), plan);
+    told(whole, plan, name, start, reel.map)
 }
 
 // Does a job in the file of this name. Answers the status. A file that was not kept is removed.
@@ -82,7 +113,11 @@ fn named(reel: Reel, plan: Plan, name: &[u8]) -> u64
 {
     match names::open(name) {
         Made::Done => {
-            let status = written(reel, plan, name);
+            let status = if plan.small {
+                written_small(reel, plan, name)
+            } else {
+                written(reel, plan, name)
+            };
             names::discard(name);
             status
         }
@@ -96,6 +131,9 @@ pub fn run(reel: Reel, plan: Plan, place: usize) -> u64
     requires { ⌜ Usable plan × Underway plan reel ⌝ }
 {
     if place == 0 {
+        if plan.small {
+            return written_small(reel, plan, b"");
+        }
         return written(reel, plan, b"");
     }
     let mut name = io::buffer();

@@ -107,7 +107,7 @@ write-requires c κs =
 
 -- the lengths that a drain asks for
 roomy : (l : tie.At-loop Inv-loop μ-loop) → (32 ≤ length (l .loop .values)) × (2 * length (l .loop .values) ≤ length (l .loop .bytes))
-    × AreasSized (areas (l .loop .input) (l .loop .stage) (l .loop .output) (l .loop .scratch))
+    × AreasSized (start l .args .plan .small) (areas (l .loop .input) (l .loop .stage) (l .loop .output) (l .loop .scratch))
 roomy l =
     let p = start l .pre .1 in
     let inv = l .loop .inv in
@@ -126,7 +126,7 @@ drain-full-requires c κs =
     let l = turn-loop (after-end (w .before) .before) in
     let u = start l .pre .0 .0 .limits in
     let r = roomy l in
-    (omega (arith, l .before .frames .ensures, few-least (start l .args .plan .channels) (u .channels-low) (u .channels-high)), r .0, r .1, omega (arith, w .write .kept .1 .1 .1 .1 .1 .0, r .2 .output))
+    (omega (arith, l .before .frames .ensures, few-least (start l .args .plan .channels) (u .channels-low) (u .channels-high)), r .0, r .1)
 
 loop-less : tie.Need-loop-less Inv-loop μ-loop
 loop-less c =
@@ -169,13 +169,13 @@ loop-again c =
       omega (arith, d .drain-full .kept .1 .1 .1 .0, inv .5),
       omega (arith, d .drain-full .kept .1 .1 .1 .1 .0, inv .6),
       end .ensures .2,
-      part-more {answer = writeCall (l .loop .reel .stream) values lent .answer} _ _ _ frames goes (inv .8) (done .0) same
+      part-more {answer = writeCall (l .loop .reel .stream) values lent .answer} _ _ _ frames (w .write .kept .1 .1 .1 .1 .1 .0 ∙ roomy l .2 .output) goes (inv .8) (done .0) same
           serving (p .put-ended .ensures) (d .drain-full .ensures .out),
       λ x. omega (arith, d .drain-full .ensures .fewer x),
     )
 
 drain-requires : tie.Need-drain-requires Inv-loop μ-loop
-drain-requires c κs = let r = roomy (left-loop c .before) in (omega arith, r .0, r .1, sym (r .2 .output))
+drain-requires c κs = let r = roomy (left-loop c .before) in (omega arith, r .0, r .1)
 
 returns : tie.Need-returns Inv-loop μ-loop
 returns c =
@@ -188,7 +188,7 @@ returns c =
     λ g. ⊎-elim (λ w. absurd (failed-once g (sym (w .1 .ensures) ∙ w .2 .left)))
     (λ w. let same : l .loop .at ≡ length (a .block .now) = omega (arith, l .loop .inv .0) in ap (λ (k : ℕ). k / channels) same)
     (left .loop-test .came) in
-    part-end _ _ _ all (omega arith) (l .loop .inv .8) (d .drain .ensures)
+    part-end _ _ _ all (omega arith) (roomy l .2 .output) (l .loop .inv .8) (d .drain .ensures)
 
 -- ---- what search closes
 

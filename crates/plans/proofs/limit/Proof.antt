@@ -26,20 +26,23 @@ growth-requires c κs =
     let s = c .before .before .before .before in
     omega (arith, c .max-period .ensures, period-most (limits-of (s .args .stream) (s .pre)))
 
+stage-area-requires : tie.Need-stage-area-requires
+stage-area-requires c κs = search needs
+
 frames-requires : tie.Need-frames-requires
-frames-requires c κs = let s = c .before .before .before .before .before in limits-of (s .args .stream) (s .pre) .channels-low
+frames-requires c κs = let s = c .before .before .before .before .before .before in limits-of (s .args .stream) (s .pre) .channels-low
 
 held-within-requires : tie.Need-held-within-requires
-held-within-requires c κs = rw (c .before .growth .ensures) (growth-least _ _ _)
+held-within-requires c κs = rw (c .before .before .growth .ensures) (growth-least _ _ _)
 
 output-room-requires : tie.Need-output-room-requires
 output-room-requires c κs = search needs
 
 held-within-requires-2 : tie.Need-held-within-requires-2
-held-within-requires-2 c κs = rw (c .before .before .before .growth .ensures) (growth-least _ _ _)
+held-within-requires-2 c κs = rw (c .before .before .before .before .growth .ensures) (growth-least _ _ _)
 
 frames-requires-2 : tie.Need-frames-requires-2
-frames-requires-2 c κs = let s = c .before .before .before .before .before .before .before .before .before in limits-of (s .args .stream) (s .pre) .channels-low
+frames-requires-2 c κs = let s = c .before .before .before .before .before .before .before .before .before .before in limits-of (s .args .stream) (s .pre) .channels-low
 
 least-requires : tie.Need-least-requires
 least-requires c κs = search needs
@@ -57,7 +60,7 @@ returns c =
     let l = o .before in
     let t = l .before in
     let m = t .before in
-    let g = m .before .before .before .before in
+    let g = m .before .before .before .before .before in
     rw (
       c .least3 .ensures,
       o .least2 .ensures,
@@ -67,6 +70,7 @@ returns c =
       m .before .output-room .ensures,
       m .before .before .held-within .ensures,
       m .before .before .before .frames .ensures,
+      m .before .before .before .before .stage-area .ensures,
       g .growth .ensures,
       g .before .max-period .ensures,
       g .before .before .before .held-most .ensures,
@@ -81,6 +85,7 @@ limit-spec =
     cast-max-period
     max-period-requires
     growth-requires
+    stage-area-requires
     frames-requires
     held-within-requires
     output-room-requires

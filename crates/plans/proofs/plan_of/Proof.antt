@@ -43,13 +43,17 @@ samples-requires c κs =
     let f = c .before .before .before .before in
     rw (f .frames .ensures) (omega (arith, div-mul-le-self blockSamples (f .before .before .before .args .stream .channels)))
 
+is-small-requires : tie.Need-is-small-requires
+is-small-requires c κs = search needs
+
 returns : tie.Need-returns
 returns c =
-    let t = c .before .before in
+    let p = c .before in
+    let t = p .before .before in
     let m = t .before in
     let r = m .before in
     let f = r .before in
-    rw (c .samples .ensures, f .frames .ensures, t .fill-to .ensures, m .min-period .ensures, r .max-required .ensures, f .before .before .before .pre .1)
+    rw (c .is-small .ensures, p .samples .ensures, f .frames .ensures, t .fill-to .ensures, m .min-period .ensures, r .max-required .ensures, f .before .before .before .pre .1)
 
 pub plan-of-spec : {M : Type 1} → statement M
 plan-of-spec =
@@ -63,4 +67,5 @@ plan-of-spec =
     fill-to-requires
     cast-t10
     samples-requires
+    is-small-requires
     returns)

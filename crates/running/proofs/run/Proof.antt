@@ -39,7 +39,7 @@ abbrev μ-loop : tie.MeasureT-loop
     rounds
 
 -- the areas
-sized : (l : tie.At-loop Inv-loop μ-loop) → AreasSized (areas (l .loop .input) (l .loop .stage) (l .loop .output) (l .loop .scratch))
+sized : (l : tie.At-loop Inv-loop μ-loop) → AreasSized (start l .args .plan .small) (areas (l .loop .input) (l .loop .stage) (l .loop .output) (l .loop .scratch))
 sized l =
     let z = start l .pre .1 .3 in
     let inv = l .loop .inv in

@@ -1,6 +1,7 @@
 -- `skimming::finish` meets its contract. Assumes nothing.
 use borrow.Author.Needs.{needs}
 use native.Mathlib.Omega.{arith}
+use mathlib.Core.Path.{_∙_}
 use Rattle.frames.specs.Areas.{Areas, areas}
 use Rattle.adding.specs.Calls.{flushCall}
 use Rattle.skimming.proofs.Serving.{flush-serving}
@@ -33,7 +34,7 @@ flush-requires c κs = search needs
 drain-requires : tie.Need-drain-requires
 drain-requires c κs =
     let p = start (after-flush c) .pre .1 in
-    (omega arith, omega (arith, p .0), omega (arith, p .1), omega (arith, p .2 .output, after-flush c .flush .kept .1 .1 .1 .1 .0))
+    (omega arith, omega (arith, p .0), omega (arith, p .1))
 
 end-requires : tie.Need-end-requires
 end-requires c κs = start (after-flush (drained c .before)) .pre .0 .0 .limits
@@ -68,7 +69,7 @@ returns c =
     let k = after-closed f in
     let lent : Areas = areas (s .args .input .now) (s .args .stage .now) (s .args .output .now) (s .args .scratch .now) in
     let done =
-    complete {answer = flushCall (k .closed .result .stream) lent .answer} _ (omega arith) (k .closed .ensures .0) (k .closed .ensures .1)
+    complete {answer = flushCall (k .closed .result .stream) lent .answer} _ (omega arith) (f .flush .kept .1 .1 .1 .1 .0 ∙ s .pre .1 .2 .output) (k .closed .ensures .0) (k .closed .ensures .1)
     (f .flush .ensures) (flush-serving (s .args .plan) (k .closed .result) (f .flush .result) lent (s .pre .1 .2) (s .pre .0 .0) (k .closed .ensures .0) (f .flush .ensures))
     (d .drain .ensures) in
     complete-mapped done (c .end .ensures)

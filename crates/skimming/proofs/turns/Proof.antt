@@ -54,7 +54,7 @@ turn-requires c κs =
     let p = start l .pre in
     let inv = l .loop .inv in
     let z = p .1 .3 in
-    let sized : AreasSized (areas (l .loop .input) (l .loop .stage) (l .loop .output) (l .loop .scratch)) =
+    let sized : AreasSized (start l .args .plan .small) (areas (l .loop .input) (l .loop .stage) (l .loop .output) (l .loop .scratch)) =
     record { input = inv .0 ∙ z .input; stage = inv .1 ∙ z .stage; output = inv .2 ∙ z .output; scratch = inv .3 ∙ z .scratch } in
     let more = both (not (r .ended)) (not (failed (r .state))) (sym (u .before .reads-more .ensures) ∙ u .if1 .taken) in (
       (p .0 .0, inv .7 .channels-are, inv .7 .block-whole, inv .7 .partial-last (not-true _ (more .0))),

@@ -1,8 +1,8 @@
 -- `reels::reel::Reel::drain` meets its contract and ends: the turns left fall, and are as many as the frames that wait or more. Assumes nothing.
 use borrow.Author.Needs.{needs}
-use mathlib.Core.Path.{_≡_, refl, sym, ap, _∙_}
+use mathlib.Core.Path.{_≡_, refl, sym, ap, _∙_, subst}
 use mathlib.Core.Bool.{true}
-use Prim.Native.Nat.{_*_, _≤_, _<_}
+use Prim.Native.Nat.{ℕ, _*_, _≤_, _<_}
 use native.Mathlib.Omega.{arith}
 use borrow.Author.Tests.{leb-true, leb-false, not-false}
 use lib.ListN.{length}
@@ -32,7 +32,7 @@ module _ {I : tie.InvT-loop} {μ : tie.MeasureT-loop} where
 abbrev Inv-loop : tie.InvT-loop
 Inv-loop few output₀ values₀ bytes₀ reel₀ turns₀ output values bytes reel turns =
     (32 ≤ length values) × (2 * length values ≤ length bytes) × (length output ≡ length output₀) × (length values ≡ length values₀)
-    × (length bytes ≡ length bytes₀) × WrittenOut reel₀ reel × (sound (reel .state) ≡ true → reel .stream .waiting .0 ≤ turns)
+    × (length bytes ≡ length bytes₀) × WrittenOut (length output₀) reel₀ reel × (sound (reel .state) ≡ true → reel .stream .waiting .0 ≤ turns)
 
 abbrev μ-loop : tie.MeasureT-loop
 μ-loop few output₀ values₀ bytes₀ reel₀ turns₀ output values bytes reel turns = turns
@@ -54,7 +54,7 @@ loop-again c =
       omega (arith, w .write-out .kept .1 .0, inv .2),
       omega (arith, w .write-out .kept .1 .1 .0, inv .3),
       omega (arith, w .write-out .kept .1 .1 .1 .0, inv .4),
-      out-trans (inv .5) (t .out),
+      out-trans (inv .5) (subst (λ (n : ℕ). WrittenOut n (l .loop .reel) (w .write-out .result)) (inv .2) (t .out)),
       λ e. omega (arith, inv .6 (ap sound (sym (t .out .state-stays e)) ∙ e), t .fewer e some),
     )
 

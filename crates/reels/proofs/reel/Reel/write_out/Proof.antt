@@ -6,15 +6,17 @@ use native.Mathlib.Omega.{arith}
 use Rattle.stream.specs.declared.SonicStream.{SonicStream}
 use Rattle.read.specs.declared.Gave.{Gave}
 use Rattle.read.specs.Reading.{readCall, streamAfterRead}
-use Rattle.plans.specs.Plans.{blockSamples}
+use lib.ListN.{length}
+use Rattle.plans.specs.declared.Plan.{Plan}
+use Rattle.plans.specs.Plans.{outputArea, blockSamples}
 use Rattle.serving.specs.Steady.{Steady, SameJob, ReadWent}
 use Rattle.serving.proofs.Reading.{read-served}
 use Rattle.reels.specs.declared.state.RunState.{RunState}
 use Rattle.reels.specs.States.{sound}
-use Rattle.reels.specs.Serving.{OnlyTotals}
+use Rattle.reels.specs.Serving.{OnlyTotals, Serving}
 use Rattle.reels.proofs.FramesRead.{Given, given-of, same-of}
 use Rattle.reels.proofs.Going.{failed-once, kept-unsound, input-trans, notes-trans, moved}
-use Rattle.reels.proofs.Serving.{only-kept, serving-moved}
+use Rattle.reels.proofs.Serving.{output-of, only-kept, serving-moved}
 use Rattle.reels.proofs.reel.Reel.write_out.Statement.{statement}
 use Rattle.reels.proofs.reel.Reel.write_out.Tie as tie
 
@@ -53,12 +55,16 @@ given : (c : tie.After-n) → let a = start (done-read c) .args in Given (a .sel
 given c = let a = start (done-read c) .args in given-of (a .self .stream) (a .values .now) (a .output .now) _ _ (told c)
 
 -- a read of a steady stream is not refused
-went : (c : tie.After-read-f32) → let a = start c .args in Steady (a .self .stream) → ReadWent (a .self .stream) (answer c)
-went c y = let a = start c .args in read-served (a .self .stream) y (a .output .now) (sym (start c .pre .2)) blockSamples (a .values .now)
+went : (c : tie.After-read-f32) (p : Plan) → let a = start c .args in length (a .output .now) ≡ outputArea (p .small) → Serving p (a .self)
+    → ReadWent (a .self .stream) (answer c)
+went c p z y =
+    let a = start c .args in
+    read-served (a .self .stream) (y .steady) (a .output .now) (output-of p (a .self) _ y z) blockSamples (a .values .now)
 
-done : (c : tie.After-n) → let s = start (done-read c) .args .self .stream in let t = c .n .given .0 .1 .0 in
-    Steady s → Steady t × SameJob s t × (t .held .0 ≡ s .held .0)
-done c y = subst (ReadWent (start (done-read c) .args .self .stream)) (sym (told c)) (went (done-read c) y)
+done : (c : tie.After-n) (p : Plan) → let a = start (done-read c) .args in let t = c .n .given .0 .1 .0 in
+    length (a .output .now) ≡ outputArea (p .small) → Serving p (a .self)
+    → Steady t × SameJob (a .self .stream) t × (t .held .0 ≡ a .self .stream .held .0)
+done c p z y = subst (ReadWent (start (done-read c) .args .self .stream)) (sym (told c)) (went (done-read c) p z y)
 
 samples-requires : tie.Need-samples-requires
 samples-requires c κs = let s = start (done-read (c .before)) in omega (arith, given (c .before) .fits, s .good .1 .1 .0)
@@ -93,7 +99,7 @@ returns c =
             held-kept = ap (λ (t : SonicStream). t .held .0) stream;
             state-stays = λ e. absurd (failed-once e unsound);
             accounted = λ e. absurd (failed-once e unsound);
-            serving-kept = λ p y. absurd (subst (ReadWent (a .self .stream)) (sym (refused n)) (went (refused-read n) (y .steady)));
+            serving-kept = λ p z y. absurd (subst (ReadWent (a .self .stream)) (sym (refused n)) (went (refused-read n) p z y));
           };
       stream-is = k .stream-kept ∙ ap streamAfterRead (refused n);
       fewer = λ e w. absurd (failed-once e unsound);
@@ -117,7 +123,7 @@ returns-2 c =
             channels-kept = g .channels-kept;
             held-kept = g .held-kept;
             state-stays = λ e. refl;
-            serving-kept = λ p y. let h = done n (y .steady) in serving-moved p r _ (λ e. refl) (λ o. o) (h .0) (h .1) (h .2) y;
+            serving-kept = λ p z y. let h = done n p z y in serving-moved p r _ (λ e. refl) (λ o. o) (h .0) (h .1) (h .2) y;
             accounted = λ e. moved (r .«frames_out») (n .n .given .0 .0 .0) (r .stream .waiting .0) _ _ (c .wrapping-add-u64 .ensures) (g .left) (g .waited);
           };
       stream-is = ap streamAfterRead (told n);
@@ -148,8 +154,8 @@ returns-3 c =
             held-kept = ap (λ (t : SonicStream). t .held .0) (k .stream-kept) ∙ g .held-kept;
             state-stays = λ e. absurd (failed-once e unsound);
             accounted = λ e. absurd (failed-once e unsound);
-            serving-kept = λ p y.
-                let h = subst (λ (t : SonicStream). Steady t × SameJob (r .stream) t × (t .held .0 ≡ r .stream .held .0)) (sym (k .stream-kept)) (done n (y .steady)) in
+            serving-kept = λ p z y.
+                let h = subst (λ (t : SonicStream). Steady t × SameJob (r .stream) t × (t .held .0 ≡ r .stream .held .0)) (sym (k .stream-kept)) (done n p z y) in
                 serving-moved p r _ (λ e. absurd (failed-once e unsound))
                 (λ o. subst OnlyTotals (sym (k .state-is)) (only-kept (r .state) RunState.WriteFailed tt o)) (h .0) (h .1) (h .2) y;
           };
