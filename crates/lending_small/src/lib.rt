@@ -1,5 +1,5 @@
-// The areas of a small job of the skim tool, arrays on the stack, which a run is lent. A crate apart, since arrays of this length take
-// long to check.
+// The areas of a small job of the skim tool, arrays on the stack, which a run is lent. A crate apart, since arrays of
+// this length take long to check.
 use plans::BLOCK_BYTES;
 use plans::BLOCK_SAMPLES;
 use plans::Plan;

@@ -19,8 +19,8 @@ pub const STAGE_AREA: usize = 1_048_576;
 
 pub const OUTPUT_AREA: usize = 1_048_576;
 
-// Those of a small job: what it makes of a full input is no more. They are set to zero at the start, and it is seen in
-// the tool's time how many there are.
+// Those of a small job, which hold what it makes of a full input. A run sets its areas to zero when it begins, so that
+// shorter ones make a shorter start.
 pub const SMALL_STAGE_AREA: usize = 196_992;
 
 pub const SMALL_OUTPUT_AREA: usize = 409_600;
