@@ -33,7 +33,7 @@ fn run_by_steps(job: Job, reel: Reel, samples: &[f32], sink: &mut dyn FnMut(&[f3
     side.read(usize::MAX, sink);
 }
 
-/// Runs a job with each of its frames given to the sink as two bytes.
+/// The frames that a job gives, as 16-bit little-endian PCM.
 fn bytes_of(work: impl Fn(&mut dyn FnMut(&[f32]))) -> Vec<u8> {
     let mut bytes = Vec::new();
     work(&mut |frames| bytes.extend(frames.iter().flat_map(|x| ((x * 32_767.0).round() as i16).to_le_bytes())));
