@@ -73,7 +73,7 @@ endif
 
 # The skim tool as its users meet it, and beside the original and its copies on random jobs.
 JOBS := 200
-SKIM_COPIES := $(addprefix target/tests/skim_,noting largest largest_noting)
+SKIM_COPIES := $(addprefix target/tests/skim_,stepping_over largest largest_stepping_over)
 tool: program target/tests/skim_in_c $(if $(AT_HAND),target/tests/skim $(SKIM_COPIES))
 	tools/make_reel.py 62:24000 34:16000 | cmp - crates/skim/stdin
 	tests/skim.py tools/skim.sh target/tests/skim_in_c tools/make_reel.py
@@ -171,10 +171,10 @@ target/tests/skim: tests/skim.rs
 	cat $(ORIGINAL) $< > $@.rs
 	$(RUSTC) -C overflow-checks=on -A warnings $@.rs -o $@
 
-# The same with the copies; those that step over note what they pass over.
+# The same with the copies.
 $(SKIM_COPIES): target/tests/skim_%: tests/skim.rs tools/judges.py
 	{ tools/judges.py $(ORIGINAL) $* && cat $<; } > $@.rs
-	$(RUSTC) -C overflow-checks=on -A warnings $(if $(findstring noting,$*),--cfg steps_over) $@.rs -o $@
+	$(RUSTC) -C overflow-checks=on -A warnings $@.rs -o $@
 
 target/bench/kernels: bench/kernels.rs kernels
 	test -f $(ORIGINAL) || { echo "bench: no original at $(ORIGINAL)"; exit 1; }

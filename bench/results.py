@@ -31,8 +31,8 @@ a minute, is followed by reads of 160 frames. To reach: skim 0.70, on stereo 0.3
 pitch-0.5 0.80, on mono 0.40, on stereo 0.33; short 1.0, on mono 0.50; read-all, read-160 and long-write 1.0; step-over 0.55.
 
 The lines of the tool: its time over the library's on the same reel, from start to end, with its reads and writes (least of the rounds).
-In the first the library writes 4,096 frames at a time, 1,172 times; to reach: 1.15. In the second it writes as the tool does, as often as
-the line says: each write fills the input up to 738 frames, three times what a search looks at, or goes to the end of a block of 4,096.
+In the first the library writes 4,096 frames at a time; to reach: 1.15. In the second it writes as the tool does, each time as far as one
+step uses, 76,000 times in all.
 The line of WAVE files: reading the head of a file of one hour over one of one second, 44,100 Hz stereo; no sample is touched.
 Instructions are counted by valgrind; the last column shows that cost grows in proportion to the reel's length. Not so for long-write, as in
 the original, because a read moves what remains to the front; a read that takes all moves nothing, and its instructions are the same

@@ -6,7 +6,7 @@
  *   stage    the tail of the rate conversion, and behind it the frames that a call copies or stretches. At pitch 1 these go straight from
  *            the input to the output: the stage then needs the length of the tail or of these frames, whichever is more, not of both
  *   output   frames waiting to be read
- *   scratch  averages, and notes of the library's own behind them; free after any call
+ *   scratch  averages; free after any call
  * The caller passes the stream and the areas of the call before, and changes neither. Areas may be longer or shorter from call to call.
  * A refused call changes nothing that is kept.
  *

@@ -127,7 +127,7 @@ def test_stopped():
 
 def test_version():
     assert skim(b"", "--longest-period", "--version") == skim(b"", "--version")
-    assert skim(b"", "--version") == skim(b"", "--as-original", "--version") == (b"skim (kelpladder) 0.4.1\n", [], 0)
+    assert skim(b"", "--version") == skim(b"", "--as-original", "--version") == (b"skim (kelpladder) 0.4.0\n", [], 0)
 
 
 def test_map():

@@ -1,18 +1,8 @@
 // Joined to the text of the Rust original, or to a copy of it (tools/judges.py) that steps over, as the tool does without --as-original,
 // or finds the largest of several best periods, as it does with --longest-period, or both: driven through the writes that the skim tool
-// makes. With a copy that steps over it is compiled with --cfg steps_over. Arguments and files are the tool's, and --map FILE may stand
-// before them; standard error gets the tool's last line, without its status. After a write that stalls the next one is tried, until a
-// flush would have no room behind another frame.
-use std::cell::RefCell;
+// makes. Arguments and files are the tool's, and --map FILE may stand before them; standard error gets the tool's last line, without its
+// status. After a write that stalls the next one is tried, until a flush would have no room behind another frame.
 use std::io::{Read, Write};
-
-thread_local! {
-    // The periods that a copy passed over: where each begins, counted from the first frame held, and its frames.
-    static PASSED: RefCell<Vec<(usize, usize)>> = const { RefCell::new(Vec::new()) };
-}
-
-// The last frame held whose number the tool's stream can note.
-const NOTED: usize = 32_767;
 
 // The samples that are read at a time, and those of the tool's areas.
 const BLOCK: usize = 4096;
@@ -32,13 +22,13 @@ fn limit(stream: &SonicStream, rate: usize, channels: usize) -> usize {
     (INPUT / channels).min(within(STAGE / channels)).min(within(made))
 }
 
-// The frames that a write fills the input up to: where a write may stall, as far as one step uses.
+// The frames that a write fills the input up to.
 fn full(stream: &SonicStream) -> usize {
     let s = (stream.speed / stream.pitch) as usize;
-    if !cfg!(steps_over) && s >= stream.min_period as usize {
+    if s >= stream.min_period as usize {
         stream.max_required + stream.min_period as usize - 1
     } else {
-        NOTED.min(3 * stream.max_required)
+        3 * stream.max_required
     }
 }
 
@@ -72,9 +62,9 @@ struct Stretch {
 }
 
 impl Stretch {
-    // Goes on with a write, and gives the periods that it passed over, as they are noted. While the stream has too few frames for a
-    // stretch, only a copy takes frames from its input.
-    fn write(&mut self, samples: &[f32]) -> Vec<(usize, usize)> {
+    // Goes on with a write, and gives the frames that it passed over: those that it used if it made none. While the stream has too few
+    // frames for a stretch, only a copy takes frames from its input.
+    fn write(&mut self, samples: &[f32]) -> usize {
         let stream = &mut self.stream;
         let (required, pitch) = (stream.max_required, stream.pitch);
         stream.max_required = usize::MAX;
@@ -82,17 +72,14 @@ impl Stretch {
         stream.output.clear();
         (stream.max_required, stream.pitch) = (required, 1.0);
         let held = stream.input_frames();
-        PASSED.take();
         stream.process_stream_input();
         stream.pitch = pitch;
-        let (passed, used, given) = (PASSED.take(), held - stream.input_frames(), stream.output_frames());
+        let (used, given) = (held - stream.input_frames(), stream.output_frames());
         if used > 0 {
             self.skipped += used.saturating_sub(given);
             self.inserted += given.saturating_sub(used);
         }
-        let frames: usize = passed.iter().map(|(_, frames)| frames).sum();
-        assert!(frames == used || given > 0, "a write that makes no frame passes over all that it uses");
-        passed
+        if given == 0 { used } else { 0 }
     }
 
     // The first frame held before a flush that stalls, told by the silence that it adds.
@@ -156,13 +143,16 @@ fn write_all(
         let mut at = 0;
         while at < block.len() && !stalls.stopped {
             let held = stream.input_frames();
+            let before = stream.output_frames() + stream.pitch_frames();
             let frames = if held < full { full - held } else { 1 };
             let end = block.len().min(at + frames * channels);
             stream.write_f32(&block[at..end]);
-            for (first, frames) in stretch.write(&block[at..end]) {
-                assert!(first <= NOTED && frames <= stream.max_period as usize, "a period that is passed over can be noted");
+            let passed = stretch.write(&block[at..end]);
+            if passed > 0 {
+                assert_eq!(before, stream.output_frames() + stream.pitch_frames(), "a write that passes over a period makes no frame");
+                assert!(passed <= stream.max_period as usize, "a write passes over one period");
                 passes.periods += 1;
-                passes.note(written - held + first, frames);
+                passes.note(written - held, passed);
             }
             stalls.open = stalled(stream).then(|| written - held);
             stalls.count += usize::from(stalls.open.is_some());

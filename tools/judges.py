@@ -4,27 +4,22 @@
     judges.py ORIGINAL NAME > copy.rs
     judges.py ORIGINAL > modules.rs
 
-NAME is one of COPIES or of NOTING. Without it every one of COPIES is printed as a module of that name, which ends in `judge!();`
-(tests/judges.rs). Fails unless the text has each line to be made another in exactly one place."""
+NAME is one of COPIES. Without it every copy is printed as a module of that name, which ends in `judge!();` (tests/judges.rs). Fails unless
+the text has each line to be made another in exactly one place."""
 import sys
 
-# Lines of the original, and what stands there in a copy: no return at a step that gave no frame; instead, a note of where the period that
-# it passed over begins, and of its frames; the largest of several best periods.
-RETURNS = """                if new_samples == 0 {
+# Lines of the original, and what stands there in a copy: no return at a step that gave no frame; the largest of several best periods.
+STEPS_OVER = ("""                if new_samples == 0 {
                     return;
                 }
-"""
-STEPS_OVER = (RETURNS, "")
-NOTES = (RETURNS, RETURNS.replace("return", "PASSED.with(|passed| passed.borrow_mut().push((position - period, period)))"))
+""", "")
 LARGEST = ("if best_period == 0 || diff * (best_period as u64) < min_diff * (period as u64) {",
            "if best_period == 0 || diff * (best_period as u64) <= min_diff * (period as u64) {")
 COPIES = {"stepping_over": (STEPS_OVER,), "largest": (LARGEST,), "largest_stepping_over": (STEPS_OVER, LARGEST)}
-# Those that step over and note it in PASSED, which tests/skim.rs declares.
-NOTING = {"noting": (NOTES,), "largest_noting": (NOTES, LARGEST)}
 
 
 def copy(text, name):
-    for there, instead in (COPIES | NOTING)[name]:
+    for there, instead in COPIES[name]:
         if text.count(there) != 1:
             sys.exit(f"judges.py: the original has in {text.count(there)} places, not 1: {there.strip()}")
         text = text.replace(there, instead)

@@ -17,23 +17,20 @@ fn time_of_tool(tool: &Path, reel: &Path, track: &Path) -> f64 {
     times::of_children() - start
 }
 
-/// The job in the tool's own writes, in one channel: each fills the input up to three times what a search looks at, 32,767 frames at the
-/// most, and none goes past the end of a block of 4,096 samples. Gives their number.
-fn run_as_tool(job: Job, reel: Reel, samples: &[f32], sink: &mut dyn FnMut(&[f32])) -> usize {
-    let full = (3 * required(reel)).min(32_767);
-    let (mut side, mut count) = (Ours::open(reel, job), 0);
+/// The job in the tool's own writes: each fills the input as far as one step uses, and none goes past the end of a block of 4,096 samples.
+fn run_by_steps(job: Job, reel: Reel, samples: &[f32], sink: &mut dyn FnMut(&[f32])) {
+    let full = required(reel) + reel.rate as usize / 400 - 1;
+    let mut side = Ours::open(reel, job);
     for mut block in samples.chunks(4_096) {
         while !block.is_empty() {
-            let (now, rest) = block.split_at((full - side.held()).min(block.len()));
-            side.write(now);
-            count += 1;
+            let (step, rest) = block.split_at((full - side.held()).min(block.len()));
+            side.write(step);
             block = rest;
         }
         side.read(usize::MAX, sink);
     }
     side.flush();
     side.read(usize::MAX, sink);
-    count
 }
 
 /// The frames that a job gives, as 16-bit little-endian PCM.
@@ -60,19 +57,18 @@ pub fn beside_library() {
     write(&reel_file, &bytes).expect("the reel can be written");
 
     let library = |sink: &mut dyn FnMut(&[f32])| run::<Ours>(job, reel, &samples, sink);
-    let count = run_as_tool(job, reel, &samples, &mut |_| ());
-    let as_tool = |sink: &mut dyn FnMut(&[f32])| { run_as_tool(job, reel, &samples, sink); };
+    let by_steps = |sink: &mut dyn FnMut(&[f32])| run_by_steps(job, reel, &samples, sink);
     time_of_tool(&tool, &reel_file, &track_file);
     let track = read(&track_file).expect("a track");
-    assert!(!track.is_empty() && track == bytes_of(library) && track == bytes_of(as_tool), "the tool's frames differ");
+    assert!(!track.is_empty() && track == bytes_of(library) && track == bytes_of(by_steps), "the tool's frames differ");
 
-    let (mut tools, mut long, mut own) = (Vec::new(), Vec::new(), Vec::new());
+    let (mut tools, mut writes, mut steps) = (Vec::new(), Vec::new(), Vec::new());
     for _ in 0..rounds() {
         tools.push(time_of_tool(&tool, &reel_file, &track_file));
-        long.push(time_of(library));
-        own.push(time_of(as_tool));
+        writes.push(time_of(library));
+        steps.push(time_of(by_steps));
     }
-    let (a, b, c) = (times::least(&tools), times::least(&long), times::least(&own));
+    let (a, b, c) = (times::least(&tools), times::least(&writes), times::least(&steps));
     println!("the tool over the library, {} {} s: {:.2}  {a:.1} {b:.1}", job.name, reel.seconds, a / b);
-    println!("the tool over the library in the tool's {count} writes, {} {} s: {:.2}  {a:.1} {c:.1}", job.name, reel.seconds, a / c);
+    println!("the tool over the library in the tool's writes, {} {} s: {:.2}  {a:.1} {c:.1}", job.name, reel.seconds, a / c);
 }

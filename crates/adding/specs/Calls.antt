@@ -1,11 +1,9 @@
 -- docs/RULES.md, "Areas and refusals": what a write and a flush answer, and what they keep in the areas. Definitions
 -- only. Assumes nothing.
-use Rattle.std.specs.Prelude.{◌≡◌, true, List, ◌++◌, ℕ, zero, suc, ◌+◌, ◌*◌, ℤ, Float, length, take}
+use Rattle.std.specs.Prelude.{◌≡◌, true, List, ◌++◌, ℕ, zero, suc, ◌+◌, ◌*◌, Float, length, take}
 use Rattle.frames.specs.Areas.{Areas}
 use Rattle.frames.specs.Framing.{Frame, frames_of}
 use Rattle.period.specs.Rates.{max_required}
-use Rattle.stretch.specs.declared.Step.{Step}
-use Rattle.stretch.specs.Passes.{Noted}
 use Rattle.stream.specs.declared.SonicStream.{SonicStream}
 use Rattle.stream.specs.State.{State}
 use Rattle.stream.specs.Stream.{state_of, stream_of}
@@ -81,15 +79,3 @@ pub record CallEnsures (channels : ℕ) (c : CallResult) (r : Wrote) (a : Areas)
 abbrev pub OrderAfter : Wrote → Type 0
 OrderAfter (Wrote.Refused number s) = Unit {0}
 OrderAfter (Wrote.Done told s) = is_in_order s ≡ true
-
--- the periods that an accepted call passed over are noted in the scratch at exit (C-18): the call's steps, on so many
--- frames held at this rate
-abbrev pub NotedAfter : ℕ → ℕ → List Step → List ℤ → Wrote → Type 0
-NotedAfter rate held ss scratch (Wrote.Refused number s) = Unit {0}
-NotedAfter rate held ss scratch (Wrote.Done told s) = Noted rate held ss scratch
-
--- those of a write
-abbrev pub WriteNoted : SonicStream → List Float → Areas → List ℤ → Wrote → Type 0
-WriteNoted s samples a scratch r =
-    NotedAfter s.rate (s.held.0 + length (whole_frames s.channels samples))
-    (write_work samples (state_of s a.input a.stage)).steps scratch r

@@ -1,8 +1,6 @@
 // What a write and a flush share: their answer, and the work of a call that has added frames to the input.
 // `specs/Calls.antt` says what each answers.
 ghost use Rattle.frames.specs.Areas.{areas};
-ghost use Rattle.process.specs.Streams.{joined_stream};
-ghost use Rattle.process.specs.Working.{WorkNoted};
 ghost use Rattle.adding.specs.Adding.{AddReady, AddEnsures};
 
 use frames::Frames;
@@ -27,12 +25,9 @@ pub fn process_added(
     scratch: &mut [i16],
 ) -> Work
     requires { AddReady stream period (areas input.old stage.old output.old scratch.old) n.0 }
-    ensures add_ensures { AddEnsures stream n.0
+    ensures { AddEnsures stream n.0
         (areas input.old stage.old output.old scratch.old)
         (areas input.new stage.new output.new scratch.new) result }
-    ensures work_noted { WorkNoted (joined_stream n.0 stream)
-        (areas input.old stage.old output.old scratch.old)
-        scratch.new result }
 {
     let joined = process::joined(stream, period, n);
     process::process_stream_input(joined, input, stage, output, scratch)

@@ -1,4 +1,3 @@
 pub mod Parts
 mod StreamAfter
 mod Serving
-pub mod Notes

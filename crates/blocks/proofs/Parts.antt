@@ -4,7 +4,7 @@
 --   part-start, part-more, part_end      the writes of a block
 --   CountShows, read-serving, read-none-waits, samples-whole, turned    a block read; and written
 -- Assumes nothing.
-use Rattle.std.proofs.Common.{◌≡◌, ℕ, ◌+◌, ◌*◌, ◌/◌, ◌%◌, ◌^◌, ◌<◌, ◌≤◌, Bool, true, false, cond, List, ℤ, sym, refl, ap, ◌∙◌, subst, mod-eq_of_lt, mul-div_cancel, arith, ltb-false}
+use Rattle.std.proofs.Common.{◌≡◌, ℕ, ◌+◌, ◌*◌, ◌/◌, ◌%◌, ◌^◌, ◌<◌, ◌≤◌, Bool, true, false, cond, List, sym, refl, ap, ◌∙◌, subst, mod-eq_of_lt, mul-div_cancel, arith, ltb-false}
 use native.Mathlib.Nat.{mul-mod_left}
 use Rattle.stream.specs.declared.SonicStream.{SonicStream}
 use Rattle.adding.specs.declared.Wrote.{Wrote}
@@ -85,10 +85,11 @@ counted-as before {stalls} {place} {first} {given} p same e =
     e ∙ ap (λ (n : ℕ). count_stall n given before) p ∙ ap (λ (w : Wrote). count_stall first w before) same
 
 -- what is noted after a write, by what the reel was before it and by its answer
-pub noted-as : {r t : Reel} {leaves : RunState} {given answer : Wrote} (notes : List ℤ)
-    → Answered leaves r.written r.flushed r.stalls r.passes r.gave r given t → given ≡ answer
-    → noted_write t.passes t.passed t.from notes ≡ noted_write r.passes (passed_in answer) (first_held r.written r.stream) notes
-noted-as notes a same = rw (a.passes_is, a.passed_is, a.from_is, same)
+pub noted-as : {r t : Reel} {leaves : RunState} {given answer : Wrote} {written n : ℕ}
+    → Answered leaves r.written r.flushed r.stalls r.passes r.gave r given t → given ≡ answer → written ≡ n
+    → noted_write t.passes t.passed t.from (first_held written t.stream)
+    ≡ noted_write r.passes (passed_in answer) (first_held r.written r.stream) (first_held n (stream_after answer))
+noted-as a same w = rw (a.passes_is, a.passed_is, a.from_is, a.stream_is, same, w)
 
 -- ---- the writes of a block
 
@@ -105,11 +106,11 @@ part-start {p} {r} n z h y =
     }
 
 -- one more write, a part of the map written and frames written out after it
-pub part-more : {plan : Plan} {r s t u v : Reel} {answer : Wrote} {samples : ℕ} (notes : List ℤ) (n k m : ℕ) → n + k ≡ m → samples ≡ output_area plan.small
+pub part-more : {plan : Plan} {r s t u v : Reel} {answer : Wrote} {samples : ℕ} (n k m : ℕ) → n + k ≡ m → samples ≡ output_area plan.small
     → takes_more plan s ≡ true → PartWritten plan n r s
-    → WriteAnswered ((s.written + k) % 2 ^ 64) notes s answer t → t.stream.channels ≡ s.stream.channels → Serving plan t → MapWritten t u → WrittenOut samples u v
+    → WriteAnswered ((s.written + k) % 2 ^ 64) s answer t → t.stream.channels ≡ s.stream.channels → Serving plan t → MapWritten t u → WrittenOut samples u v
     → PartWritten plan m r v
-part-more {plan} {r} {s} notes n k m e z g p w c y a o =
+part-more {plan} {r} {s} n k m e z g p w c y a o =
     record {
       still = λ h. p.still g;
       written_is =

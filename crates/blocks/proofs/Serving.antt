@@ -1,5 +1,5 @@
 -- A reel of a served job, in a write: takes_one, it has room for a frame; write-serving, it is of a served job again. Assumes nothing.
-use Rattle.std.proofs.Common.{◌≡◌, ℕ, ◌+◌, ◌*◌, ◌/◌, ◌<◌, ◌≤◌, Bool, true, false, cond, ◌⊎◌, List, length, ℤ, sym, refl, ap, ◌∙◌, subst, ⊎_elim, true≢false, arith, leb-true}
+use Rattle.std.proofs.Common.{◌≡◌, ℕ, ◌+◌, ◌*◌, ◌/◌, ◌<◌, ◌≤◌, Bool, true, false, cond, ◌⊎◌, List, length, sym, refl, ap, ◌∙◌, subst, ⊎_elim, true≢false, arith, leb-true}
 use lib.Ieee.{Float}
 use Rattle.frames.specs.Areas.{Areas}
 use Rattle.period.specs.Rates.{max_required}
@@ -43,11 +43,11 @@ few-after p s at n plan o t true e left = tt
 few-after p s at n plan o t false e left =
     ⊎_elim (λ h. absurd (true≢false (ap is_stalled (sym h.0) ∙ e))) (λ h. rw plan h) left
 
-pub write-serving : (p : Plan) (r t : Reel) (samples : List Float) (a : Areas) (written : ℕ) (notes : List ℤ) → AreasSized p.small a
+pub write-serving : (p : Plan) (r t : Reel) (samples : List Float) (a : Areas) (written : ℕ) → AreasSized p.small a
     → r.stream.waiting.0 ≤ block_samples / p.channels → r.stream.held.0 + length samples / p.channels ≤ p.limit
     → takes_more p r ≡ true → Serving p r → OrderAfter (write_call r.stream samples a).answer
-    → WriteAnswered written notes r (write_call r.stream samples a).answer t → Serving p t
-write-serving p r t samples a written notes z waits few e y order w =
+    → WriteAnswered written r (write_call r.stream samples a).answer t → Serving p t
+write-serving p r t samples a written z waits few e y order w =
     let s = r.stream in
     let within : s.held.0 + length samples / s.channels ≤ limit_of s =
     subst (λ (q : Plan). s.held.0 + length samples / q.channels ≤ q.limit) y.plan_is few in

@@ -1,7 +1,8 @@
 -- What is promised of a block that is read and written: none of its frames is left out unseen. Definitions only.
 -- Assumes nothing.
-use Rattle.std.specs.Prelude.{◌≡◌, ℕ, ◌+◌, ◌%◌, ◌^◌, true, false, List, ℤ}
+use Rattle.std.specs.Prelude.{◌≡◌, ℕ, ◌+◌, ◌%◌, ◌^◌, true, false}
 use Rattle.adding.specs.declared.Wrote.{Wrote}
+use Rattle.adding.specs.Calls.{stream_after}
 use Rattle.plans.specs.declared.Plan.{Plan}
 use Rattle.reels.specs.declared.reel.Reel.{Reel}
 use Rattle.reels.specs.declared.state.RunState.{RunState}
@@ -10,14 +11,14 @@ use Rattle.reels.specs.Serving.{Serving}
 use Rattle.reels.specs.Reels.{takes_more, SameInput, first_held, passed_in, Answered}
 use Rattle.maps.specs.Maps.{noted_write}
 
--- after a write, with so many frames written: a stall is counted, and the periods that it passed over are noted, by
--- what the scratch has of them behind the values of a search
-abbrev pub WriteAnswered : ℕ → List ℤ → Reel → Wrote → Reel → Type 0
-WriteAnswered written notes r answer r' =
+-- after a write, with so many frames written: a stall is counted; of a period that it passed over, the frames from the
+-- first one held before it to the first one held after it are noted
+abbrev pub WriteAnswered : ℕ → Reel → Wrote → Reel → Type 0
+WriteAnswered written r answer r' =
     let place : ℕ = first_held r.written r.stream in
     Answered (RunState.Stalled place) written r.flushed
     (count_stall place answer r.stalls)
-    (noted_write r.passes (passed_in answer) place notes)
+    (noted_write r.passes (passed_in answer) place (first_held written (stream_after answer)))
     r.gave r answer r'
 
 -- after writes of n frames of a block: a run that takes more has written them all

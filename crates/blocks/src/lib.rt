@@ -2,10 +2,10 @@
 // stall they go on, a frame at a time once the input is as full as that: s of a call, which is rounded, changes with
 // each write, and where the pitch period is s − 1 its last bit decides.
 // `specs/Blocks.antt` says what is promised.
-ghost use Rattle.std.specs.Prelude.{◌≡◌, ◌+◌, ◌-◌, ◌*◌, ◌/◌, ◌%◌, ◌^◌, ◌<◌, ◌≤◌, map, length, drop};
+ghost use Rattle.std.specs.Prelude.{◌≡◌, ◌+◌, ◌-◌, ◌*◌, ◌/◌, ◌%◌, ◌^◌, ◌<◌, ◌≤◌, map, length};
 ghost use Rattle.frames.specs.Areas.{areas};
 ghost use Rattle.floats.specs.Write.{sample_out};
-ghost use Rattle.adding.specs.Calls.{write_call, OrderAfter, WriteNoted};
+ghost use Rattle.adding.specs.Calls.{write_call, OrderAfter};
 ghost use Rattle.plans.specs.Plans.{block_samples, block_bytes, Usable};
 ghost use Rattle.serving.specs.Steady.{AreasSized};
 ghost use Rattle.reels.specs.Serving.{Serving};
@@ -23,8 +23,7 @@ fn write_end(at: usize, len: usize, held: Frames, plan: Plan) -> usize
     requires { Usable plan × (at < len) × (at % plan.channels ≡ 0) × (len % plan.channels ≡ 0)
         × (held.0 + 1 ≤ plan.limit) }
     ensures { (at < result) × (result ≤ len) × (result % plan.channels ≡ 0)
-        × (held.0 + (result - at) / plan.channels ≤ plan.limit)
-        × (held.0 < plan.full → held.0 + (result - at) / plan.channels ≤ plan.full) }
+        × (held.0 + (result - at) / plan.channels ≤ plan.limit) }
 {
     let frames = if held.0 < plan.full {
         plan.full - held.0
@@ -35,38 +34,31 @@ fn write_end(at: usize, len: usize, held: Frames, plan: Plan) -> usize
     if size < len - at { at + size } else { len }
 }
 
-// One write. The periods that it passed over are noted in the scratch.
+// One write.
 fn write(
     reel: Reel,
     samples: &[i16],
-    plan: Plan,
+    channels: usize,
     input: &mut [i16],
     stage: &mut [i16],
     output: &mut [i16],
     scratch: &mut [i16],
 ) -> Reel
-    requires { (1 ≤ plan.channels) × (reel.stream.channels ≡ plan.channels)
-        × (length samples.now % plan.channels ≡ 0) }
-    ensures write_answered { WriteAnswered ((reel.written + length samples.now / plan.channels) % 2 ^ 64)
-        (drop plan.required scratch.new) reel
+    requires { (1 ≤ channels) × (reel.stream.channels ≡ channels) × (length samples.now % channels ≡ 0) }
+    ensures write_answered { WriteAnswered ((reel.written + length samples.now / channels) % 2 ^ 64) reel
         (write_call reel.stream (map sample_out samples.now)
         (areas input.old stage.old output.old scratch.old)).answer result }
     ensures order_after { OrderAfter (write_call reel.stream (map sample_out samples.now)
         (areas input.old stage.old output.old scratch.old)).answer }
-    ensures write_noted { WriteNoted reel.stream (map sample_out samples.now)
-        (areas input.old stage.old output.old scratch.old)
-        scratch.new
-        (write_call reel.stream (map sample_out samples.now)
-        (areas input.old stage.old output.old scratch.old)).answer }
 {
     let answer = sonic::write_i16(reel.stream, samples, input, stage, output, scratch);
-    let n = Samples(samples.len()).frames(plan.channels);
+    let n = Samples(samples.len()).frames(channels);
     let place = first_held(reel.written, reel.stream.held.0 as u64);
     let stalls = count_stall(reel.stalls, place, answer);
     let mut after = reel.answered(answer, RunState::Stalled(place));
     after.stalls = stalls;
     after.written = std::num::wrapping_add_u64(reel.written, n.0 as u64);
-    let passes = maps::noted_write(after, scratch, plan.required);
+    let passes = maps::noted_write(after);
     after.passes = passes;
     after
 }
@@ -113,8 +105,16 @@ fn write_block(
     while at < block.len() && reel.takes_more(plan) {
         let end = write_end(at, block.len(), reel.stream.held, plan);
         let last = reel.passes.last;
-        reel = write(reel, &block[at..end], plan, input, stage, output, scratch);
-        reel = maps::put_passes(reel, last, scratch, plan);
+        reel = write(
+            reel,
+            &block[at..end],
+            plan.channels,
+            input,
+            stage,
+            output,
+            scratch,
+        );
+        reel = maps::put_ended(reel, last, plan);
         reel = drain_full(reel, few, output, values, bytes);
         at = end;
     }

@@ -2,4 +2,3 @@ pub mod Branches
 pub mod Filling
 mod Destinations
 mod Stretching
-mod Noting

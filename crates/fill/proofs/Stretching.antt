@@ -2,8 +2,7 @@
 --   StretchDue                                  what a stretch of the frames held asks for
 --   call-ready, lent-long                the call that the code makes, and the samples that it lends
 --   StretchAnswered                             what `change_speed` answers
---   stretched-steps                             its steps
---   stretched-over, stretched-within, stretched-used, stretched-full, stretched-filled     by the answer
+--   stretched-over, stretched-used, stretched-full, stretched-filled     by the answer
 -- Assumes nothing.
 use mathlib.Core.Path.{◌≡◌, refl, sym, ap, ◌∙◌, subst}
 use mathlib.Core.Bool.{Bool, true, false, cond}
@@ -152,14 +151,6 @@ module _ {s : SonicStream} {x : Float} {kept : ℕ} {input area : List ℤ} (d :
       → FilledBy s kept most (taken state) input area exit f
   fills exit f = subst (λ (t : Taken). FilledBy s kept most t input area exit f) (sym taken_is)
 
-  -- the steps of the call
-  pub stretched-steps : steps (call_of s x) (lent_of s input) (place_for s) ≡ (taken state).steps
-  unfolding state_of stretched
-  stretched-steps =
-      ap (λ (l : List ℤ). steps (call_of s x) l (place_for s)) lent_is
-      ∙ ap (λ (u : StretchCall). steps u (flat state.input) (place_for s)) call-is
-      ∙ sym (ap (λ (t : Taken). t.steps) taken_is)
-
 -- ---- the state after the steps of an answer
 
 -- by whether it stalled: u then, v otherwise
@@ -285,14 +276,6 @@ module _ {s : SonicStream} {x : Float} {kept : ℕ} {input area : List ℤ} (d :
   stretched-over e stage = over_by d most exit stage e
 
   module _ (m : Stretch) (e : StretchAnswered s x kept most input area exit (S.Stretched.Made m)) where
-    -- no more frames than there may be
-    pub stretched-within : frames_made (steps (call_of s x) (lent_of s input) (place_for s)) ≤ most
-    unfolding change_speed
-    stretched-within =
-        let made = frames_made (steps (call_of s x) (lent_of s input) (place_for s)) in
-        let answer = answer_for (call_of s x) (lent_of s input) (place_for s) (steps (call_of s x) (lent_of s input) (place_for s)) in
-        ltb-false most made (answer-made (ltb most made) answer m e.0).0
-
     pub stretched-used : m.used.0 ≤ s.held.0
     stretched-used = used-by d most exit [] m e
 

@@ -15,7 +15,6 @@ use Rattle.stretch.specs.declared.Place.{Place}
 use Rattle.stretch.specs.declared.Stretch.{Stretch}
 use Rattle.stretch.specs.declared.Stretched.{Stretched}
 use Rattle.stretch.specs.Speed.{begun, change_speed, AreaAfter}
-use Rattle.stretch.specs.Passes.{Noted}
 use Rattle.stream.specs.declared.SonicStream.{SonicStream}
 use Rattle.stream.specs.declared.balance.Balance.{Balance}
 use Rattle.stream.specs.Balance.{none}
@@ -141,13 +140,6 @@ FillEnsures s a b r =
     FilledBy s to.kept.0 to.most.0 (taken (state_of s a.input a.stage)) a.input (filled_area s a)
     (filled_area s b) r
     × (other_area s b ≡ other_area s a)
-
--- and the periods that the call passed over are noted in the scratch at exit
-abbrev pub FillNoted : SonicStream → Areas → List ℤ → Fill → Type 0
-FillNoted s a scratch Fill.TooMany = Unit {0}
-FillNoted s a scratch Fill.Full = Unit {0}
-FillNoted s a scratch (Fill.Done d) =
-    Noted s.rate s.held.0 (taken (state_of s a.input a.stage)).steps scratch
 
 -- the frames of the input were copied there
 abbrev pub CopyEnsures : SonicStream → Areas → Areas → Type 0

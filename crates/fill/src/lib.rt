@@ -10,7 +10,7 @@ ghost use Rattle.floats.specs.Settings.{sample_period};
 ghost use Rattle.stream.specs.Stream.{ChangedBy};
 ghost use Rattle.stream.specs.Order.{StreamReady};
 ghost use Rattle.fill.specs.Taking.{removed};
-ghost use Rattle.fill.specs.Filling.{surplus, nothing_filled, FillReady, FillEnsures, FillNoted};
+ghost use Rattle.fill.specs.Filling.{surplus, nothing_filled, FillReady, FillEnsures};
 
 use copies::copy_input;
 use frames::Frames;
@@ -116,12 +116,9 @@ pub fn fill_area(
 ) -> Fill
     requires { StreamReady stream
         × FillReady stream (areas input.now stage.old output.old scratch.old) }
-    ensures fill_ensures { FillEnsures stream
+    ensures { FillEnsures stream
         (areas input.now stage.old output.old scratch.old)
         (areas input.now stage.new output.new scratch.new) result }
-    ensures fill_noted { FillNoted stream
-        (areas input.now stage.old output.old scratch.old)
-        scratch.new result }
 {
     let held = stream.held;
     let n = stream.held.0;

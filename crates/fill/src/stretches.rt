@@ -5,10 +5,9 @@ ghost use Rattle.floats.specs.Settings.{sample_period};
 ghost use Rattle.floats.specs.Write.{speed_changes};
 ghost use Rattle.period.specs.Rates.{max_required};
 ghost use Rattle.stretch.specs.Steps.{StretchReady};
-ghost use Rattle.stretch.specs.Passes.{NotesAfter};
 ghost use Rattle.stream.specs.Order.{StreamReady};
-ghost use Rattle.fill.specs.Filling.{speed_of, destination_of, place_for, AreasFit, FillReady};
-ghost use Rattle.fill.specs.Filling.{SteppedAs, StretchEnsures, FillEnsures, FillNoted};
+ghost use Rattle.fill.specs.Filling.{speed_of, destination_of, AreasFit, FillReady};
+ghost use Rattle.fill.specs.Filling.{SteppedAs, StretchEnsures, FillEnsures};
 
 use crate::destination::{Destination, destination_of};
 use crate::{Fill, Filled, Outcome, Told, balance_of, removed};
@@ -71,10 +70,9 @@ fn stretch_frames(
         × (max_required stream.rate ≤ length scratch.old)
         × AreasFit stream (areas samples.now stage.old output.old scratch.old)
         × (to ≡ destination_of stream (length stage.old) (length output.old)) }
-    ensures stretch_ensures { StretchEnsures stream call
+    ensures { StretchEnsures stream call
         (areas samples.now stage.old output.old scratch.old)
         (areas samples.now stage.new output.new scratch.new) result }
-    ensures notes_after { NotesAfter call samples.now (place_for stream) to.most.0 scratch.new }
 {
     let kept = to.kept;
     let room = to.room;
@@ -108,12 +106,9 @@ pub(crate) fn stretch_input(
         × FillReady stream (areas input.now stage.old output.old scratch.old) }
     requires rate_bound { (max_required stream.rate ≤ stream.held.0) × (speed ≡ speed_of stream)
         × (speed_changes speed ≡ true) }
-    ensures fill_ensures { FillEnsures stream
+    ensures { FillEnsures stream
         (areas input.now stage.old output.old scratch.old)
         (areas input.now stage.new output.new scratch.new) result }
-    ensures fill_noted { FillNoted stream
-        (areas input.now stage.old output.old scratch.old)
-        scratch.new result }
 {
     let channels = stream.channels as usize;
     let held = stream.held;

@@ -1,6 +1,7 @@
 -- Parts of the map written: none and one more (map_same, map-trans); a stream that takes more did so before (map-takes), and a reel of a served job
 -- stays one (map-serving). Assumes nothing.
-use Rattle.std.proofs.Common.{◌≡◌, true, sym, refl, ap, ◌∙◌}
+use mathlib.Core.Path.{◌≡◌, refl, sym, ap, ◌∙◌}
+use mathlib.Core.Bool.{true}
 use Rattle.plans.specs.declared.Plan.{Plan}
 use Rattle.reels.specs.declared.reel.Reel.{Reel}
 use Rattle.stream.specs.declared.SonicStream.{SonicStream}

@@ -1,7 +1,6 @@
 -- Frames of a reel of which nothing came out: what a call notes of them, and the run after a part of the map was
 -- written. Definitions only. Assumes nothing.
-use Rattle.std.specs.Prelude.{◌≡◌, ℕ, ◌+◌, ◌-◌, ◌*◌, ◌%◌, ◌^◌, Bool, true, cond, ◌&&◌, List, [], ◌∷◌, take, ℤ, ◌==◌}
-use Rattle.floats.specs.Steps.{nat_of}
+use Rattle.std.specs.Prelude.{◌≡◌, Bool, true, cond, ◌&&◌, ℕ, ◌-◌, eqb}
 use Rattle.passes.specs.declared.Span.{Span}
 use Rattle.passes.specs.declared.Passes.{Passes}
 use Rattle.passes.specs.Passes.{noted}
@@ -15,24 +14,13 @@ use Rattle.reels.specs.Reels.{SameInput, SameNotes}
 abbrev pub span_of : ℕ → ℕ → Span
 span_of first end = record { first = first; frames = end - first }
 
--- a period that a write passed over, as two values note it: the frame at which it begins, counted from the first frame
--- that was held, and its frames
-abbrev pub span_noted : ℕ → ℤ → ℤ → Span
-span_noted from begins frames = record { first = (from + nat_of begins) % 2 ^ 64; frames = nat_of frames }
-
--- such periods one after the other, each by its two values
-unfoldable pub noted_all : Passes → ℕ → List ℤ → Passes
-noted_all p from [] = p
-noted_all p from (begins ∷ []) = p
-noted_all p from (begins ∷ (frames ∷ rest)) = noted_all (noted p 1 (span_noted from begins frames)) from rest
-
--- after a write that passed over so many periods: those, by the values that note them
-abbrev pub noted_write : Passes → ℕ → ℕ → List ℤ → Passes
-noted_write p passed from notes = noted_all p from (take (2 * passed) notes)
+-- after a write that passed over so many periods, one at the most by the plan: the frames that left the input
+unfoldable pub noted_write : Passes → ℕ → ℕ → ℕ → Passes
+noted_write p passed first end = cond (eqb passed 0) p (noted p passed (span_of first end))
 
 -- after a flush that gave no frame: the frames that were held, unless they stand behind a stall
 unfoldable pub noted_flush : Passes → Bool → ℕ → ℕ → ℕ → Passes
-noted_flush p fine gave first end = cond (fine && gave == 0) (noted p 0 (span_of first end)) p
+noted_flush p fine gave first end = cond (fine && eqb gave 0) (noted p 0 (span_of first end)) p
 
 -- ---- the map
 
@@ -59,4 +47,4 @@ stalled_from end RunState.WriteFailed = span_of 0 0
 
 -- those, if no flush gave a frame of them
 abbrev pub unskimmed_of : Reel → Span
-unskimmed_of r = cond (r.gave == 0) (stalled_from r.frames_in r.state) (span_of 0 0)
+unskimmed_of r = cond (eqb r.gave 0) (stalled_from r.frames_in r.state) (span_of 0 0)

@@ -1,14 +1,14 @@
 // What is noted of frames of a reel of which nothing came out, and the map of them, written line by line.
 // `specs/Maps.antt` says what is noted.
-ghost use Rattle.std.specs.Prelude.{◌≡◌, ◌+◌, ◌-◌, ◌<◌, length, drop, pos, slice_index_or};
-ghost use Rattle.floats.specs.Steps.{nat_of};
+ghost use Rattle.std.specs.Prelude.{◌≡◌};
 ghost use Rattle.period.specs.Rates.{InLimits};
+ghost use Rattle.reels.specs.Reels.{first_held};
 ghost use Rattle.reels.specs.States.{fine};
-ghost use Rattle.maps.specs.Maps.{span_of, span_noted, noted_write, noted_flush, MapWritten, unskimmed_of};
+ghost use Rattle.maps.specs.Maps.{span_of, noted_write, noted_flush, MapWritten, unskimmed_of};
 
-use passes::{Passes, Span, join, map};
+use passes::{Passes, Span, map};
 use plans::Plan;
-use reels::reel::Reel;
+use reels::reel::{Reel, first_held};
 use reels::state::{RunState, is_fine};
 
 // Frames of a reel, by the first of them and the first behind them.
@@ -26,52 +26,16 @@ fn descriptor(map: u32) -> i32 {
     if map < 0x8000_0000 { map as i32 } else { -1 }
 }
 
-// The number of a value that is 0 or more; 0 for one below.
-fn count(value: i16) -> u64
-    ensures { result ≡ nat_of value }
+// After a write: if it passed over a period, nothing came of the frames that left the input.
+pub fn noted_write(reel: Reel) -> Passes
+    ensures { result ≡ noted_write reel.passes reel.passed reel.from
+        (first_held reel.written reel.stream) }
 {
-    if value < 0 { 0 } else { value as u64 }
-}
-
-// The place of the last value, which has none behind it.
-fn last_place(values: &[i16]) -> usize
-    ensures { result ≡ length values.now - 1 }
-{
-    if values.len() > 0 {
-        values.len() - 1
-    } else {
-        0
+    if reel.passed == 0 {
+        return reel.passes;
     }
-}
-
-// The period passed over that the values at i and i + 1 note; the first frame that was held is `from`.
-fn pass_at(from: u64, scratch: &[i16], i: usize) -> Span
-    requires { i + 1 < length scratch.now }
-    ensures { result ≡ span_noted from (slice_index_or scratch.now i (pos 0))
-        (slice_index_or scratch.now (i + 1) (pos 0)) }
-{
-    let begins = scratch[i];
-    let frames = scratch[i + 1];
-    Span {
-        first: std::num::wrapping_add_u64(from, count(begins)),
-        frames: count(frames),
-    }
-}
-
-// After a write: the periods that it passed over, which the values from `at` on note.
-pub fn noted_write(reel: Reel, scratch: &[i16], at: usize) -> Passes
-    ensures { result ≡ noted_write reel.passes reel.passed reel.from (drop at scratch.now) }
-{
-    let mut passes = reel.passes;
-    let mut left = reel.passed;
-    let mut i = at;
-    let end = last_place(scratch);
-    while left > 0 && i < end {
-        passes = passes.note(1, pass_at(reel.from, scratch, i));
-        i = i + 2;
-        left = left - 1;
-    }
-    passes
+    let end = first_held(reel.written, reel.stream.held.0 as u64);
+    reel.passes.note(reel.passed, span(reel.from, end))
 }
 
 // After the flush: if no frame waits, nothing came of the frames that were held. Those behind a stall are not noted.
@@ -133,31 +97,6 @@ pub fn put_ended(reel: Reel, before: Span, plan: Plan) -> Reel
         return reel;
     }
     put_line(reel, before, plan)
-}
-
-// Writes the lines of the stretches that ended in a write, with what was the last stretch before it.
-pub fn put_passes(reel: Reel, before: Span, scratch: &[i16], plan: Plan) -> Reel
-    requires { InLimits plan.rate plan.channels }
-    ensures { MapWritten reel result }
-{
-    if reel.map == Reel::NO_MAP {
-        return reel;
-    }
-    let mut after = reel;
-    let mut last = before;
-    let mut left = reel.passed;
-    let mut i = plan.required;
-    let end = last_place(scratch);
-    while left > 0 && i < end {
-        let joined = join(last, pass_at(reel.from, scratch, i));
-        if joined.first != last.first {
-            after = put_line(after, last, plan);
-        }
-        last = joined;
-        i = i + 2;
-        left = left - 1;
-    }
-    after
 }
 
 // The frames from a stall on, if the run ended stalled and its flush, if it had one, gave no frame; otherwise none.

@@ -23,7 +23,7 @@ pub struct Passes {
 }
 
 // A stretch with a piece behind it: the two joined if the piece begins where the stretch ends, else the piece alone.
-pub fn join(span: Span, piece: Span) -> Span
+fn join(span: Span, piece: Span) -> Span
     ensures { result ≡ joined span piece }
 {
     if piece.first == std::num::wrapping_add_u64(span.first, span.frames) {

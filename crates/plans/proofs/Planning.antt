@@ -1,13 +1,13 @@
 -- The sizes that a plan is made of, in this order:
 --   period-most, shortest-least, shortest-most            the periods
---   growth-least, fill-most, fill-noted                   the growth, and what a write fills the input up to
+--   growth-least, fill-most                               the growth, and what a write fills the input up to
 --   block_within, rates-in, limit-most                    what the limit is made of
 --   planned, unserved                                     the service by its test
 --   usable-of                                             what a plan has shown
 -- Assumes nothing.
 use mathlib.Core.Path.{◌≡◌, refl, subst}
 use mathlib.Core.Bool.{Bool, true, false, cond}
-use Prim.Native.Nat.{ℕ, ◌+◌, ◌-◌, ◌*◌, ◌/◌, ◌≤◌, min}
+use Prim.Native.Nat.{ℕ, ◌+◌, ◌-◌, ◌*◌, ◌/◌, ◌≤◌}
 use native.Mathlib.Nat.{le_trans, div-le_self, div-mul-le_self, div-lt_iff_lt-mul, le-div_iff_mul-le, min-le_left, min-le_right}
 use native.Mathlib.Omega.{arith}
 use lib.Dec.{leb}
@@ -19,12 +19,10 @@ use Rattle.search.specs.Search.{longest_period}
 use Rattle.rate.specs.Halving.{rates_of}
 use Rattle.rate.proofs.Halving.{RatesWithin, rates-within}
 use Rattle.stream.specs.declared.SonicStream.{SonicStream}
-use Rattle.stream.specs.State.{steps_over}
 use Rattle.stream.specs.Refusals.{is_in_order}
 use Rattle.stream.proofs.InOrder.{limits_of, tests-of, ranges-of, within-range}
 use Rattle.plans.specs.declared.Plan.{Plan}
 use Rattle.plans.specs.declared.Service.{Service}
-use Rattle.stretch.specs.Passes.{noted_frames}
 use Rattle.plans.specs.Plans.{input_area, block_samples}
 use Rattle.plans.specs.Plans.{growth_of, fill_to, held_most, limit_of, served, plan_of, service_of, Usable}
 
@@ -43,32 +41,16 @@ growth-least speed pitch longest = omega arith
 pub shortest-most : (rate : ℕ) → min_period rate ≤ max_required rate
 shortest-most rate = omega arith
 
-fill-cases : (P : ℕ → Type 0) (few most : ℕ) (stepOver fast : Bool) → P few → P most → P (cond stepOver most (cond fast few most))
-fill-cases P few most true fast a b = b
-fill-cases P few most false true a b = a
-fill-cases P few most false false a b = b
+fill-most : (speed pitch : Float) (shortest required : ℕ) → shortest ≤ required → fill_to speed pitch shortest required ≤ 3 * required
+unfolding fill_to
+fill-most speed pitch shortest required few = go (leb shortest s)
+  where
+    s : ℕ
+    s = to_unsigned 64 (div binary32 speed pitch)
 
-module _ (speed pitch : Float) (shortest required : ℕ) (stepOver : Bool) (short : shortest ≤ required) where
-  abbrev fast : Bool
-  fast = leb shortest (to_unsigned 64 (div binary32 speed pitch))
-
-  fill-most : fill_to speed pitch shortest required stepOver ≤ 3 * required
-  unfolding fill_to
-  fill-most =
-      fill-cases (λ (n : ℕ). n ≤ 3 * required) (required + (shortest - 1)) (min (3 * required) noted_frames) stepOver fast (omega arith)
-      (min-le_left (3 * required) noted_frames)
-
-  module _ (few : required ≤ 2 * longest_period) where
-    fill-noted : fill_to speed pitch shortest required stepOver ≤ noted_frames
-    unfolding fill_to
-    fill-noted =
-        fill-cases (λ (n : ℕ). n ≤ noted_frames) (required + (shortest - 1)) (min (3 * required) noted_frames) stepOver fast (omega arith)
-        (min-le_right (3 * required) noted_frames)
-
-    fill-enough : required ≤ fill_to speed pitch shortest required stepOver
-    unfolding fill_to
-    fill-enough =
-        fill-cases (λ (n : ℕ). required ≤ n) (required + (shortest - 1)) (min (3 * required) noted_frames) stepOver fast (omega arith) (omega arith)
+    go : (b : Bool) → cond b (required + (shortest - 1)) (3 * required) ≤ 3 * required
+    go true = omega arith
+    go false = omega arith
 
 -- ---- the limit
 
@@ -104,16 +86,11 @@ module _ (s : SonicStream) where
 
   plan-usable : InLimits s.rate s.channels → served s ≡ true → Usable (plan_of s)
   plan-usable l e =
-      let over = steps_over s.step_over in
-      let short = shortest-most s.rate in
-      let few : max_required s.rate ≤ 2 * longest_period = omega (arith, period-most l) in
       record {
         limits = l;
         block_fits = div-mul-le_self block_samples s.channels;
         required_some = omega (arith, l.rate_low);
-        full_fits = fill-most s.speed s.pitch (min_period s.rate) (max_required s.rate) over short;
-        full_noted = fill-noted s.speed s.pitch (min_period s.rate) (max_required s.rate) over short few;
-        full_enough = fill-enough s.speed s.pitch (min_period s.rate) (max_required s.rate) over short few;
+        full_fits = fill-most s.speed s.pitch (min_period s.rate) (max_required s.rate) (shortest-most s.rate);
         calls_fit = leb-true (3 * max_required s.rate) (limit_of s) e;
         limit_fits = limit-most s;
       }

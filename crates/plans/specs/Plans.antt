@@ -5,10 +5,7 @@ use Rattle.std.specs.Float.Ieee.{mul, div, le, to_unsigned}
 use Rattle.floats.specs.Numbers.{half}
 use Rattle.period.specs.Rates.{min_period, max_period, max_required, InLimits}
 use Rattle.rate.specs.Halving.{rates_of}
-use Rattle.search.specs.Search.{longest_period}
 use Rattle.stream.specs.declared.SonicStream.{SonicStream}
-use Rattle.stream.specs.State.{steps_over}
-use Rattle.stretch.specs.Passes.{noted_frames}
 use Rattle.plans.specs.declared.Plan.{Plan}
 use Rattle.plans.specs.declared.Service.{Service}
 
@@ -24,9 +21,8 @@ stage_area small = cond small 196992 1048576
 unfoldable pub output_area : Bool → ℕ
 output_area small = cond small 409600 1048576
 
--- the values of the longest search, and behind them notes of 64 periods passed over, two values each
 abbrev pub scratch_area : ℕ
-scratch_area = 2 * longest_period + 2 * 64
+scratch_area = 15384
 
 -- the samples of a block, and its bytes
 abbrev pub block_samples : ℕ
@@ -53,14 +49,12 @@ three = fin false 3 (pos 0)
 unfoldable pub growth_of : Float → Float → ℕ → ℕ
 growth_of speed pitch longest = min (to_unsigned 64 (mul binary32 (div binary32 pitch speed) three)) longest + 1
 
--- the frames that a write fills the input up to: three times `required`, as far as notes hold their numbers; as the
--- original, where the shortest period might give no frame, so few that a second step, which looks at `required` frames,
--- is never taken behind one that used the shortest period or more
-unfoldable pub fill_to : Float → Float → ℕ → ℕ → Bool → ℕ
-fill_to speed pitch shortest required stepOver =
+-- the frames that a write fills the input up to: where the shortest period might give no frame, so few that a second
+-- step, which looks at `required` frames, is never taken behind one that used the shortest period or more
+unfoldable pub fill_to : Float → Float → ℕ → ℕ → ℕ
+fill_to speed pitch shortest required =
     let s : ℕ = to_unsigned 64 (div binary32 speed pitch) in
-    let most : ℕ = min (3 * required) noted_frames in
-    cond stepOver most (cond (leb shortest s) (required + (shortest - 1)) most)
+    cond (leb shortest s) (required + (shortest - 1)) (3 * required)
 
 -- the most frames that a call may hold so that the stage behind its tail holds at most `room` frames
 abbrev pub held_within : ℕ → ℕ → ℕ
@@ -97,7 +91,7 @@ plan_of s =
       rate = s.rate;
       channels = s.channels;
       block = block_samples / s.channels * s.channels;
-      full = fill_to s.speed s.pitch (min_period s.rate) (max_required s.rate) (steps_over s.step_over);
+      full = fill_to s.speed s.pitch (min_period s.rate) (max_required s.rate);
       required = max_required s.rate;
       limit = limit_of s;
       small = is_small s;
@@ -113,7 +107,5 @@ pub record Usable (p : Plan) : Type 0 where
   pub block_fits : p.block ≤ block_samples
   pub required_some : 1 ≤ p.required
   pub full_fits : p.full ≤ 3 * p.required
-  pub full_noted : p.full ≤ noted_frames
-  pub full_enough : p.required ≤ p.full
   pub calls_fit : 3 * p.required ≤ p.limit
   pub limit_fits : p.limit ≤ input_area

@@ -1,14 +1,13 @@
 // The areas' sizes, and the jobs that they serve: those of which no call wants more room. `specs/Plans.antt` says what
 // is answered; that no call of a job served is refused, but for a total past 64 bits, is proved in the crate `serving`.
-ghost use Rattle.std.specs.Prelude.{◌≡◌, true, ◌≤◌, ◌*◌, min};
+ghost use Rattle.std.specs.Prelude.{◌≡◌, true, ◌≤◌, min};
 ghost use Rattle.search.specs.Search.{longest_period};
 ghost use Rattle.stream.specs.Refusals.{is_in_order};
-ghost use Rattle.plans.specs.Plans.{is_small, stage_area, output_area, growth_of, fill_to, held_within};
+ghost use Rattle.plans.specs.Plans.{scratch_area, is_small, stage_area, output_area, growth_of, fill_to, held_within};
 ghost use Rattle.plans.specs.Plans.{output_room, held_most, limit_of, plan_of, service_of};
 
 use frames::{Frames, Samples};
 use stream::SonicStream;
-use stretch::NOTED_FRAMES;
 
 // The samples of each area. They serve 16,000 Hz in one channel at every speed and pitch, and 44,100 Hz in two at every
 // speed.
@@ -24,9 +23,8 @@ pub const SMALL_STAGE_AREA: usize = 196_992;
 
 pub const SMALL_OUTPUT_AREA: usize = 409_600;
 
-// What a search at 500,000 Hz looks at, 15,384 values, and behind it notes of 64 periods that a write passed over, two
-// values each.
-pub const SCRATCH_AREA: usize = 15_512;
+// What a search at 500,000 Hz looks at.
+pub const SCRATCH_AREA: usize = 15_384;
 
 // The samples of a block, which is read or written out at a time, and its bytes.
 pub const BLOCK_SAMPLES: usize = 4_096;
@@ -108,25 +106,21 @@ fn growth(speed: f32, pitch: f32, longest: usize) -> usize
     least(most, longest) + 1
 }
 
-// The frames that a write fills the input up to. Where periods that give no frame are stepped over, three times
-// `required`, of which a write leaves fewer than `required`; but no frame is behind the last that a note can tell, since
-// the write notes where each period begins that it passed over. As the original, a write that comes to a period shorter
-// than speed/pitch − 1 stalls and keeps its input. Where the shortest period might be, a rounded speed counted in, such
-// a write is to take one step at the most: every step uses the shortest period or more, so that after one, fewer than
-// `required` frames are left. Then a write that stalls makes no frame, and the frames held begin where it stalled.
-fn fill_to(speed: f32, pitch: f32, shortest: usize, required: usize, step_over: bool) -> usize
-    requires { (1 ≤ shortest) × (shortest ≤ required) × (required ≤ 2 * longest_period) }
-    ensures { result ≡ fill_to speed pitch shortest required step_over }
+// The frames that a write fills the input up to, at most three times `required`, of which fewer than `required` are
+// left. A period that is shorter than speed/pitch − 1 gives no frame. Where the shortest might, a rounded speed counted
+// in, a write is to take one step at the most: every step uses the shortest period or more, so that after one, fewer
+// than `required` frames are left. Then a write that stalls makes no frame, and the frames held begin where it stalled;
+// and of a write that passes over a period, the frames that leave the input are that period (`passed-alone` in
+// stretch/proofs/OneStep.antt).
+fn fill_to(speed: f32, pitch: f32, shortest: usize, required: usize) -> usize
+    requires { (1 ≤ shortest) × (shortest ≤ required) × (required ≤ scratch_area) }
+    ensures { result ≡ fill_to speed pitch shortest required }
 {
-    let most = least(3 * required, NOTED_FRAMES);
-    if step_over {
-        return most;
-    }
     let s = floats::casts::f32_to_usize(speed / pitch);
     if s >= shortest {
         required + (shortest - 1)
     } else {
-        most
+        3 * required
     }
 }
 
@@ -199,7 +193,6 @@ fn plan_of(stream: SonicStream, limit: Frames) -> Plan
         stream.pitch,
         period::min_period(rate),
         required.0,
-        stream.step_over > 0,
     );
     Plan {
         rate: stream.rate as u64,

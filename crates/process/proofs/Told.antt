@@ -1,23 +1,24 @@
 -- What every call's work tells. Here:
 --   told-exactly          it answers stalled exactly when stepping over is off and one of its steps gives no frame, tells as many periods
 --                         as its steps pass over, and the sum 0 if none of them searches
---   passed-few            of three searches' frames at the most, its steps pass over 64 periods at the most
+--   passed-alone          of few frames, it takes one step where it passes over a period
 -- Assumes nothing.
 use mathlib.Core.Path.{◌≡◌, refl}
 use mathlib.Core.Bool.{Bool, true, false, cond}
-use mathlib.Core.List.{List}
-use Prim.Native.Nat.{ℕ, ◌*◌, ◌≤◌}
+use mathlib.Core.List.{List, [], ◌∷◌}
+use Prim.Native.Nat.{ℕ, ◌+◌, ◌≤◌, ◌<◌}
 use native.Mathlib.Omega.{arith}
 use lib.Dec.{eqb, ltb}
 use lib.Ieee.{Float}
 use lib.ListN.{length}
+use Rattle.frames.specs.declared.Frames.{Frames}
 use Rattle.frames.specs.Framing.{flat}
 use Rattle.floats.specs.Write.{speed_changes}
-use Rattle.period.specs.Rates.{max_required}
+use Rattle.period.specs.Rates.{min_period, max_required}
 use Rattle.stretch.specs.declared.Step.{Step}
 use Rattle.stretch.specs.Tally.{tally}
 use Rattle.stretch.specs.Speed as Speed
-use Rattle.stretch.proofs.FewPasses.{passes-few}
+use Rattle.stretch.proofs.OneStep as OneStep
 use Rattle.stretch.proofs.Taken.{none-some}
 use Rattle.stretch.proofs.StepOver.{over-never-stalls, off-passes-none}
 use Rattle.stretch.proofs.Sums.{searched, sum_kept}
@@ -101,24 +102,24 @@ module _ (s : State) (h : Held s) where
   told-exactly =
       record { stalled = stalled-exactly s h; passed = taken-passed.0; off = taken-passed.1; stretched = taken-passed.2; no_search = taken-sum }
 
-  -- ---- with no more frames than three searches look at
+  -- ---- with fewer frames than a search looks at and the shortest period more
 
-  module _ (few : length s.input ≤ 3 * max_required s.rate) where
-    abbrev Few : Taken → Type 0
-    Few t = (tally t.steps).passed ≤ 64
+  module _ (few : length s.input < max_required s.rate + min_period s.rate) where
+    abbrev Alone : Taken → Type 0
+    Alone t = 1 ≤ t.told.passed → (period : Frames) × (t.steps ≡ Step.Passed period ∷ [])
 
-    nothing-few : (o : Outcome) → Few (nothing o s)
-    unfolding nothing tally
-    nothing-few o = omega arith
+    nothing-alone : (o : Outcome) → Alone (nothing o s)
+    unfolding nothing
+    nothing-alone o some = absurd (none-some refl some)
 
-    copied-few : Few (copied s)
-    unfolding copied tally
-    copied-few = omega arith
+    copied-alone : Alone (copied s)
+    unfolding copied
+    copied-alone some = absurd (none-some refl some)
 
-    stretched-few : Few (stretched y s)
+    stretched-alone : Alone (stretched y s)
     unfolding stretched
-    stretched-few = passes-few (flat s.input) (held-ready s h) s.time_error s.prev h.prev few
+    stretched-alone some = (_, OneStep.passed-alone (flat s.input) (held-ready s h) (place_of s) h.prev (omega (arith, few)) some)
 
-    pub passed-few : (tally (process s).steps).passed ≤ 64
+    pub passed-alone : 1 ≤ (process s).told.passed → (period : Frames) × ((process s).steps ≡ Step.Passed period ∷ [])
     unfolding process finished
-    passed-few = by_kind Few nothing-few stretched-few copied-few
+    passed-alone = by_kind Alone nothing-alone stretched-alone copied-alone

@@ -1,11 +1,9 @@
--- A call's whole work, from the area that was filled and the finish: finish-ready, work-done, work-over, work-full; work-noted, what is noted of it.
--- Assumes nothing.
+-- A call's whole work, from the area that was filled and the finish: finish-ready, work-done, work-over, work-full. Assumes nothing.
 use mathlib.Core.Path.{◌≡◌, refl, sym, ap, ◌∙◌, subst}
 use mathlib.Core.Bool.{Bool, true, false, cond}
 use mathlib.Core.List.{List, [], map}
 use Prim.Native.Nat.{ℕ, ◌+◌, ◌-◌, ◌*◌, ◌/◌, ◌≤◌, ◌<◌}
 use native.Mathlib.Nat.{not-le_of_lt}
-use lib.IntN.{ℤ}
 use lib.Ieee.{Float, eq}
 use lib.ListN.{length, take, length-drop, length-map}
 use Rattle.frames.specs.Areas.{Areas, areas}
@@ -19,7 +17,6 @@ use Rattle.rate.specs.declared.Position.{Position}
 use Rattle.rate.specs.Conversion.{Conversion, adjust_rate}
 use Rattle.rate.specs.Adjusting.{new_frames}
 use Rattle.rate.proofs.Chunks.{adjust_rate-order}
-use Rattle.stretch.specs.Passes.{Noted}
 use Rattle.stream.specs.declared.SonicStream.{SonicStream}
 use Rattle.stream.specs.Balance.{booked, past}
 use Rattle.stream.specs.State.{State, with_tail, with_balance}
@@ -37,7 +34,7 @@ use Rattle.fill.specs.declared.destination.Destination.{Destination}
 use Rattle.fill.specs.Filling.{straight, destination_of, destination_in, filled_area, other_area, FillReady, FilledAs}
 use Rattle.fill.proofs.Filling.{ready-limits}
 use Rattle.process.specs.Finishing.{FinishReady, totals, finished_state, FinishedAs, FinishedBy, conversion_of, FinishEnsures}
-use Rattle.process.specs.Working.{Unchanged, WorkedAs, WorkedBy, WorkEnsures, WorkNoted}
+use Rattle.process.specs.Working.{Unchanged, WorkedAs, WorkedBy, WorkEnsures}
 use Rattle.process.proofs.States.{Keeps}
 use Rattle.process.proofs.Taken.{taken-keeps}
 use Rattle.process.proofs.Finishing.{StateFinished}
@@ -322,13 +319,3 @@ module _ (s : SonicStream) (a b : Areas) (r : StreamReady s) (fit : FillReady s 
       → length (taken (state_of s a.input a.stage)).frames ≤ (destination_in s a).most.0 → WorkEnsures s a b Work.OutputFull
   unfolding process finished
   work-full h few = let n = full_by (straight s) refl few h.over in (as-it-came h.kept, n.0, n.1)
-
--- ---- what is noted: the work's steps are those that filled the area
-
-pub work-noted : (s : SonicStream) (a : Areas) (scratch : List ℤ) → Noted s.rate s.held.0 (taken (state_of s a.input a.stage)).steps scratch
-    → (w : Work) → WorkNoted s a scratch w
-unfolding process finished
-work-noted s a scratch h Work.StageFull = tt
-work-noted s a scratch h Work.OutputFull = tt
-work-noted s a scratch h Work.TotalFull = tt
-work-noted s a scratch h (Work.Done o t) = h

@@ -1,8 +1,7 @@
 -- What `process_stream_input` ensures of a stream s; its areas go from a to b. Definitions only. Assumes nothing.
-use Rattle.std.specs.Prelude.{◌≡◌, true, false, List, ◌++◌, ◌+◌, ◌*◌, ◌≤◌, ◌<◌, ℤ, length}
+use Rattle.std.specs.Prelude.{◌≡◌, true, false, ◌++◌, ◌+◌, ◌*◌, ◌≤◌, ◌<◌, length}
 use Rattle.frames.specs.Areas.{Areas}
 use Rattle.frames.specs.Framing.{frames_of}
-use Rattle.stretch.specs.Passes.{Noted}
 use Rattle.stream.specs.declared.SonicStream.{SonicStream}
 use Rattle.stream.specs.Balance.{past}
 use Rattle.stream.specs.Stream.{state_of, stream_of}
@@ -44,11 +43,3 @@ WorkedBy s m a b (Work.Done o t) = WorkedAs s m a b o t
 
 abbrev pub WorkEnsures : SonicStream → Areas → Areas → Work → Type 0
 WorkEnsures s a b r = WorkedBy s (process (state_of s a.input a.stage)) a b r
-
--- and the periods that the work passed over are noted in the scratch at exit
-abbrev pub WorkNoted : SonicStream → Areas → List ℤ → Work → Type 0
-WorkNoted s a scratch Work.StageFull = Unit {0}
-WorkNoted s a scratch Work.OutputFull = Unit {0}
-WorkNoted s a scratch Work.TotalFull = Unit {0}
-WorkNoted s a scratch (Work.Done o t) =
-    Noted s.rate s.held.0 (process (state_of s a.input a.stage)).steps scratch

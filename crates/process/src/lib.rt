@@ -9,7 +9,7 @@ ghost use Rattle.floats.specs.Settings.{sample_period};
 ghost use Rattle.stream.specs.Order.{StreamReady};
 ghost use Rattle.fill.specs.Filling.{FillReady};
 ghost use Rattle.process.specs.Streams.{joined_stream};
-ghost use Rattle.process.specs.Working.{WorkEnsures, WorkNoted};
+ghost use Rattle.process.specs.Working.{WorkEnsures};
 
 use fill::Fill;
 pub use fill::{Outcome, Told};
@@ -53,12 +53,9 @@ pub fn process_stream_input(
 ) -> Work
     requires stream_ready { StreamReady stream }
     requires fill_ready { FillReady stream (areas input.old stage.old output.old scratch.old) }
-    ensures work_ensures { WorkEnsures stream
+    ensures { WorkEnsures stream
         (areas input.old stage.old output.old scratch.old)
         (areas input.new stage.new output.new scratch.new) result }
-    ensures work_noted { WorkNoted stream
-        (areas input.old stage.old output.old scratch.old)
-        scratch.new result }
 {
     match fill::fill_area(stream, input, stage, output, scratch) {
         Fill::TooMany => Work::StageFull,

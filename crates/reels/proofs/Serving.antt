@@ -49,7 +49,7 @@ module _ (p : Plan) (r r' : Reel) (stays : sound r'.state ≡ true → r'.state 
   pub serving-stays : r'.stream ≡ r.stream → Serving p r → Serving p r'
   serving-stays e y =
       serving-moved (subst Steady (sym e) y.steady)
-      (subst (SameJob r.stream) (sym e) (record { rate = refl; channels = refl; speed = refl; pitch = refl; step_over = refl }))
+      (subst (SameJob r.stream) (sym e) (record { rate = refl; channels = refl; speed = refl; pitch = refl }))
       (ap (λ (s : SonicStream). s.held.0) e) y
 
 -- ---- a call

@@ -73,7 +73,7 @@ module _ (s : SonicStream) (y : Steady s) (a : Areas) (z : AreasSized (is_small 
     flushed k few' e =
         let t : SonicStream = stream_of (cleared (work_of s a fs).state) (s.waiting.0 + k) in
         let j = work-same s y a z waits fs within (s.waiting.0 + k) (fits k few') in
-        let same : SameJob s t = record { rate = j.rate; channels = j.channels; speed = j.speed; pitch = j.pitch; step_over = j.step_over } in
+        let same : SameJob s t = record { rate = j.rate; channels = j.channels; speed = j.speed; pitch = j.pitch } in
         record {
           steady = steady-unheld t (record { in_order = e; held = refl; tail = refl; play = refl }) (served-same s t same y.is_served)
               (rw (small_same s t same, j.channels) (fits k few'));

@@ -79,7 +79,7 @@ pub steady-read : (s : SonicStream) (w : ℕ) → w ≤ s.waiting.0 → Steady s
 unfolding state_of stream_of
 steady-read s w fewer y =
     let t = stream_of (unlent s) w in
-    let same : SameJob s t = record { rate = refl; channels = refl; speed = refl; pitch = refl; step_over = refl } in
+    let same : SameJob s t = record { rate = refl; channels = refl; speed = refl; pitch = refl } in
     let held : t.held.0 ≡ s.held.0 = held-is s [] [] in (
       record {
         in_order = waiting-in-order s w y.in_order;

@@ -61,7 +61,7 @@ limit-same s t j = rw (small_same s t j, j.rate, j.channels, j.speed, j.pitch)
 
 -- and one plan
 pub plan-same : (s t : SonicStream) → SameJob s t → plan_of t ≡ plan_of s
-plan-same s t j = rw (limit-same s t j, small_same s t j, j.rate, j.channels, j.speed, j.pitch, j.step_over)
+plan-same s t j = rw (limit-same s t j, small_same s t j, j.rate, j.channels, j.speed, j.pitch)
 
 -- for which the growth is a bound
 limit-held : (s : SonicStream) → limit_of s ≤ held_most s
@@ -219,7 +219,7 @@ module _ (s : SonicStream) (y : Steady s) (a : Areas) (z : AreasSized (is_small 
     unfolding joined state_of stream_of
     work-same =
         let k = process-settings x in
-        record { rate = k.rate; channels = k.channels; speed = k.speed; pitch = k.pitch; step_over = k.step_over }
+        record { rate = k.rate; channels = k.channels; speed = k.speed; pitch = k.pitch }
 
     left_is : ((m.told.outcome ≡ Stalled) × (t.held.0 ≡ s.held.0 + n)) ⊎ (t.held.0 < max_required s.rate)
     unfolding joined state_of stream_of

@@ -47,13 +47,12 @@ pub record AreasSized (small : Bool) (a : Areas) : Type 0 where
 
 -- ---- an answer
 
--- t has the rate, the channels, the speed and the pitch of s, and steps over or not as s does
+-- t has the rate, the channels, the speed and the pitch of s
 pub record SameJob (s t : SonicStream) : Type 0 where
   pub rate : t.rate ≡ s.rate
   pub channels : t.channels ≡ s.channels
   pub speed : t.speed ≡ s.speed
   pub pitch : t.pitch ≡ s.pitch
-  pub step_over : t.step_over ≡ s.step_over
 
 -- after a write of n frames to s: all frames are held as before, if it stalled, or fewer than a search looks at
 pub record WriteWent (s : SonicStream) (n : ℕ) (o : Told) (t : SonicStream) : Type 0 where

@@ -1,14 +1,12 @@
 -- Demand 1, C-17 and C-18: an accepted write or flush answers stalled exactly when stepping over is off and one of its stretch steps
 -- gives no frame; it tells as many periods as its steps pass over, none if that is off; where it tells one, it answers stretched; and it tells
--- the sum 0 where none of its steps searches (write-told, flush-told). A write that holds no more frames than three searches look at passes
--- over 64 periods at the most (write-few). Assumes nothing.
+-- the sum 0 where none of its steps searches. Assumes nothing.
 use mathlib.Core.Path.{◌≡◌, refl, sym, subst}
 use mathlib.Core.List.{List, map}
-use Prim.Native.Nat.{ℕ, zero, suc, ◌+◌, ◌*◌, ◌≤◌}
-use native.Mathlib.Omega.{arith}
+use Prim.Native.Nat.{ℕ, zero, suc, ◌*◌}
 use lib.IntN.{pos}
 use lib.Ieee.{Float}
-use lib.ListN.{length, replicate, length-map, length-replicate, length-append}
+use lib.ListN.{length, replicate, length-map, length-replicate}
 use Rattle.frames.specs.Areas.{Areas}
 use Rattle.frames.specs.Framing.{Frame}
 use Rattle.floats.specs.Write.{sample_in}
@@ -17,11 +15,9 @@ use Rattle.stream.specs.declared.SonicStream.{SonicStream}
 use Rattle.stream.specs.State.{State, steps_over}
 use Rattle.stream.specs.Stream.{state_of}
 use Rattle.stream.specs.Refusals.{accepted}
-use Rattle.stream.proofs.Streams.{held-is}
 use Rattle.fill.specs.declared.Told.{Told}
 use Rattle.process.specs.Process.{whole_frames, joined, write_work, flush_work}
-use Rattle.process.proofs.Claims.{Held}
-use Rattle.process.proofs.Told.{ToldExactly, told-exactly, passed-few}
+use Rattle.process.proofs.Told.{ToldExactly, told-exactly}
 use Rattle.adding.specs.declared.Wrote.{Wrote}
 use Rattle.adding.specs.Calls.{refused_call, accepted_call, call_by, refusal_of, write_call, flush_call}
 use Rattle.adding.specs.Adding.{Accepted}
@@ -35,23 +31,17 @@ unfolding accepted_call refused_call
 done-of zero s t a o o' state frames e = (refl, cc)
 done-of (suc k) s t a o o' state frames e = (cc, cc)
 
--- one that adds the frames fs, and keeps a state and frames of its work, holds them with those held before, if it answers `Done`
-call-held : (s t : SonicStream) (a : Areas) (fs : List Frame) (n : ℕ) (o : Told) (state : State) (frames : List Frame) → n ≡ length fs
-    → (call_by (refusal_of s a n (work_of s a fs)) s a (accepted_call s a (work_of s a fs).told state frames)).answer ≡ Wrote.Done o t
-    → ((work_of s a fs).told ≡ o) × Held (joined fs (state_of s a.input a.stage))
-call-held s t a fs n o state frames count e =
-    let done = done-of (refusal_of s a n (work_of s a fs)) s t a o (work_of s a fs).told state frames e in
-    let room = room_of s a n (work_of s a fs) done.0 in
-    (done.1, added-held s a fs (subst (Accepted s a) count room.accepted))
-
+-- a call that adds the frames fs, and keeps a state and frames of its work
 call-told : (s t : SonicStream) (a : Areas) (fs : List Frame) (n : ℕ) (o : Told) (state : State) (frames : List Frame) → n ≡ length fs
     → (call_by (refusal_of s a n (work_of s a fs)) s a (accepted_call s a (work_of s a fs).told state frames)).answer ≡ Wrote.Done o t
     → ToldExactly (steps_over s.step_over) o (work_of s a fs).steps
 unfolding joined state_of
 call-told s t a fs n o state frames count e =
-    let done = call-held s t a fs n o state frames count e in
-    subst (λ (x : Told). ToldExactly (steps_over s.step_over) x (work_of s a fs).steps) done.0
-    (told-exactly (joined fs (state_of s a.input a.stage)) done.1)
+    let done = done-of (refusal_of s a n (work_of s a fs)) s t a o (work_of s a fs).told state frames e in
+    let room = room_of s a n (work_of s a fs) done.0 in
+    let held = added-held s a fs (subst (Accepted s a) count room.accepted) in
+    subst (λ (x : Told). ToldExactly (steps_over s.step_over) x (work_of s a fs).steps) done.1
+    (told-exactly (joined fs (state_of s a.input a.stage)) held)
 
 -- a write
 pub write-told : (s t : SonicStream) (samples : List Float) (a : Areas) (o : Told) → (write_call s samples a).answer ≡ Wrote.Done o t
@@ -60,20 +50,6 @@ unfolding write_call write_work state_of
 write-told s t samples a o e =
     let whole : List (List Float) = whole_frames s.channels samples in
     call-told s t a (map (map sample_in) whole) (length whole) o _ _ (sym (length-map whole (map sample_in))) e
-
--- one that holds no more frames than three searches look at
-pub write-few : (s t : SonicStream) (samples : List Float) (a : Areas) (o : Told) → (write_call s samples a).answer ≡ Wrote.Done o t
-    → s.held.0 + length (whole_frames s.channels samples) ≤ 3 * max_required s.rate → o.passed ≤ 64
-unfolding write_call write_work joined state_of
-write-few s t samples a o e few =
-    let whole : List (List Float) = whole_frames s.channels samples in
-    let fs : List Frame = map (map sample_in) whole in
-    let count = length-map whole (map sample_in) in
-    let before = (state_of s a.input a.stage).input in
-    let long = length-append before fs in
-    let done = call-held s t a fs (length whole) o _ _ (sym count) e in
-    let most = passed-few (joined fs (state_of s a.input a.stage)) done.1 (omega (arith, long, count, held-is s a.input a.stage)) in
-    omega (arith, most, (write-told s t samples a o e).passed)
 
 -- a flush
 pub flush-told : (s t : SonicStream) (a : Areas) (o : Told) → (flush_call s a).answer ≡ Wrote.Done o t

@@ -212,7 +212,3 @@ module _ {u : StretchCall} {x : List ℤ} {h₀ : Place} {area₀ area : List �
 
       pub going-further : h.position.0 < p.position.0
       going-further = subst (λ (q : Place). h.position.0 < q.position.0) (sym went.place) (further x h l.ready g.in_order.period_in d)
-
-      pub going-within : p.position.0 ≤ u.held.0
-      unfolding after place_after
-      going-within = subst (λ (q : Place). q.position.0 ≤ u.held.0) (sym went.place) (sound-in sound)

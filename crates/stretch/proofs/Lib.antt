@@ -2,15 +2,13 @@ pub mod DueStep
 pub mod Soundness
 pub mod Progress
 pub mod Turning
-pub mod Passes
-pub mod Noting
 pub mod Between
 pub mod Outcome
 pub mod Taken
 pub mod Balance
 pub mod StepOver
 pub mod Sums
-pub mod FewPasses
+pub mod OneStep
 pub mod Claims
 pub mod Growth
 pub mod Framed

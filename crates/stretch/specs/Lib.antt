@@ -1,4 +1,3 @@
 pub mod Steps
 pub mod Tally
 pub mod Speed
-pub mod Passes

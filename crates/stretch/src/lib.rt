@@ -1,12 +1,10 @@
 // The stretch: steps that copy, skip, insert or pass over pitch periods, and `change_speed` that takes them. `specs/`
 // says what each function gives.
-mod notes;
 mod samples;
 mod speed;
 mod steps;
 
 use frames::Frames;
-pub use notes::NOTED_FRAMES;
 use period::PeriodRecord;
 use search::Ties;
 pub use speed::change_speed;

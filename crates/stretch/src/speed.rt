@@ -4,9 +4,7 @@ ghost use Rattle.period.specs.Rates.{max_required};
 ghost use Rattle.period.specs.Pitch.{PrevInOrder};
 ghost use Rattle.stretch.specs.Steps.{StretchReady};
 ghost use Rattle.stretch.specs.Speed.{change_speed, begun, answer, AreaAfter};
-ghost use Rattle.stretch.specs.Passes.{NotesAfter};
 
-use crate::notes::note_pass;
 use crate::steps::take_step;
 use crate::{Place, Stretch, StretchCall, Stretched, Turn};
 use frames::{Frames, Samples};
@@ -30,7 +28,7 @@ fn answer(made: Frames, used: Frames, passed: usize, place: Place, stalled: bool
 
 // The stretch of the frames held: step after step until too few frames are left, one stalls, or more than `most` frames
 // are made. The frames go to the place `to` of the area, which has room for `room` frames there; what is made behind
-// them is counted, and not written. Periods passed over are noted in the scratch, behind the values of a search.
+// them is counted, and not written.
 pub fn change_speed(
     input: &[i16],
     call: StretchCall,
@@ -47,11 +45,9 @@ pub fn change_speed(
     requires channels_in_bounds { (call.held.0 * call.channels ≤ length input.now)
         × (max_required call.rate ≤ length scratch.old)
         × (to.0 + room.0 * call.channels ≤ length area.old) × (most.0 ≤ 2 ^ 24) }
-    ensures value { (result ≡ change_speed call input.now (begun time_error prev) most.0)
+    ensures { (result ≡ change_speed call input.now (begun time_error prev) most.0)
         × AreaAfter call input.now (begun time_error prev) room.0 most.0
         area.old area.new to.0 }
-    ensures notes_after { NotesAfter call input.now (begun time_error prev) most.0
-        scratch.new }
 {
     let required = period::max_required(call.rate).0;
     let held = call.held.0;
@@ -76,17 +72,13 @@ pub fn change_speed(
             Frames(made),
             Frames(all),
             Frames(limit),
-            &mut scratch[..required],
+            scratch,
         );
         match turn {
             Turn::TooMany => {
                 return Stretched::TooMany;
             }
             Turn::Went(next, n, periods, stalled) => {
-                let begin = place.position;
-                let end = next.position;
-                let at = required + 2 * passed;
-                note_pass(periods, begin, end, scratch, at);
                 made += n.0;
                 passed += periods;
                 place = next;

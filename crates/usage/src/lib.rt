@@ -1,6 +1,6 @@
 // The usage, on standard output, and what is said of bad usage.
 pub fn version() {
-    say::line(b"skim (kelpladder) 0.4.1");
+    say::line(b"skim (kelpladder) 0.4.0");
 }
 
 pub fn usage() {

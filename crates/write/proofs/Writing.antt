@@ -2,11 +2,10 @@
 --   written             the frames that it adds
 --   write-refused       its contract, refused before its work
 --   write-answered      its contract, by the answer to its work
---   write-noted         what is noted of its work
 -- Assumes nothing.
-use mathlib.Core.Path.{◌≡◌, refl, sym, ap, ◌∙◌, subst}
+use mathlib.Core.Path.{◌≡◌, refl, sym, ◌∙◌, subst}
 use mathlib.Core.List.{List, map}
-use Prim.Native.Nat.{ℕ, ◌+◌, ◌/◌}
+use Prim.Native.Nat.{ℕ, ◌/◌}
 use lib.IntN.{ℤ}
 use lib.Ieee.{Float}
 use lib.ListN.{length}
@@ -18,18 +17,16 @@ use Rattle.stream.specs.declared.SonicStream.{SonicStream}
 use Rattle.stream.specs.Stream.{state_of, stream_of}
 use Rattle.fill.specs.declared.Told.{Told}
 use Rattle.process.specs.declared.Work.{Work}
-use Rattle.process.specs.Process.{Made, whole_frames, joined, process, write_work}
+use Rattle.process.specs.Process.{Made, whole_frames, joined, write_work}
 use Rattle.process.specs.Streams.{joined_stream}
 use Rattle.process.specs.Working.{WorkedAs}
-use Rattle.process.proofs.Joining.{joined-state}
 use Rattle.adding.specs.declared.Wrote.{Wrote}
-use Rattle.adding.specs.Calls.{accepted_call, write_call, NotedAfter, WriteNoted}
+use Rattle.adding.specs.Calls.{accepted_call, write_call}
 use Rattle.adding.specs.Adding.{Accepted, AddEnsures}
 use Rattle.adding.proofs.Answers.{CallAnswered, call-done}
 use Rattle.adding.proofs.Adding.{answer_by, work_of, worked-in-order, added-answered}
-use Rattle.adding.proofs.Joining.{held-joined}
 use Rattle.write_parts.specs.declared.Begun.{Begun}
-use Rattle.write_parts.specs.Writing.{BegunAs, answer_of, WorkAnswered, WorkNotedAs}
+use Rattle.write_parts.specs.Writing.{BegunAs, answer_of, WorkAnswered}
 
 -- the n frames that it adds, as the input holds them
 abbrev pub written : SonicStream → List Float → ℕ → List Frame
@@ -76,21 +73,3 @@ module _ (s : SonicStream) (samples : List Float) (a b : Areas) (n : ℕ) (p : A
   write-answered r w =
       subst (λ (x : Wrote). CallAnswered s.channels (write_call s samples a) x b) (answer-same s w.work ∙ sym w.answer_is)
       (by-work w.work w.worked)
-
-  -- ---- what is noted: the stream with the frames holds those of the write, and the work on it is the write's
-
-  frames-held : (joined_stream n s).held.0 ≡ s.held.0 + length (whole_frames s.channels samples)
-  unfolding whole_frames
-  frames-held = held-joined s n ∙ ap (λ (k : ℕ). s.held.0 + k) (whole ∙ sym (length-frames_of s.channels (length samples / s.channels) samples))
-
-  work-is : process (state_of (joined_stream n s) input a.stage) ≡ write_work samples (state_of s a.input a.stage)
-  unfolding write_work whole_frames state_of
-  work-is =
-      ap process (joined-state s n a.input input a.stage (written s samples n) h) ∙ ap (λ (k : ℕ). work_of s a (written s samples k)) whole
-
-  pub write-noted : (scratch : List ℤ) (r : Wrote) → WorkNotedAs s n (areas input a.stage a.output a.scratch) scratch r
-      → WriteNoted s samples a scratch r
-  unfolding joined state_of stream_of
-  write-noted scratch r w =
-      subst (λ (m : Made). NotedAfter s.rate (s.held.0 + length (whole_frames s.channels samples)) m.steps scratch r) work-is
-      (subst (λ (k : ℕ). NotedAfter s.rate k (process (state_of (joined_stream n s) input a.stage)).steps scratch r) frames-held w)

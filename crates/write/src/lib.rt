@@ -3,7 +3,7 @@
 ghost use Rattle.std.specs.Prelude.{map};
 ghost use Rattle.frames.specs.Areas.{areas};
 ghost use Rattle.floats.specs.Write.{sample_out};
-ghost use Rattle.adding.specs.Calls.{write_call, CallEnsures, OrderAfter, WriteNoted};
+ghost use Rattle.adding.specs.Calls.{write_call, CallEnsures, OrderAfter};
 
 use adding::Wrote;
 use floats::samples::{samples_back, samples_in};
@@ -52,9 +52,6 @@ pub fn write_i16(
         (areas input.old stage.old output.old scratch.old)) result
         (areas input.new stage.new output.new scratch.new) }
     ensures order_after { OrderAfter result }
-    ensures write_noted { WriteNoted stream (map sample_out samples.now)
-        (areas input.old stage.old output.old scratch.old)
-        scratch.new result }
 {
     let count = Samples(samples.len());
     match begin_write(stream, count, input, stage, output, scratch) {

@@ -1,15 +1,13 @@
 -- A write by its parts: the tests before its samples are stored, and its answer by the work on them. Definitions only.
 -- Assumes nothing.
-use Rattle.std.specs.Prelude.{◌≡◌, List, ℕ, ◌/◌, ℤ}
+use Rattle.std.specs.Prelude.{◌≡◌, ℕ, ◌/◌}
 use Rattle.frames.specs.Areas.{Areas}
 use Rattle.stream.specs.declared.SonicStream.{SonicStream}
-use Rattle.stream.specs.Stream.{state_of}
 use Rattle.stream.specs.Refusals.{stage_full, output_full, total_full}
 use Rattle.process.specs.declared.Work.{Work}
-use Rattle.process.specs.Process.{Made, process}
-use Rattle.process.specs.Streams.{joined_stream}
+use Rattle.process.specs.Process.{Made}
 use Rattle.adding.specs.declared.Wrote.{Wrote}
-use Rattle.adding.specs.Calls.{CallResult, call_by, refusal_of, CallEnsures, NotedAfter}
+use Rattle.adding.specs.Calls.{CallResult, call_by, refusal_of, CallEnsures}
 use Rattle.adding.specs.Adding.{AddReady, AddEnsures}
 use Rattle.write_parts.specs.declared.Begun.{Begun}
 
@@ -33,9 +31,3 @@ pub record WorkAnswered (s : SonicStream) (n : ℕ) (a b : Areas) (r : Wrote) : 
   pub work : Work
   pub worked : AddEnsures s n a b work
   pub answer_is : r ≡ answer_of s work
-
--- and the periods that the work passed over are noted in the scratch at exit
-abbrev pub WorkNotedAs : SonicStream → ℕ → Areas → List ℤ → Wrote → Type 0
-WorkNotedAs s n a scratch r =
-    let t : SonicStream = joined_stream n s in NotedAfter t.rate t.held.0
-    (process (state_of t a.input a.stage)).steps scratch r

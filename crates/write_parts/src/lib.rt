@@ -2,7 +2,7 @@
 // the samples are stored; 6, 7 and 12 by the work on them. `specs/Writing.antt` says what is answered.
 ghost use Rattle.frames.specs.Areas.{areas};
 ghost use Rattle.adding.specs.Adding.{AddReady};
-ghost use Rattle.write_parts.specs.Writing.{BegunAs, WorkAnswered, WorkNotedAs};
+ghost use Rattle.write_parts.specs.Writing.{BegunAs, WorkAnswered};
 
 use adding::{Wrote, process_added};
 use frames::{Frames, Samples};
@@ -54,12 +54,9 @@ pub fn end_write(
     scratch: &mut [i16],
 ) -> Wrote
     requires { AddReady stream period (areas input.old stage.old output.old scratch.old) n.0 }
-    ensures work_answered { WorkAnswered stream n.0
+    ensures { WorkAnswered stream n.0
         (areas input.old stage.old output.old scratch.old)
         (areas input.new stage.new output.new scratch.new) result }
-    ensures work_noted_as { WorkNotedAs stream n.0
-        (areas input.old stage.old output.old scratch.old)
-        scratch.new result }
 {
     match process_added(stream, period, n, input, stage, output, scratch) {
         Work::StageFull => Wrote::Refused(refusals::STAGE_FULL, stream),

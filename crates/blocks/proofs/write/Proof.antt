@@ -1,9 +1,9 @@
 -- `blocks::write` meets its contract. Assumes nothing.
-use Rattle.std.proofs.Common.{ℕ, ◌+◌, ◌%◌, ◌^◌, map, drop, ap, ◌∙◌, subst, rules}
+use Rattle.std.proofs.Common.{ℕ, ◌+◌, ◌%◌, ◌^◌, map, ap, ◌∙◌, subst, rules}
 use Rattle.adding.specs.declared.Wrote.{Wrote}
 use Rattle.frames.specs.Areas.{areas}
 use Rattle.floats.specs.Write.{sample_out}
-use Rattle.adding.specs.Calls.{write_call, OrderAfter, WriteNoted}
+use Rattle.adding.specs.Calls.{write_call, OrderAfter}
 use Rattle.reels.specs.declared.state.RunState.{RunState}
 use Rattle.blocks.proofs.Parts.{answered-with, counted-as, noted-as}
 use Rattle.blocks.proofs.write.Statement.{statement}
@@ -23,14 +23,6 @@ abbrev answer : tie.After-write-i16 → Wrote
 answer w =
     let a = (start w).args in
     (write_call a.reel.stream (map sample_out a.samples.now) (areas a.input.now a.stage.now a.output.now a.scratch.now)).answer
-
--- what the scratch has of a call with such an answer
-
-abbrev Notes : tie.After-write-i16 → Wrote → Type 0
-Notes w =
-    let a = (start w).args in
-    WriteNoted a.reel.stream (map sample_out a.samples.now) (areas a.input.now a.stage.now a.output.now a.scratch.now)
-    w.write-i16.new.1.1.1.1.1.0
 
 write-i16-requires : tie.Need-write-i16-requires
 write-i16-requires c κs = search rules
@@ -67,7 +59,7 @@ same-length-4 c = search rules
 
 returns : tie.Need-returns
 returns c =
-    let u = c.before.before in
+    let u = c.before in
     let n = u.before in
     let k = n.before in
     let h = k.before in
@@ -79,10 +71,10 @@ returns c =
     let place = h.first-held.ensures in
     let written = u.wrapping-add-u64.ensures ∙ ap (λ (k : ℕ). ((start w).args.reel.written + k) % 2 ^ 64) f.frames.ensures in
     let counted = counted-as (start w).args.reel.stalls place same k.count-stall.ensures in
-    let noted = c.noted-write.ensures ∙ noted-as (drop (start w).args.plan.required w.write-i16.last.1.1.1.1.1.0) a same in (
+    let noted = c.noted-write.ensures ∙ noted-as a same written in (
       answered-with t u.wrapping-add-u64.result t.flushed k.count-stall.result c.noted-write.result t.gave {answer = answer w}
           (ap RunState.Stalled place) same written a.flushed_is counted noted a.gave_is a,
-      (subst OrderAfter same w.write-i16.ensures.1.0, subst (Notes w) same w.write-i16.ensures.1.1),
+      subst OrderAfter same w.write-i16.ensures.1,
     )
 
 pub write_spec : {M : Type 1} → statement M

@@ -31,14 +31,14 @@ module _ {I : tie.invariant-loop} {μ : tie.decreases-loop} where
   abbrev after-end : tie.After-write-arg5 I μ → tie.After-write-end I μ
   after-end c = c.before.before.before.before.before.before
 
-  abbrev after-put : tie.After-drain-full-arg3 I μ → tie.After-put-passes I μ
+  abbrev after-put : tie.After-drain-full-arg3 I μ → tie.After-put-ended I μ
   after-put c = c.before.before.before
 
   abbrev written : tie.After-scratch I μ → tie.After-write I μ
   written c = c.before.before.before.before
 
-  abbrev after_write : tie.After-put-passes I μ → tie.After-write I μ
-  after_write c = written c.before.before
+  abbrev after_write : tie.After-put-ended I μ → tie.After-write I μ
+  after_write c = written c.before
 
   abbrev after-drain : tie.After-slice-known4 I μ → tie.After-drain-full I μ
   after-drain c = c.before.before.before.before.before
@@ -110,8 +110,8 @@ roomy l =
       record { input = inv.1 ∙ z.input; stage = inv.2 ∙ z.stage; output = inv.3 ∙ z.output; scratch = inv.4 ∙ z.scratch },
     )
 
-put-passes-requires : tie.Need-put-passes-requires invariant-loop decreases-loop
-put-passes-requires c κs = (start (turn-loop (after-end (written c.before).before).before)).pre.0.0.limits
+put-ended-requires : tie.Need-put-ended-requires invariant-loop decreases-loop
+put-ended-requires c κs = (start (turn-loop (after-end (written c).before).before)).pre.0.0.limits
 
 drain-full-requires : tie.Need-drain-full-requires invariant-loop decreases-loop
 drain-full-requires c κs =
@@ -142,7 +142,6 @@ loop-again c =
     let samples : List ℤ = take (end.result - at) (drop at s.args.block.now) in
     let values : List Float = map sample_out samples in
     let done = w.write.ensures in
-    let notes : List ℤ = drop s.args.plan.required w.write.last.1.1.1.1.1.1.0 in
     let same = write_keeps l.loop.reel.stream values lent done.0.stream_is in
     let before : at ≤ end.result = omega (arith, end.ensures.0) in
     let frames = write-frames s.args.block.now at end.result channels_low before end.ensures.1 inv.7 in
@@ -154,7 +153,7 @@ loop-again c =
     let long = length-map samples sample_out ∙ write-length s.args.block.now at end.result before end.ensures.1 in
     let within : r.stream.held.0 + length values / ch ≤ s.args.plan.limit =
     subst (λ (k : ℕ). r.stream.held.0 + k / ch ≤ s.args.plan.limit) (sym long) end.ensures.3 in
-    let serving = write-serving s.args.plan r w.write.result values lent _ notes (roomy l).2 few within goes inv.8.serving done.1.0 done.0 in (
+    let serving = write-serving s.args.plan r w.write.result values lent _ (roomy l).2 few within goes inv.8.serving done.1 done.0 in (
       end.ensures.1,
       omega (arith, w.write.kept.1.1.1.0, inv.1),
       omega (arith, w.write.kept.1.1.1.1.0, inv.2),
@@ -163,8 +162,8 @@ loop-again c =
       omega (arith, d.drain-full.kept.1.1.1.0, inv.5),
       omega (arith, d.drain-full.kept.1.1.1.1.0, inv.6),
       end.ensures.2,
-      part-more {answer = (write_call l.loop.reel.stream values lent).answer} notes _ _ _ frames (w.write.kept.1.1.1.1.1.0 ∙ (roomy l).2.output) goes inv.8 done.0 same
-          serving p.put-passes.ensures d.drain-full.ensures.out,
+      part-more {answer = (write_call l.loop.reel.stream values lent).answer} _ _ _ frames (w.write.kept.1.1.1.1.1.0 ∙ (roomy l).2.output) goes inv.8 done.0 same
+          serving p.put_ended.ensures d.drain-full.ensures.out,
       λ x. omega (arith, d.drain-full.ensures.fewer x),
     )
 
@@ -223,5 +222,5 @@ pub write-block-spec : {M : Type 1} → statement M
 write-block-spec =
     tie.close
     (tie.spec invariant-loop decreases-loop frames-requires loop-holds takes-more-requires write-end-requires mul-write sub-write part-write-start part-write-end
-    write-requires put-passes-requires drain-full-requires loop-less loop-again drain-requires same_length same-length-2 same-length-3 same-length-4
+    write-requires put-ended-requires drain-full-requires loop-less loop-again drain-requires same_length same-length-2 same-length-3 same-length-4
     same-length-5 same-length-6 returns)

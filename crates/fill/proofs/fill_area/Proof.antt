@@ -4,17 +4,15 @@ use borrow.Author.Rules.{rules}
 use mathlib.Core.Path.{◌≡◌, refl, sym, ap, ◌∙◌}
 use mathlib.Core.Bool.{true}
 use mathlib.Core.List.{[]}
-use Prim.Native.Nat.{◌≤◌, ◌<◌}
+use Prim.Native.Nat.{◌≤◌}
 use native.Mathlib.Omega.{arith}
 use lib.Ieee.{Float}
 use Rattle.floats.specs.Write.{local_speed, speed_changes}
 use Rattle.period.specs.Rates.{max_required}
 use Rattle.frames.specs.Areas.{Areas, areas}
-use Rattle.fill.specs.declared.Outcome.TheVariants.{Empty, Waiting}
-use Rattle.fill.specs.Filling.{speed_of, destination_in, filled_area, nothing_filled, AreasFit}
+use Rattle.fill.specs.Filling.{speed_of, destination_in, filled_area, AreasFit}
 use Rattle.fill.proofs.Destinations.{fits}
 use Rattle.fill.proofs.Filling.{held_few, empty-filled, waiting-filled}
-use Rattle.fill.proofs.Noting.{empty-noted, waiting-noted, copied-noted}
 use Rattle.fill.proofs.fill_area.Statement.{statement}
 use Rattle.fill.proofs.fill_area.Tie as tie
 
@@ -50,12 +48,9 @@ returns c =
     let x = s.args.stream in
     let to = destination_in x (lent s) in
     rw c.nothing.ensures (
-      (
-        empty-filled x to.kept.0 to.most.0 s.requires.0 (lent s).input (filled_area x (lent s)) (fits x (lent s) s.requires.1.fit)
-            c.before.if1.true (lent s).stage,
-        refl,
-      ),
-      empty-noted x (lent s) (lent s).scratch c.before.if1.true (nothing_filled x Empty),
+      empty-filled x to.kept.0 to.most.0 s.requires.0 (lent s).input (filled_area x (lent s)) (fits x (lent s) s.requires.1.fit) c.before.if1.true
+          (lent s).stage,
+      refl,
     )
 
 local-speed-requires : tie.Need-local-speed-requires
@@ -70,14 +65,10 @@ returns-2 c =
     let x = s.args.stream in
     let to = destination_in x (lent s) in
     let far : speed_changes (speed_of x) ≡ true = sym (changes-is test) ∙ (tested required).if2.true in
-    let short : x.held.0 < max_required x.rate = omega (arith, few.if3.true, required.max-required.ensures) in
     rw c.nothing2.ensures (
-      (
-        waiting-filled x to.kept.0 to.most.0 s.pre.0 (lent s).input (filled_area x (lent s)) (fits x (lent s) s.pre.1.fit)
-            (some test.before) far short (lent s).stage,
-        refl,
-      ),
-      waiting-noted x (lent s) (lent s).scratch (some test.before) far short (nothing_filled x Waiting),
+      waiting-filled x to.kept.0 to.most.0 s.pre.0 (lent s).input (filled_area x (lent s)) (fits x (lent s) s.pre.1.fit) (some test.before) far
+          (omega (arith, few.if3.true, required.max-required.ensures)) (lent s).stage,
+      refl,
     )
 
 stretch-input-requires : tie.Need-stretch-input-requires
@@ -104,16 +95,6 @@ copy-input-requires c κs =
       output_short = fit.output_short;
     } in
     ((s.pre.0, same), (some test.before, sym (changes-is test) ∙ near.if2.false))
-
-returns-4 : tie.Need-returns-4
-returns-4 c =
-    let copied = c.before.before in
-    let near = copied.before.before.before in
-    let test = near.before in
-    let s = start test.before in (
-      copied.copy-input.ensures,
-      copied-noted s.args.stream (lent s) (lent s).scratch (some test.before) (sym (changes-is test) ∙ near.if2.false) copied.copy-input.result,
-    )
 
 -- ---- closed by search
 
@@ -149,6 +130,9 @@ same-length-5 c = search rules
 
 returns-3 : tie.Need-returns-3
 returns-3 c = search rules
+
+returns-4 : tie.Need-returns-4
+returns-4 c = search rules
 
 pub fill-area-spec : {M : Type 1} → statement M
 fill-area-spec =

@@ -76,7 +76,7 @@ added c =
 -- what the work ensures
 work : (c : tie.After-process-added) (r : Work) → c.process-added.result ≡ r
     → AddEnsures (entered (stored c)).args.stream (entered (stored c)).args.n.0 (begun c) (left c) r
-work c r e = rw e at c.process-added.ensures.0
+work c r e = rw e at c.process-added.ensures
 
 -- the answer, by the work's
 answered : (c : tie.After-process-added) (r : Work) → c.process-added.result ≡ r

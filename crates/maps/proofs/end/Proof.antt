@@ -1,5 +1,5 @@
 -- `maps::end` meets its contract. Assumes nothing.
-use Rattle.std.proofs.Common.{rules}
+use borrow.Author.Rules.{rules}
 use Rattle.maps.proofs.Kept.{map-trans}
 use Rattle.maps.proofs.end.Statement.{statement}
 use Rattle.maps.proofs.end.Tie as tie

@@ -1,5 +1,7 @@
 -- `maps::mapped` meets its contract. Assumes nothing.
-use Rattle.std.proofs.Common.{◌≡◌, false, sym, refl, ap, ◌∙◌, subst, rules}
+use borrow.Author.Rules.{rules}
+use mathlib.Core.Path.{◌≡◌, refl, sym, ap, ◌∙◌, subst}
+use mathlib.Core.Bool.{false}
 use Rattle.reels.specs.declared.state.RunState.{RunState}
 use Rattle.reels.specs.States.{sound}
 use Rattle.reels.specs.Serving.{OnlyTotals}

@@ -1,6 +1,8 @@
 -- `maps::noted_flush` meets its contract. Assumes nothing.
-use Rattle.std.proofs.Common.{sym, ◌∙◌, arith, rules, eq-eqb, ne_eqb}
-use borrow.Author.Tests.{not-true, not-false}
+use borrow.Author.Rules.{rules}
+use native.Mathlib.Omega.{arith}
+use mathlib.Core.Path.{sym, ◌∙◌}
+use borrow.Author.Tests.{eq-eqb, ne_eqb, not-true, not-false}
 use Rattle.maps.specs.Maps.{noted_flush}
 use Rattle.maps.proofs.noted_flush.Statement.{statement}
 use Rattle.maps.proofs.noted_flush.Tie as tie

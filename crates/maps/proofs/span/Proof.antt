@@ -1,5 +1,8 @@
 -- `maps::span` meets its contract. Assumes nothing.
-use Rattle.std.proofs.Common.{◌≡◌, ◌-◌, arith, rules}
+use borrow.Author.Rules.{rules}
+use mathlib.Core.Path.{◌≡◌}
+use Prim.Native.Nat.{◌-◌}
+use native.Mathlib.Omega.{arith}
 use Rattle.maps.proofs.span.Statement.{statement}
 use Rattle.maps.proofs.span.Tie as tie
 

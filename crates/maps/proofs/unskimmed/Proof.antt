@@ -1,5 +1,10 @@
 -- `maps::unskimmed` meets its contract, by the states. Assumes nothing.
-use Rattle.std.proofs.Common.{◌≡◌, true, eqb, arith, rules, eq-eqb, ne_eqb}
+use borrow.Author.Rules.{rules}
+use borrow.Author.Tests.{eq-eqb, ne_eqb}
+use mathlib.Core.Bool.{true}
+use mathlib.Core.Path.{◌≡◌}
+use native.Mathlib.Omega.{arith}
+use lib.Dec.{eqb}
 use Rattle.maps.proofs.unskimmed.Statement.{statement}
 use Rattle.maps.proofs.unskimmed.Tie as tie
 

@@ -26,22 +26,21 @@ min-period-requires c κs = search rules
 
 fill-to-requires : tie.Need-fill-to-requires
 fill-to-requires c κs =
-    let m = c.before in
-    let s = m.before.before.before.before.before in
+    let s = c.before.before.before.before.before in
     let l = limits_of s.args.stream s.requires.0 in
-    let least = m.min-period.ensures in
-    let required = m.before.max-required.ensures in (
+    let least = c.min-period.ensures in
+    let required = c.before.max-required.ensures in (
       omega (arith, least, shortest-least l),
       omega (arith, least, required, shortest-most s.args.stream.rate),
       omega (arith, required, period-most l),
     )
 
-cast-t11 : tie.Need-overflow-cast-t11
-cast-t11 c = search rules
+cast-t10 : tie.Need-overflow-cast-t10
+cast-t10 c = search rules
 
 samples-requires : tie.Need-samples-requires
 samples-requires c κs =
-    let f = c.before.before.before.before.before in
+    let f = c.before.before.before.before in
     rw f.frames.ensures (omega (arith, div-mul-le_self block_samples f.before.before.before.args.stream.channels))
 
 is-small-requires : tie.Need-is-small-requires
@@ -51,7 +50,7 @@ returns : tie.Need-returns
 returns c =
     let p = c.before in
     let t = p.before.before in
-    let m = t.before.before in
+    let m = t.before in
     let r = m.before in
     let f = r.before in
     rw (c.is-small.ensures, p.samples.ensures, f.frames.ensures, t.fill-to.ensures, m.min-period.ensures, r.max-required.ensures, f.before.before.before.requires.1)
@@ -66,7 +65,7 @@ plan-of-spec =
     max-required-requires
     min-period-requires
     fill-to-requires
-    cast-t11
+    cast-t10
     samples-requires
     is-small-requires
     returns)

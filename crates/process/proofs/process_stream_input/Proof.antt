@@ -4,8 +4,8 @@ use borrow.Author.Rules.{rules}
 use mathlib.Core.Path.{◌≡◌, refl, subst}
 use Rattle.frames.specs.Areas.{Areas, areas}
 use Rattle.fill.specs.declared.Fill.{Fill}
-use Rattle.fill.specs.Filling.{FillEnsures, FillNoted}
-use Rattle.process.proofs.Working.{finish-ready, work-done, work-over, work-full, work-noted}
+use Rattle.fill.specs.Filling.{FillEnsures}
+use Rattle.process.proofs.Working.{finish-ready, work-done, work-over, work-full}
 use Rattle.process.proofs.process_stream_input.Statement.{statement}
 use Rattle.process.proofs.process_stream_input.Tie as tie
 
@@ -31,10 +31,7 @@ abbrev middle : tie.After-fill-area → Areas
 middle c = let last = c.fill-area.new.1.1 in areas (lent (start c)).input last.0 last.1.0 last.1.1.0
 
 answer_is : (c : tie.After-fill-area) (r : Fill) → c.fill-area.result ≡ r → FillEnsures (start c).args.stream (lent (start c)) (middle c) r
-answer_is c r e = subst (FillEnsures (start c).args.stream (lent (start c)) (middle c)) e c.fill-area.ensures.0
-
-notes-are : (c : tie.After-fill-area) (r : Fill) → c.fill-area.result ≡ r → FillNoted (start c).args.stream (lent (start c)) (middle c).scratch r
-notes-are c r e = subst (FillNoted (start c).args.stream (lent (start c)) (middle c).scratch) e c.fill-area.ensures.1
+answer_is c r e = subst (FillEnsures (start c).args.stream (lent (start c)) (middle c)) e c.fill-area.ensures
 
 -- ---- answered here
 
@@ -52,14 +49,14 @@ returns c =
     let fill = filled c.before.before in
     let s = start fill in
     let is = answer_is fill Fill.TooMany c.enum_told.given.1 in
-    (work-over s.args.stream (lent s) (middle fill) s.pre.0 s.pre.1 refl is.1 is.0.0 is.0.1, tt)
+    work-over s.args.stream (lent s) (middle fill) s.pre.0 s.pre.1 refl is.1 is.0.0 is.0.1
 
 returns-2 : tie.Need-returns-2
 returns-2 c =
     let fill = filled c.before.before in
     let s = start fill in
     let is = answer_is fill Fill.Full c.enum-told2.given.1 in
-    (work-full s.args.stream (lent s) (middle fill) s.pre.0 s.pre.1 refl is.1 is.0.0 is.0.1, tt)
+    work-full s.args.stream (lent s) (middle fill) s.pre.0 s.pre.1 refl is.1 is.0.0 is.0.1
 
 returns-3 : tie.Need-returns-3
 returns-3 c =
@@ -71,10 +68,7 @@ returns-3 c =
     let is = answer_is fill (Fill.Done d) done.filled.given.1 in
     let last = finished.finish.new.1.1 in
     let after = areas last.0 last.1.0 last.1.1.0 (middle fill).scratch in
-    let notes = notes-are fill (Fill.Done d) done.filled.given.1 in (
-      work-done s.args.stream d (lent s) (middle fill) is.0 is.1 s.pre.0 s.pre.1 after finished.finish.result finished.finish.ensures,
-      work-noted s.args.stream (lent s) (middle fill).scratch notes finished.finish.result,
-    )
+    work-done s.args.stream d (lent s) (middle fill) is.0 is.1 s.pre.0 s.pre.1 after finished.finish.result finished.finish.ensures
 
 -- ---- closed by search
 

@@ -109,7 +109,7 @@ returns-2 c =
     let s = entered m in
     let r = ready (passed m.before) in
     write-answered s.args.stream (values s) (lent s) (left w) _ r.0.accepted r.1 m.samples-in.last.1.1.0 (added m) w.end-write.result
-    w.end-write.ensures.0
+    w.end-write.ensures
 
 begin-write-requires : tie.Need-begin-write-requires
 begin-write-requires c κs = search rules

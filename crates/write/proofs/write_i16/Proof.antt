@@ -13,7 +13,7 @@ use Rattle.adding.specs.Adding.{AddReady}
 use Rattle.adding.proofs.Joining.{written_behind, ready_with, accepted-place, accepted-samples}
 use Rattle.write_parts.specs.declared.Begun.{Begun}
 use Rattle.write_parts.specs.Writing.{BegunAs}
-use Rattle.write.proofs.Writing.{written, write-refused, write-answered, write-noted}
+use Rattle.write.proofs.Writing.{written, write-refused, write-answered}
 use Rattle.write.proofs.write_i16.Statement.{statement}
 use Rattle.write.proofs.write_i16.Tie as tie
 
@@ -107,10 +107,9 @@ returns : tie.Need-returns
 returns c =
     let t = c.before.before.before in
     let s = began t in
-    let refused = write-refused s.args.stream (values s) (lent s) c.before.number.given.0.0
+    write-refused s.args.stream (values s) (lent s) c.before.number.given.0.0
     (subst (λ (k : ℕ). BegunAs s.args.stream k (lent s) (Begun.Refused c.before.number.given.0.0)) (sym (values_length s))
-    (subst (BegunAs s.args.stream (length s.args.samples.now) (lent s)) c.before.number.given.1 t.begin-write.ensures)) in
-    (refused.0, (refused.1, tt))
+    (subst (BegunAs s.args.stream (length s.args.samples.now) (lent s)) c.before.number.given.1 t.begin-write.ensures))
 
 returns-2 : tie.Need-returns-2
 returns-2 c =
@@ -118,12 +117,8 @@ returns-2 c =
     let m = lending w.before in
     let s = entered m in
     let r = ready (passed m.before) in
-    let input = m.samples-back.last.1.1.0 in
-    let answered = write-answered s.args.stream (values s) (lent s) (left w) _ r.0.accepted r.1 input (added m) w.end-write.result
-    w.end-write.ensures.0 in
-    let noted = write-noted s.args.stream (values s) (lent s) (left w) _ r.0.accepted r.1 input (added m) (left w).scratch w.end-write.result
-    w.end-write.ensures.1 in
-    (answered.0, (answered.1, noted))
+    write-answered s.args.stream (values s) (lent s) (left w) _ r.0.accepted r.1 m.samples-back.last.1.1.0 (added m) w.end-write.result
+    w.end-write.ensures
 
 begin-write-requires : tie.Need-begin-write-requires
 begin-write-requires c κs = search rules

@@ -1,15 +1,9 @@
 -- `write_parts::end_write` meets its contract. Assumes nothing.
 use borrow.Author.Rules.{rules}
-use mathlib.Core.Path.{◌≡◌, refl, subst}
-use mathlib.Core.List.{List}
-use Prim.Native.Nat.{ℕ}
-use lib.IntN.{ℤ}
+use mathlib.Core.Path.{◌≡◌, refl}
 use Rattle.frames.specs.Areas.{Areas, areas}
-use Rattle.stream.specs.declared.SonicStream.{SonicStream}
 use Rattle.process.specs.declared.Work.{Work}
-use Rattle.process.specs.Streams.{joined_stream}
-use Rattle.process.specs.Working.{WorkNoted}
-use Rattle.write_parts.specs.Writing.{answer_of, WorkAnswered, WorkNotedAs}
+use Rattle.write_parts.specs.Writing.{answer_of, WorkAnswered}
 use Rattle.write_parts.proofs.end_write.Statement.{statement}
 use Rattle.write_parts.proofs.end_write.Tie as tie
 
@@ -41,25 +35,10 @@ total-full c = c.before.before.before.before.before.before
 abbrev worked : tie.After-known-told → tie.After-process-added
 worked c = c.before.before.before.before.before.before.before
 
--- ---- the answer, by the work's
-
-noted : (s : SonicStream) (n : ℕ) (a : Areas) (scratch : List ℤ) (r : Work) → WorkNoted (joined_stream n s) a scratch r
-    → WorkNotedAs s n a scratch (answer_of s r)
-noted s n a scratch Work.StageFull h = tt
-noted s n a scratch Work.OutputFull h = tt
-noted s n a scratch Work.TotalFull h = tt
-noted s n a scratch (Work.Done told t) h = h
-
+-- the answer, by the work's
 answered : (c : tie.After-process-added) (r : Work) → c.process-added.result ≡ r
-    → let s = entered c in
-    WorkAnswered s.args.stream s.args.n.0 (lent s) (left c) (answer_of s.args.stream r)
-    × WorkNotedAs s.args.stream s.args.n.0 (lent s) (left c).scratch (answer_of s.args.stream r)
-answered c r e =
-    let s = entered c in (
-      record { work = r; worked = rw e at c.process-added.ensures.0; answer_is = refl },
-      noted s.args.stream s.args.n.0 (lent s) (left c).scratch r
-          (subst (WorkNoted (joined_stream s.args.n.0 s.args.stream) (lent s) (left c).scratch) e c.process-added.ensures.1),
-    )
+    → WorkAnswered (entered c).args.stream (entered c).args.n.0 (lent (entered c)) (left c) (answer_of (entered c).args.stream r)
+answered c r e = record { work = r; worked = rw e at c.process-added.ensures; answer_is = refl }
 
 -- ---- needs
 

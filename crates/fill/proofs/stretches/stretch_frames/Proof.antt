@@ -113,12 +113,9 @@ returns c =
     let n = counted one in
     let s = start n in
     let exit = changed.change-speed.new.1.1.1.1.0 in
-    let scratch = changed.change-speed.new.1.1.1.1.1.1.1.1.0 in
-    let told = changed.change-speed.ensures.0 in (
-      put-straight s.args.stream s.args.call (lent s) (areas (lent s).input (lent s).stage exit scratch)
-          changed.change-speed.result (to s) s.pre.1.3 one.if1.true (told.0, there n (lent s).output exit told.1) refl,
-      changed.change-speed.ensures.1,
-    )
+    let told = changed.change-speed.ensures in
+    put-straight s.args.stream s.args.call (lent s) (areas (lent s).input (lent s).stage exit changed.change-speed.new.1.1.1.1.1.1.1.1.0)
+    changed.change-speed.result (to s) s.pre.1.3 one.if1.true (told.0, there n (lent s).output exit told.1) refl
 
 change-speed-requires-2 : tie.Need-change-speed-requires-2
 unfolding of_bits
@@ -136,12 +133,9 @@ returns-2 c =
     let n = counted-staged other in
     let s = start n in
     let exit = changed.change-speed2.new.1.1.1.1.0 in
-    let scratch = changed.change-speed2.new.1.1.1.1.1.1.1.1.0 in
-    let told = changed.change-speed2.ensures.0 in (
-      put-staged s.args.stream s.args.call (lent s) (areas (lent s).input exit (lent s).output scratch)
-          changed.change-speed2.result (to s) s.pre.1.3 other.if1.false (told.0, there n (lent s).stage exit told.1) refl,
-      changed.change-speed2.ensures.1,
-    )
+    let told = changed.change-speed2.ensures in
+    put-staged s.args.stream s.args.call (lent s) (areas (lent s).input exit (lent s).output changed.change-speed2.new.1.1.1.1.1.1.1.1.0)
+    changed.change-speed2.result (to s) s.pre.1.3 other.if1.false (told.0, there n (lent s).stage exit told.1) refl
 
 -- ---- closed by search
 

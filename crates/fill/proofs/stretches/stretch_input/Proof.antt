@@ -13,15 +13,12 @@ use Rattle.search.specs.declared.Ties.{Ties}
 use Rattle.search.specs.Ties.{ties_of}
 use Rattle.stretch.specs.declared.Stretched as S
 use Rattle.stretch.specs.Speed.{change_speed, AreaAfter}
-use Rattle.stretch.specs.Passes.{NotesAfter}
 use Rattle.fill.specs.declared.destination.Destination.{Destination}
-use Rattle.fill.specs.declared.Fill.{Fill}
 use Rattle.fill.specs.Filling.{destination_in, filled_area, place_for}
 use Rattle.fill.proofs.Filling.{ready-limits}
-use Rattle.fill.proofs.Stretching.{StretchDue, StretchAnswered, call_with, call_of, lent_of, room_in, call-ready, lent-long}
+use Rattle.fill.proofs.Stretching.{StretchDue, StretchAnswered, call_with, room_in, call-ready, lent-long}
 use Rattle.fill.proofs.Stretching.{stretched-over, stretched-used, stretched-full, stretched-filled}
 use Rattle.fill.proofs.Destinations.{room-is, fits}
-use Rattle.fill.proofs.Noting.{stretched-noted}
 use Rattle.fill.proofs.stretches.stretch_input.Statement.{statement}
 use Rattle.fill.proofs.stretches.stretch_input.Tie as tie
 
@@ -95,7 +92,7 @@ answer_is c r e =
     let n = (called answer).before in
     let s = start n in
     let x = s.args.stream in
-    let told = answer.stretch-frames.ensures.0 in
+    let told = answer.stretch-frames.ensures in
     let l : List ℤ = take (n.samples.result.0 - 0) (lent s).input in
     let room = room_in x (to s).kept.0 (filled_area x (lent s)) in
     let ties = (chosen n).ties-of.result in
@@ -110,28 +107,6 @@ made-is : (c : tie.After-made)
     StretchAnswered x s.args.speed (to s).kept.0 (to s).most.0 (lent s).input (filled_area x (lent s)) (filled_area x (left (answered c.before.before)))
     (S.Stretched.Made c.made.given.0.0)
 made-is c = answer_is c.before.before (S.Stretched.Made c.made.given.0.0) c.made.given.1
-
--- what it noted, to a call with this choice of ties, lent the samples l, that may make so many frames
-abbrev Notes : tie.After-stretch-frames → Ties → List ℤ → ℕ → Type 0
-Notes c ties l most =
-    let s = start (called c).before in
-    let x = s.args.stream in
-    NotesAfter (call_with x s.args.speed ties) l (place_for x) most (left c).scratch
-
-notes-are : (c : tie.After-stretch-frames)
-    → let s = start (called c).before in
-    let x = s.args.stream in
-    NotesAfter (call_of x s.args.speed) (lent_of x (lent s).input) (place_for x) (to s).most.0 (left c).scratch
-notes-are c =
-    let d = called c in
-    let n = d.before in
-    let s = start n in
-    let x = s.args.stream in
-    let ties = (chosen n).ties-of.result in
-    let most = d.destination-of.result.most.0 in
-    subst (λ (e : Destination). Notes c (ties_of x.ties) (lent_of x (lent s).input) e.most.0) d.destination-of.ensures
-    (subst (λ (t : Ties). Notes c t (lent_of x (lent s).input) most) (chosen n).ties-of.ensures
-    (subst (λ (k : ℕ). Notes c ties (take k (lent s).input) most) (held-samples n) c.stretch-frames.ensures.1))
 
 free-is : (c : tie.After-destination-of) → c.destination-of.result.room.0 ≡ room_in (start c.before).args.stream (to (start c.before)).kept.0
     (filled_area (start c.before).args.stream (lent (start c.before)))
@@ -181,12 +156,9 @@ returns c =
     let made = tested c.before in
     let answer = answered made.before.before in
     let s = start (called answer).before in (
-      (
-        stretched-full (due s) (to s).most.0 (filled_area s.args.stream (left answer)) made.made.given.0.0 (made-is made)
-            (omega (arith, c.if1.true, free-is (called answer))) (lent s).stage,
-        answer.stretch-frames.ensures.0.2,
-      ),
-      tt,
+      stretched-full (due s) (to s).most.0 (filled_area s.args.stream (left answer)) made.made.given.0.0 (made-is made)
+          (omega (arith, c.if1.true, free-is (called answer))) (lent s).stage,
+      answer.stretch-frames.ensures.2,
     )
 
 stepped-requires : tie.Need-stepped-requires
@@ -203,12 +175,9 @@ returns-2 : tie.Need-returns-2
 returns-2 c =
     let answer = answered c.before.before in
     let s = start (called answer).before in (
-      (
-        stretched-over (due s) (to s).most.0 (filled_area s.args.stream (left answer))
-            (answer_is c.before.before S.Stretched.TooMany c.enum_told.given.1) (lent s).stage,
-        answer.stretch-frames.ensures.0.2,
-      ),
-      tt,
+      stretched-over (due s) (to s).most.0 (filled_area s.args.stream (left answer)) (answer_is c.before.before S.Stretched.TooMany c.enum_told.given.1)
+          (lent s).stage,
+      answer.stretch-frames.ensures.2,
     )
 
 returns-3 : tie.Need-returns-3
@@ -216,13 +185,9 @@ returns-3 c =
     let made = tested c.before.before in
     let answer = answered made.before.before in
     let s = start (called answer).before in (
-      (
-        stretched-filled (due s) (to s).most.0 (filled_area s.args.stream (left answer)) made.made.given.0.0 (made-is made) c.stepped.result
-            (omega (arith, c.before.if1.false, free-is (called answer))) c.stepped.ensures (lent s).stage,
-        answer.stretch-frames.ensures.0.2,
-      ),
-      stretched-noted (lent s) (due s) (to s).most.0 (filled_area s.args.stream (left answer)) made.made.given.0.0 (made-is made)
-          (left answer).scratch (notes-are answer) (Fill.Done c.stepped.result),
+      stretched-filled (due s) (to s).most.0 (filled_area s.args.stream (left answer)) made.made.given.0.0 (made-is made) c.stepped.result
+          (omega (arith, c.before.if1.false, free-is (called answer))) c.stepped.ensures (lent s).stage,
+      answer.stretch-frames.ensures.2,
     )
 
 -- ---- closed by search

@@ -1,27 +1,19 @@
--- `stretch::speed::change_speed` meets its contract: between two turns what is made and what is due make up the whole (`Between`), and so does
--- what is noted of periods passed over (`Noting`); each turn uses a frame at least. Assumes nothing.
+-- `stretch::speed::change_speed` meets its contract: between two turns what is made and what is due make up the whole (`Between`), and each
+-- turn uses a frame at least. Assumes nothing.
 use borrow.Author.Rules.{rules}
-use mathlib.Core.Path.{◌≡◌, refl, sym, ap, ◌∙◌, subst}
-use mathlib.Core.Bool.{cond}
-use mathlib.Core.List.{List, [], ◌∷◌, ◌++◌}
-use Prim.Native.Nat.{ℕ, ◌+◌, ◌-◌, ◌*◌, ◌≤◌, ◌<◌}
-use native.Mathlib.Nat.{not-le_of_lt}
+use mathlib.Core.Path.{◌≡◌, refl, sym, ap, ◌∙◌}
+use Prim.Native.Nat.{◌+◌, ◌-◌, ◌≤◌}
 use native.Mathlib.Omega.{arith}
-use lib.IntN.{ℤ}
-use lib.ListN.{length, take, drop}
-use lib.Seq.{length_front, length-take-le}
+use lib.ListN.{length}
 use Rattle.period.specs.Rates.{max_required}
 use Rattle.stretch.specs.declared.Stretched.TheVariants.{Made}
 use Rattle.stretch.specs.declared.Turn.{Turn}
 use Rattle.stretch.specs.declared.Turn.TheVariants.{TooMany, Went}
-use Rattle.stretch.specs.Steps.{next_step, stalls, turn_for}
-use Rattle.stretch.specs.Speed.{begun, steps}
-use Rattle.stretch.specs.Passes.{NoteAfter}
-use Rattle.stretch.proofs.Progress.{next, required_some, steps_on}
-use Rattle.stretch.proofs.Turning.{Gone, gone}
+use Rattle.stretch.specs.Steps.{next_step, turn_for}
+use Rattle.stretch.specs.Speed.{begun}
+use Rattle.stretch.proofs.Progress.{required_some}
 use Rattle.stretch.proofs.Between.{StretchLent, Going, going_start, going-kept, going_end, going-over}
-use Rattle.stretch.proofs.Between.{going_on, going-stall, going-fits, going-periods, going-further, going-within}
-use Rattle.stretch.proofs.Noting.{Noting, noting-start, noting-end, noting-on, noting-stall, pass-one, behind-front}
+use Rattle.stretch.proofs.Between.{going_on, going-stall, going-fits, going-periods, going-further}
 use Rattle.stretch.proofs.Outcome.{ended-made, ended-area, over-made, over-area}
 use Rattle.stretch.proofs.speed.change_speed.Statement.{statement}
 use Rattle.stretch.proofs.speed.change_speed.Tie as tie
@@ -31,7 +23,6 @@ use Rattle.stretch.proofs.speed.change_speed.Tie as tie
 abbrev invariant-loop : tie.invariant-loop
 invariant-loop input call time-error area₀ scratch₀ required held all limit first place₀ made₀ passed₀ area scratch place made passed =
     Going call input place₀ area₀ area first all limit place made passed × (length area ≡ length area₀) × (length scratch ≡ length scratch₀)
-    × Noting call input place₀ scratch place passed
 
 abbrev decreases-loop : tie.decreases-loop
 decreases-loop input call time-error area₀ scratch₀ required held all limit first place₀ made₀ passed₀ area scratch place made passed = held - place.position.0
@@ -57,13 +48,6 @@ module _ (c : tie.Then1 invariant-loop decreases-loop) where
   due : here.loop.place.position.0 + max_required start.args.call.rate ≤ start.args.call.held.0
   due = omega (arith, c.if1.true, here.before.max-required.ensures)
 
-  required-is : here.before.max-required.result.0 ≡ max_required start.args.call.rate
-  required-is = here.before.max-required.ensures
-
-  -- the scratch has room for the values of a search
-  searchable : here.before.max-required.result.0 ≤ length here.loop.scratch
-  searchable = omega (arith, required-is, here.loop.inv.2, start.pre.1.1.1)
-
 -- what a turn gave, and wrote
 module _ (c : tie.After-take-step invariant-loop decreases-loop) where
   abbrev begun-at : tie.Then1 invariant-loop decreases-loop
@@ -79,26 +63,6 @@ module _ (c : tie.After-take-step invariant-loop decreases-loop) where
   gave : (r : Turn) → c.take_step.result ≡ r → turn-due ≡ r
   gave r e = sym c.take_step.ensures.0 ∙ e
 
-  -- the values of its search, and the scratch with them
-  abbrev front : List ℤ
-  front = c.take_step.new.1.1.1.1.1.1.1.1.0
-
-  abbrev searched : List ℤ
-  searched = front ++ drop (here begun-at).before.max-required.result.0 (here begun-at).loop.scratch
-
-  front_long : length front ≡ length (take (here begun-at).before.max-required.result.0 (here begun-at).loop.scratch)
-  front_long = c.take_step.auto.1.1.1.1.1.1.1.1.0
-
-  searched-long : length searched ≡ length (here begun-at).loop.scratch
-  searched-long = length_front (here begun-at).loop.scratch front (here begun-at).before.max-required.result.0 front_long
-
-  behind-same : drop (max_required (start begun-at).args.call.rate) searched
-      ≡ drop (max_required (start begun-at).args.call.rate) (here begun-at).loop.scratch
-  behind-same =
-      subst (λ (r : ℕ). drop r searched ≡ drop r (here begun-at).loop.scratch) (required-is begun-at)
-      (behind-front front (here begun-at).loop.scratch (here begun-at).before.max-required.result.0
-      (front_long ∙ length-take-le (here begun-at).before.max-required.result.0 (here begun-at).loop.scratch (searchable begun-at)))
-
 -- a turn that went on
 module _ (c : tie.After-turn invariant-loop decreases-loop) where
   abbrev turned : tie.After-take-step invariant-loop decreases-loop
@@ -110,69 +74,9 @@ module _ (c : tie.After-turn invariant-loop decreases-loop) where
   went : turn-due turned ≡ Went c.turn.given.0.0 c.turn.given.0.1.0 c.turn.given.0.1.1.0 c.turn.given.0.1.1.1.0
   went = gave turned _ c.turn.given.1
 
-  told : Gone (start from).args.call (start from).args.input.now (here from).loop.place (here from).loop.made (start from).args.most.0
-      (next_step (start from).args.call (start from).args.input.now (here from).loop.place) c.turn.given.0.0 c.turn.given.0.1.0
-      c.turn.given.0.1.1.0 c.turn.given.0.1.1.1.0
-  told =
-      let a = (start from).args in
-      let l = (here from).loop in
-      gone a.call a.input.now l.place l.made a.most.0 (next_step a.call a.input.now l.place) went
-
--- what it passed over is noted
-abbrev noting : tie.After-note-pass-arg invariant-loop decreases-loop → tie.After-turn invariant-loop decreases-loop
-noting c = c.before.before.before.before
-
--- then comes the test whether it stalled
-abbrev noted : tie.After-struct-known2 invariant-loop decreases-loop → tie.After-note-pass invariant-loop decreases-loop
-noted c = c.before.before
-
-abbrev went_on : tie.After-struct-known2 invariant-loop decreases-loop → tie.After-turn invariant-loop decreases-loop
-went_on c = noting (noted c).before
-
--- what is known of a turn that went on, and of its note
-module _ (c : tie.After-turn invariant-loop decreases-loop) where
-  on : let a = (start (from c)).args in
-      let h = (here (from c)).loop.place in
-      steps a.call a.input.now h
-      ≡ next_step a.call a.input.now h
-      ∷ cond (stalls (next_step a.call a.input.now h)) [] (steps a.call a.input.now (next a.call a.input.now h))
-  on =
-      let b = start (from c) in
-      steps_on b.args.input.now (lent b).ready (here (from c)).loop.place (here (from c)).loop.inv.0.in_order.period_in (due (from c))
-
-  ends-within : c.turn.given.0.0.position.0 ≤ (start (from c)).args.call.held.0
-  ends-within =
-      let b = start (from c) in
-      let l = (here (from c)).loop in
-      let wrote = (turned c).take_step.ensures in
-      going-within (lent b) l.inv.0 (due (from c)) (went c) l.inv.1 wrote.1 wrote.2
-
-  ends-further : (here (from c)).loop.place.position.0 < c.turn.given.0.0.position.0
-  ends-further =
-      let b = start (from c) in
-      let l = (here (from c)).loop in
-      let wrote = (turned c).take_step.ensures in
-      going-further (lent b) l.inv.0 (due (from c)) (went c) l.inv.1 wrote.1 wrote.2
-
-  room-searched : max_required (start (from c)).args.call.rate ≤ length (searched (turned c))
-  room-searched = omega (arith, searched-long (turned c), searchable (from c), required-is (from c))
-
-module _ (c : tie.After-note-pass invariant-loop decreases-loop) where
-  abbrev over-noted : tie.After-turn invariant-loop decreases-loop
-  over-noted = noting c.before
-
-  abbrev scratch' : List ℤ
-  scratch' = c.note-pass.new.1.1.1.0
-
-  put : let v = over-noted in
-      let l = (here (from v)).loop in
-      NoteAfter v.turn.given.0.1.1.0 l.place.position.0 v.turn.given.0.0.position.0
-      (max_required (start (from v)).args.call.rate + 2 * l.passed) (searched (turned v)) scratch'
-  put =
-      let v = over-noted in
-      let l = (here (from v)).loop in
-      subst (λ (r : ℕ). NoteAfter v.turn.given.0.1.1.0 l.place.position.0 v.turn.given.0.0.position.0 (r + 2 * l.passed)
-      (searched (turned v)) scratch') (required-is (from v)) c.note-pass.ensures
+-- the test whether it stalled
+abbrev gone : tie.After-struct-known2 invariant-loop decreases-loop → tie.After-turn invariant-loop decreases-loop
+gone c = c.before.before
 
 -- a turn that gave too many frames
 abbrev over : tie.After-enum-told invariant-loop decreases-loop → tie.After-take-step invariant-loop decreases-loop
@@ -187,12 +91,8 @@ ended c = c.before.before
 loop-holds : tie.Need-loop-init invariant-loop decreases-loop
 loop-holds c =
     let a = c.before.args in
-    let begin = begun a.time-error a.prev in (
-      going_start a.call a.input.now begin a.area.now a.to.0 a.room.0 a.most.0 c.before.requires.1.0 (omega arith),
-      refl,
-      refl,
-      noting-start a.call a.input.now begin a.scratch.now,
-    )
+    let begin = begun a.time-error a.prev in
+    (going_start a.call a.input.now begin a.area.now a.to.0 a.room.0 a.most.0 c.before.requires.1.0 (omega arith), refl, refl)
 
 add-if1 : tie.Need-overflow-add-if1 invariant-loop decreases-loop
 add-if1 c =
@@ -200,22 +100,12 @@ add-if1 c =
     let b = entry l in
     record { fits = omega (arith, l.loop.invariant.0.within, l.before.max-required.ensures, b.pre.0.few, b.pre.0.opened.rate_high) }
 
-slice-relend-prefix-take-step : tie.Need-slice-relend-prefix-take-step invariant-loop decreases-loop
-slice-relend-prefix-take-step c = searchable c.before
-
-slice-aggregate-take-step : tie.Need-slice-aggregate-take-step invariant-loop decreases-loop
-slice-aggregate-take-step c =
-    let t = c.before.before in
-    sym (length-take-le (here t).before.max-required.result.0 (here t).loop.scratch (searchable t))
-
 take-step-requires : tie.Need-take-step-requires invariant-loop decreases-loop
 take-step-requires c κs =
     let t = c.before.before in
     let p = (start t).requires in
     let inv = (here t).loop.invariant in
-    let req = (here t).before.max-required.result.0 in
-    let scratch : max_required (start t).args.call.rate ≤ length (take req (here t).loop.scratch) =
-    omega (arith, length-take-le req (here t).loop.scratch (searchable t), required-is t) in
+    let scratch : max_required (start t).args.call.rate ≤ length (here t).loop.scratch = omega (arith, inv.2, p.1.1.1) in
     let few = (lent (start t)).few in
     (p.0, (inv.0.in_order, (due t, p.1.1.0, scratch, omega (arith, (lent (start t)).lent_area, inv.1), omega (arith, inv.0.fits, few))))
 
@@ -228,27 +118,12 @@ returns c =
     let x = a.input.now in
     let begin = begun a.time-error a.prev in
     let more = going-over (lent (start t)) l.inv.0 (due t) (gave k TooMany c.enum_told.given.1) in
-    let kept = going-kept (lent (start t)) l.inv.0 (due t) l.inv.1 k.take_step.ensures.1 in (
-      (over-made a.call x begin a.room.0 a.most.0 more, over-area a.call x begin a.room.0 a.most.0 more kept),
-      λ f. absurd (not-le_of_lt more f),
-    )
-
-note-pass-requires : tie.Need-note-pass-requires invariant-loop decreases-loop
-note-pass-requires c κs =
-    let v = noting c in
-    let b = start (from v) in
-    let inv = (here (from v)).loop.inv.0 in
-    let a = b.args in
-    let one = pass-one (next_step a.call a.input.now (here (from v)).loop.place) in
-    let e : (here (from v)).loop.place.position.0 ≤ v.turn.given.0.0.position.0 = omega (arith, ends-further v) in (
-      omega (arith, (told v).passed),
-      e,
-      omega (arith, inv.few_periods, inv.within, required-is (from v), b.pre.0.few, b.pre.0.opened.rate_high),
-    )
+    let kept = going-kept (lent (start t)) l.inv.0 (due t) l.inv.1 k.take_step.ensures.1 in
+    (over-made a.call x begin a.room.0 a.most.0 more, over-area a.call x begin a.room.0 a.most.0 more kept)
 
 add-made : tie.Need-overflow-add-made invariant-loop decreases-loop
 add-made c =
-    let v = went_on c in
+    let v = gone c in
     let b = start (from v) in
     let l = (here (from v)).loop in
     let fits = going-fits (lent b) l.inv.0 (due (from v)) (went v) l.inv.1 (turned v).take_step.ensures.1 (turned v).take_step.ensures.2 in
@@ -256,61 +131,49 @@ add-made c =
 
 add-passed : tie.Need-overflow-add-passed invariant-loop decreases-loop
 add-passed c =
-    let v = went_on c in
+    let v = gone c in
     let b = start (from v) in
     let l = (here (from v)).loop in
     let few = going-periods (lent b) l.inv.0 (due (from v)) (went v) l.inv.1 (turned v).take_step.ensures.1 (turned v).take_step.ensures.2 in
     record { fits = omega (arith, few, b.pre.0.few) }
 
 same-length-3 : tie.Need-same-length-3 invariant-loop decreases-loop
-same-length-3 c = let v = went_on c.before.before in (turned v).take_step.kept.1.1.1.0 ∙ (here (from v)).loop.inv.1
+same-length-3 c = let v = gone c.before.before in (turned v).take_step.kept.1.1.1.0 ∙ (here (from v)).loop.inv.1
 
 same-length-4 : tie.Need-same-length-4 invariant-loop decreases-loop
-same-length-4 c =
-    let n = noted c.before.before in
-    let v = over-noted n in
-    n.note-pass.kept.1.1.1.0 ∙ searched-long (turned v) ∙ (here (from v)).loop.inv.2
+same-length-4 c = let v = gone c.before.before in (turned v).take_step.kept.1.1.1.1.1.1.1.1.0 ∙ (here (from v)).loop.inv.2
 
 returns-2 : tie.Need-returns-2 invariant-loop decreases-loop
 returns-2 c =
-    let v = went_on c.before.before in
+    let v = gone c.before.before in
     let t = from v in
     let l = (here t).loop in
-    let wrote = (turned v).take_step.ensures in
-    let e = going-stall (lent (start t)) l.inv.0 (due t) (went v) l.inv.1 wrote.1 wrote.2 c.before.if2.true in
-    let n = noted c.before.before in
-    let notes = noting-stall l.inv.3 (told v) (on v) (ends-within v) (room-searched v) (searched-long (turned v)) (behind-same (turned v))
-    n.note-pass.kept.1.1.1.0 (put n) refl c.before.if2.true in
-    ((ap Made c.answer.ensures ∙ ended-made e, ended-area e), λ _. notes)
+    let told = (turned v).take_step.ensures in
+    let e = going-stall (lent (start t)) l.inv.0 (due t) (went v) l.inv.1 told.1 told.2 c.before.if2.true in
+    (ap Made c.answer.ensures ∙ ended-made e, ended-area e)
 
 loop-less : tie.Need-loop-smaller invariant-loop decreases-loop
 loop-less c =
-    let v = went_on c.before in
+    let v = gone c.before in
     let t = from v in
-    omega (arith, ends-further v, due t, required_some (start t).pre.0)
+    let l = (here t).loop in
+    let f = going-further (lent (start t)) l.inv.0 (due t) (went v) l.inv.1 (turned v).take_step.ensures.1 (turned v).take_step.ensures.2 in
+    omega (arith, f, due t, required_some (start t).pre.0)
 
 loop-again : tie.Need-loop-preserved invariant-loop decreases-loop
 loop-again c =
-    let v = went_on c.before in
+    let v = gone c.before in
     let t = from v in
     let l = (here t).loop in
-    let wrote = (turned v).take_step.ensures in
-    let g = going_on (lent (start t)) l.inv.0 (due t) (went v) l.inv.1 wrote.1 wrote.2 c.if2.false in
-    let n = noted c.before in
-    let notes = noting-on l.inv.3 (told v) (on v) (ends-within v) (room-searched v) (searched-long (turned v)) (behind-same (turned v))
-    n.note-pass.kept.1.1.1.0 (put n) c.if2.false in (
-      g,
-      (turned v).take_step.kept.1.1.1.0 ∙ l.inv.1,
-      n.note-pass.kept.1.1.1.0 ∙ searched-long (turned v) ∙ l.inv.2,
-      notes,
-    )
+    let told = (turned v).take_step.ensures in
+    let g = going_on (lent (start t)) l.inv.0 (due t) (went v) l.inv.1 told.1 told.2 c.if2.false in
+    (g, search rules, search rules)
 
 returns-3 : tie.Need-returns-3 invariant-loop decreases-loop
 returns-3 c =
     let l = ended c.before in
     let e = going_end (lent (entry l)) l.loop.inv.0 (omega (arith, c.before.if1.false, l.before.max-required.ensures)) in
-    let notes = noting-end l.loop.inv.3 refl (omega (arith, c.before.if1.false, l.before.max-required.ensures)) in
-    ((ap Made c.answer2.ensures ∙ ended-made e, ended-area e), λ _. notes)
+    (ap Made c.answer2.ensures ∙ ended-made e, ended-area e)
 
 -- ---- what search closes
 
@@ -324,13 +187,7 @@ same_length : tie.Need-same-length invariant-loop decreases-loop
 same_length c = search rules
 
 same-length-2 : tie.Need-same-length-2 invariant-loop decreases-loop
-same-length-2 c = let k = over c in searched-long k ∙ (here (begun-at k)).loop.inv.2
-
-mul_at : tie.Need-overflow-mul-at invariant-loop decreases-loop
-mul_at c = search rules
-
-add_at : tie.Need-overflow-add-at invariant-loop decreases-loop
-add_at c = search rules
+same-length-2 c = search rules
 
 enum-known-turn : tie.Need-enum-known-turn invariant-loop decreases-loop
 enum-known-turn c = search rules
@@ -350,6 +207,6 @@ same-length-6 c = search rules
 pub change-speed-spec : {M : Type 1} → statement M
 change-speed-spec =
     tie.close
-    (tie.spec invariant-loop decreases-loop max-required-requires loop-holds add-if1 slice-relend-prefix-take-step slice-aggregate-take-step take-step-requires
-    enum_told same_length same-length-2 returns enum-known-turn mul_at add_at note-pass-requires add-made add-passed answer-requires same-length-3
-    same-length-4 returns-2 loop-less loop-again answer-requires-2 same-length-5 same-length-6 returns-3)
+    (tie.spec invariant-loop decreases-loop max-required-requires loop-holds add-if1 take-step-requires enum_told same_length
+    same-length-2 returns enum-known-turn add-made add-passed answer-requires same-length-3 same-length-4 returns-2 loop-less loop-again answer-requires-2
+    same-length-5 same-length-6 returns-3)
