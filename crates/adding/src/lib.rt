@@ -1,5 +1,6 @@
 // What a write and a flush share: their answer, and the work of a call that has added frames to the input.
 // `specs/Calls.antt` says what each answers.
+#![tactic(auto)]
 ghost use Rattle.frames.specs.Areas.{areas};
 ghost use Rattle.adding.specs.Adding.{AddReady, AddEnsures};
 
@@ -8,7 +9,7 @@ use process::{Told, Work};
 use stream::SonicStream;
 
 // The answer of a write or a flush. Each refusal carries its number and the entering stream.
-#[derive(Drop)]
+#[derive(Clone, Copy)]
 pub enum Wrote {
     Refused(u32, SonicStream),
     Done(Told, SonicStream),

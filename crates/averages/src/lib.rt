@@ -1,11 +1,12 @@
 // Averages of neighbouring samples. `specs/Averages.antt` says what each function gives.
+#![tactic(auto)]
 ghost use Rattle.std.specs.Prelude.{◌≡◌, [], ◌∷◌, ◌++◌, ◌+◌, ◌≤◌, length, drop};
 ghost use Rattle.averages.specs.Averages.{mean_from, down_sample_input, most_averaged, Averageable};
 
 use frames::Samples;
 
 // The means of two neighbouring groups of samples.
-#[derive(Drop)]
+#[derive(Clone, Copy)]
 pub struct Means {
     pub first: i16,
     pub second: i16,

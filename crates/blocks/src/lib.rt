@@ -2,6 +2,7 @@
 // stall they go on, a frame at a time once the input is as full as that: s of a call, which is rounded, changes with
 // each write, and where the pitch period is s − 1 its last bit decides.
 // `specs/Blocks.antt` says what is promised.
+#![tactic(auto)]
 ghost use Rattle.std.specs.Prelude.{◌≡◌, ◌+◌, ◌-◌, ◌*◌, ◌/◌, ◌%◌, ◌^◌, ◌<◌, ◌≤◌, map, length};
 ghost use Rattle.frames.specs.Areas.{areas};
 ghost use Rattle.floats.specs.Write.{sample_out};

@@ -1,5 +1,6 @@
 // The chunks of a RIFF/WAVE file of 16-bit PCM: its head, one chunk of it at a time, and the head of a file that is
 // written. A file need not be at hand as a whole: `specs/` says what is answered.
+#![tactic(auto)]
 mod formats;
 mod head;
 mod ids;
@@ -22,7 +23,7 @@ pub const FILE_HEAD: usize = 12;
 pub const LOOKED_AT: usize = 24;
 
 // What the first fmt chunk of 16 bytes or more says of the samples, if it was found; otherwise every number is 0.
-#[derive(Drop)]
+#[derive(Clone, Copy)]
 pub struct Format {
     pub found: bool,
     pub tag: u32,
@@ -43,7 +44,7 @@ impl Format {
 
 // What follows at the rest of a file: it is refused with this number; another chunk, with the bytes that it takes and
 // the format known behind it; or the head of the data chunk, with the bytes of the samples behind it.
-#[derive(Drop)]
+#[derive(Clone, Copy)]
 pub enum Chunk {
     Refused(u32),
     Other(usize, Format),
@@ -51,7 +52,7 @@ pub enum Chunk {
 }
 
 // Whether a chunk is the data chunk, and its size.
-#[derive(Drop)]
+#[derive(Clone, Copy)]
 pub struct ChunkHead {
     pub is_data: bool,
     pub size: usize,

@@ -1,4 +1,5 @@
 // Decimal numbers as ASCII text: digits, or digits, a point and digits. `specs/Decimal.antt` says what each text gives.
+#![tactic(auto)]
 ghost use Rattle.std.specs.Prelude.{◌≡◌, ◌^◌, ◌≤◌};
 ghost use Rattle.decimal.specs.Decimal.{digits_from, whole_of, places_from, decimal_of, quotient, value_of};
 
@@ -9,21 +10,21 @@ const MOST_DIGITS: usize = 15;
 const LIMIT: u64 = 100_000_000_000_000;
 
 // What a text of digits gives: its number.
-#[derive(Drop)]
+#[derive(Clone, Copy)]
 pub enum Digits {
     Refused,
     Number(u64),
 }
 
 // What a decimal number's text gives: its digits without the point, and how many of them stand behind the point.
-#[derive(Drop)]
+#[derive(Clone, Copy)]
 pub enum Decimal {
     Refused,
     Number(u64, usize),
 }
 
 // A decimal number as an f32.
-#[derive(Drop)]
+#[derive(Clone, Copy)]
 pub enum Value {
     Refused,
     Nearest(f32),

@@ -1,5 +1,6 @@
 // Prints the figures of docs/RULES.md without a star: samples in, and one step of the stretch over silence, whose
 // period is 20 frames at 8,000 Hz, at three local speeds. The starred figures are computed in proofs/Starred.antt.
+#![tactic(auto)]
 use frames::{Frames, Samples};
 use libc::STDOUT_FILENO;
 use period::PeriodRecord;

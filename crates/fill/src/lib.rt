@@ -1,5 +1,6 @@
 // The first half of a call's work: copied or stretched frames, at pitch 1.0 into the output behind the frames waiting,
 // at another into the stage behind the tail. The input stays.
+#![tactic(auto)]
 mod copies;
 mod destination;
 mod stretches;
@@ -18,7 +19,7 @@ use stream::{Balance, SonicStream};
 use stretches::stretch_input;
 
 // How a call's work went.
-#[derive(Drop)]
+#[derive(Clone, Copy)]
 pub enum Outcome {
     Empty,
     Copied,
@@ -29,7 +30,7 @@ pub enum Outcome {
 
 // What is told of an accepted write or flush: its outcome, the periods that it passed over, and the sum of differences
 // of the period that its last search found, 0 if it made none.
-#[derive(Drop)]
+#[derive(Clone, Copy)]
 pub struct Told {
     pub outcome: Outcome,
     pub passed: usize,
@@ -38,7 +39,7 @@ pub struct Told {
 
 // New frames in the area, frames of the input to be removed, what the call adds to the totals, the stream without
 // these frames and with the totals before, and what is told.
-#[derive(Drop)]
+#[derive(Clone, Copy)]
 pub struct Filled {
     pub frames: Frames,
     pub used: Frames,
@@ -48,7 +49,7 @@ pub struct Filled {
 }
 
 // TooMany: there are more frames than there may be. Full: they do not fit the area.
-#[derive(Drop)]
+#[derive(Clone, Copy)]
 pub enum Fill {
     TooMany,
     Full,

@@ -1,4 +1,5 @@
 // The float steps of docs/RULES.md, in the original's order of operations. `specs/` says what each gives.
+#![tactic(auto)]
 pub mod casts;
 mod narrowing;
 pub mod samples;

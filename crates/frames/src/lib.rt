@@ -1,15 +1,16 @@
 // Counts of frames and of samples, and areas of samples: copying, silence, removing from the front.
+#![tactic(auto)]
 ghost use Rattle.std.specs.Prelude.{◌≡◌, ◌+◌, ◌*◌, ◌/◌, ◌^◌, ◌≤◌, ◌<◌, pos, length, drop, replicate};
 ghost use Rattle.std.proofs.Math.Seq.{paste};
 ghost use Rattle.frames.specs.Removal.{FrontRemoved};
 
 // A count of frames. A frame is one sample per channel. C has it as a size_t.
 #[repr(C)]
-#[derive(Drop)]
+#[derive(Clone, Copy)]
 pub struct Frames(pub usize);
 
 // A count of samples, or a place in an area. A sample is one i16.
-#[derive(Drop)]
+#[derive(Clone, Copy)]
 pub struct Samples(pub usize);
 
 impl Frames {

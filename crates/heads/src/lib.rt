@@ -1,5 +1,6 @@
 // What the skim tool's input begins with: raw PCM, or a WAVE file, whose chunks are walked up to its samples. A file
 // that is named takes the place of standard input.
+#![tactic(auto)]
 ghost use Rattle.std.specs.Prelude.{◌≡◌, ◌≤◌, length};
 ghost use Rattle.heads.specs.Inputs.{Taken};
 
@@ -10,7 +11,7 @@ use stream::refusals;
 
 // Raw PCM; a WAVE file with samples of this format; one that is refused with this number, where the format and the size
 // of the data chunk are told as far as they are known; or a read failed.
-#[derive(Drop)]
+#[derive(Clone, Copy)]
 pub enum Input {
     Raw(Source),
     Wave(Source, Format),
@@ -19,7 +20,7 @@ pub enum Input {
 }
 
 // The bytes of the input that are left, if that is known.
-#[derive(Drop)]
+#[derive(Clone, Copy)]
 struct Left {
     known: bool,
     bytes: usize,
@@ -27,7 +28,7 @@ struct Left {
 
 // The bytes that came of a chunk's head; those that are looked at behind it, and those of them that came; the size of a
 // data chunk, or 0; whether a read failed.
-#[derive(Drop)]
+#[derive(Clone, Copy)]
 struct Looked {
     head: usize,
     behind: usize,

@@ -1,5 +1,6 @@
 // The skim tool's input, which is standard input: what is known of it, and blocks of it. `specs/Sources.antt` says
 // which bytes are read.
+#![tactic(auto)]
 ghost use Rattle.std.specs.Prelude.{◌≡◌, ◌+◌, ◌≤◌, min, length, take};
 ghost use Rattle.inputs.specs.Sources.{raw_source, wave_source, block_of, source_after, Begins};
 
@@ -8,7 +9,7 @@ use libc::STDIN_FILENO;
 // What the input is: raw PCM, or a WAVE file. Of that `size` is the size of its data chunk, and `left` are the bytes of
 // it that were not read yet; of raw PCM both are 0. The first bytes of raw PCM, up to four, are read to see what it is:
 // `first` is their number, the lowest byte first, and `ready` how many stand before what is read next.
-#[derive(Drop)]
+#[derive(Clone, Copy)]
 pub struct Source {
     pub wave: bool,
     pub size: u64,
@@ -89,7 +90,7 @@ fn least(a: usize, b: usize) -> usize
 }
 
 // What a block was filled with, and whether a read failed.
-#[derive(Drop)]
+#[derive(Clone, Copy)]
 pub struct BlockBytes {
     pub bytes: usize,
     pub failed: bool,

@@ -94,7 +94,7 @@ fn checked(job: Job) -> Asked
 
 // The numbers that stand behind so many arguments, and how many there are; and the place of the names, 0 if there are
 // none.
-#[derive(Drop)]
+#[derive(Clone, Copy)]
 struct Numbers {
     before: usize,
     count: usize,

@@ -7,7 +7,7 @@ use crate::arguments::is_word;
 // What was found so far: whether to stop as the original does, whether to find the longest of several periods with the
 // same mean, whether the input is raw PCM, the place of the map's name, 0 if there is none, and the arguments that
 // stand before the next one, without the program's name.
-#[derive(Drop)]
+#[derive(Clone, Copy)]
 pub struct Options {
     pub as_original: bool,
     pub longest_period: bool,

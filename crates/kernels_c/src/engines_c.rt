@@ -16,7 +16,7 @@ use frames::{Frames, Samples};
 
 // A search's answer.
 #[repr(C)]
-#[derive(Drop)]
+#[derive(Clone, Copy)]
 pub struct Search {
     pub period: usize,
     pub min_diff: usize,
@@ -26,7 +26,7 @@ pub struct Search {
 
 // A period with its sum of differences.
 #[repr(C)]
-#[derive(Drop)]
+#[derive(Clone, Copy)]
 pub struct Best {
     pub period: usize,
     pub sum: usize,

@@ -1,5 +1,6 @@
 // The areas of the skim tool, arrays on the stack, which a run is lent. A crate apart, since arrays of this length take
 // long to check.
+#![tactic(auto)]
 ghost use Rattle.std.specs.Prelude.{◌≡◌, false};
 ghost use Rattle.plans.specs.Plans.{Usable};
 ghost use Rattle.skimming.specs.Skimming.{Underway, Complete};

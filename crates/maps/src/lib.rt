@@ -1,5 +1,6 @@
 // What is noted of frames of a reel of which nothing came out, and the map of them, written line by line.
 // `specs/Maps.antt` says what is noted.
+#![tactic(auto)]
 ghost use Rattle.std.specs.Prelude.{◌≡◌};
 ghost use Rattle.period.specs.Rates.{InLimits};
 ghost use Rattle.reels.specs.Reels.{first_held};

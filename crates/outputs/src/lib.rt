@@ -1,5 +1,6 @@
 // The skim tool's output, which is standard output: `names` has the file that is named, which takes its place; here is
 // the head of a WAVE file, whose sizes are set at the end.
+#![tactic(auto)]
 pub mod names;
 
 ghost use Rattle.std.specs.Prelude.{◌≡◌};
@@ -17,7 +18,7 @@ const TOO_LONG: u32 = 0xffff_ffff;
 
 // What became of the sizes: they are set; they are not, since standard output cannot be sought; or the track is longer
 // than they can tell.
-#[derive(Drop)]
+#[derive(Clone, Copy)]
 pub enum Sizes {
     Set,
     Unset,

@@ -1,12 +1,13 @@
 // Frames of a reel of which nothing came out: how many there are, and the longest stretch of them. `map` writes down
 // every stretch. `specs/Passes.antt` says what is kept.
+#![tactic(auto)]
 pub mod map;
 
 ghost use Rattle.std.specs.Prelude.{◌≡◌};
 ghost use Rattle.passes.specs.Passes.{joined, longer, noted};
 
 // Frames next to each other: the first of them, and how many they are.
-#[derive(Drop)]
+#[derive(Clone, Copy)]
 pub struct Span {
     pub first: u64,
     pub frames: u64,
@@ -14,7 +15,7 @@ pub struct Span {
 
 // The pitch periods passed over, and the frames of which nothing came out: all of them, the last stretch and the
 // longest one, the first of those that are as long. None of the counts comes near 2^64.
-#[derive(Drop)]
+#[derive(Clone, Copy)]
 pub struct Passes {
     pub periods: u64,
     pub frames: u64,

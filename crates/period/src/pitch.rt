@@ -13,7 +13,7 @@ use frames::{Frames, Samples};
 use search::{Candidate, Ties, Wanted};
 
 // The candidate with the least mean, and the period near which the second search looks.
-#[derive(Drop)]
+#[derive(Clone, Copy)]
 struct LeastMean {
     near: usize,
     best: Candidate,

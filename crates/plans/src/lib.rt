@@ -1,5 +1,6 @@
 // The areas' sizes, and the jobs that they serve: those of which no call wants more room. `specs/Plans.antt` says what
 // is answered; that no call of a job served is refused, but for a total past 64 bits, is proved in the crate `serving`.
+#![tactic(auto)]
 ghost use Rattle.std.specs.Prelude.{◌≡◌, true, ◌≤◌, min};
 ghost use Rattle.search.specs.Search.{longest_period};
 ghost use Rattle.stream.specs.Refusals.{is_in_order};
@@ -36,7 +37,7 @@ const TAIL_FRAMES: usize = 12;
 
 // How a job is done: its rate and channels, the samples of a block in whole frames, the frames that a write fills the
 // input up to, the frames that a search looks at, the most frames that a call may hold, and whether the job is small.
-#[derive(Drop)]
+#[derive(Clone, Copy)]
 pub struct Plan {
     pub rate: u64,
     pub channels: usize,
@@ -48,7 +49,7 @@ pub struct Plan {
 }
 
 // Whether the areas serve a job.
-#[derive(Drop)]
+#[derive(Clone, Copy)]
 pub enum Service {
     None,
     Planned(Plan),

@@ -1,5 +1,6 @@
 // An answer's line of stored runs (docs/VECTORS.md): what a call answers, then every field of the stream that it hands
 // back, and the sums over the samples kept.
+#![tactic(auto)]
 use fill::{Outcome, Told};
 use frames::Frames;
 use libc::STDOUT_FILENO;

@@ -1,6 +1,7 @@
 // One call's work on a stream: frames that a write or a flush added are copied or stretched, then rate and volume
 // follow. `specs/Process.antt` says what becomes of the samples. Work goes into the free parts of the areas first and
 // is committed at the end.
+#![tactic(auto)]
 mod finish;
 
 ghost use Rattle.std.specs.Prelude.{◌≡◌, ◌^◌, ◌+◌, ◌≤◌};
@@ -17,7 +18,7 @@ use frames::Frames;
 use stream::SonicStream;
 
 // A call's work: no room in the stage, no room in the output, a total past 64 bits, or done.
-#[derive(Drop)]
+#[derive(Clone, Copy)]
 pub enum Work {
     StageFull,
     OutputFull,

@@ -1,4 +1,5 @@
 // How far a run of the skim tool is, on a terminal.
+#![tactic(auto)]
 ghost use Rattle.std.specs.Prelude.{◌≡◌, ◌*◌, ◌/◌, ◌≤◌};
 ghost use Rattle.period.specs.Rates.{InLimits};
 

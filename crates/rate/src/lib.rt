@@ -1,4 +1,5 @@
 // Rate conversion: `adjust_rate` of the Rust original. `specs/Conversion.antt` says what it gives.
+#![tactic(auto)]
 mod phases;
 mod scan;
 
@@ -12,21 +13,21 @@ use frames::Frames;
 const MAX_HALVED_RATE: usize = 16384;
 
 // N and O: the new rate and the old one.
-#[derive(Drop)]
+#[derive(Clone, Copy)]
 pub struct Rates {
     pub new: usize,
     pub old: usize,
 }
 
 // p and n: the positions in old frames and in new ones.
-#[derive(Drop)]
+#[derive(Clone, Copy)]
 pub struct Position {
     pub old: usize,
     pub new: usize,
 }
 
 // The frames made; the tail that is left, `left` frames of the stage from `from` on; the positions.
-#[derive(Drop)]
+#[derive(Clone, Copy)]
 pub struct Adjusted {
     pub made: Frames,
     pub from: Frames,
@@ -35,7 +36,7 @@ pub struct Adjusted {
 }
 
 // Full: the frames do not fit behind those that wait.
-#[derive(Drop)]
+#[derive(Clone, Copy)]
 pub enum Adjustment {
     Full,
     Done(Adjusted),

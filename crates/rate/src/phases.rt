@@ -10,7 +10,7 @@ use sinc::phases::MAX_PHASES;
 
 // A cycle: `old` tail frames make `new` frames, each at a phase of its own, and then the phases come again. N is
 // step·new and O is step·old.
-#[derive(Drop)]
+#[derive(Clone, Copy)]
 pub(crate) struct Cycle {
     pub step: usize,
     pub new: usize,

@@ -1,4 +1,5 @@
 // The read: frames waiting, as f32 values. `specs/Reading.antt` says what it answers.
+#![tactic(auto)]
 ghost use Rattle.std.specs.Prelude.{◌≡◌, true, false, min};
 ghost use Rattle.floats.specs.Settings.{sample_period};
 ghost use Rattle.stream.specs.Refusals.{is_in_order, output_bad};
@@ -9,7 +10,7 @@ use stream::areas::output_bad;
 use stream::{Order, SonicStream, refusals};
 
 // A read's answer: the frames given. A refusal carries its number and the entering stream.
-#[derive(Drop)]
+#[derive(Clone, Copy)]
 pub enum Gave {
     Refused(u32, SonicStream),
     Done(Frames, SonicStream),

@@ -11,7 +11,7 @@ use inputs::{BlockBytes, fill};
 use plans::Plan;
 
 // A reel with a block read, and the block's samples.
-#[derive(Drop)]
+#[derive(Clone, Copy)]
 pub struct BlockRead {
     pub reel: Reel,
     pub samples: usize,

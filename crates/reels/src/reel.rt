@@ -19,7 +19,7 @@ use plans::{BLOCK_SAMPLES, Plan};
 use read::Gave;
 use stream::SonicStream;
 
-#[derive(Drop)]
+#[derive(Clone, Copy)]
 pub struct Reel {
     pub stream: SonicStream,
     // Frames read, frames written to the stream, and frames written out. None comes near 2^64.

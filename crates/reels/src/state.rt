@@ -11,7 +11,7 @@ use fill::Outcome;
 use plans::Plan;
 use stream::SonicStream;
 
-#[derive(Drop)]
+#[derive(Clone, Copy)]
 pub enum RunState {
     Going,
     // The last write stalled: the first frame held before it.
@@ -26,7 +26,7 @@ pub enum RunState {
 }
 
 // The writes that stalled, which do not come near 2^64, and the first frame held before the first of them.
-#[derive(Drop)]
+#[derive(Clone, Copy)]
 pub struct Stalls {
     pub count: u64,
     pub first: u64,

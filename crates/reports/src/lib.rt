@@ -1,5 +1,6 @@
 // What is told of a run of the skim tool at its end, on standard error: what became of it; the last line is that of
 // `summary`. `specs/Report.antt` says what the status is.
+#![tactic(auto)]
 mod stalls;
 mod summary;
 
@@ -152,7 +153,7 @@ fn say_end(reel: Reel, plan: Plan)
 
 // The files of a run: the descriptor of the map that was wanted, whether input and output are files that were named,
 // and whether the output is a WAVE file whose sizes could not be set.
-#[derive(Drop)]
+#[derive(Clone, Copy)]
 pub struct Files {
     pub map: u32,
     pub named: bool,

@@ -1,5 +1,6 @@
 // A whole reel of the skim tool: the turns of `skimming`, a few at a time, since between them `progress` tells how
 // far the run is.
+#![tactic(auto)]
 ghost use Rattle.std.specs.Prelude.{◌≡◌, length};
 ghost use Rattle.plans.specs.Plans.{block_samples, block_bytes, Usable};
 ghost use Rattle.frames.specs.Areas.{areas};

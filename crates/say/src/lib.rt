@@ -1,4 +1,5 @@
 // What the skim tool tells, piece by piece; `waves` has what is told of WAVE files.
+#![tactic(auto)]
 pub mod waves;
 
 use libc::{STDERR_FILENO, STDOUT_FILENO};

@@ -32,7 +32,7 @@ const LOW: u16 = 12768;
 
 // A signal: its kind, the noise's first state and the voice's first place, the voice's period in samples, and the
 // divisor of its levels.
-#[derive(Drop)]
+#[derive(Clone, Copy)]
 pub struct Signal {
     pub kind: u64,
     pub seed: u32,

@@ -9,7 +9,7 @@ const MOST_HEXADECIMAL: u64 = 0x0fff_ffff_ffff_ffff;
 const NO_DIGIT: u64 = 16;
 
 // One line: its letter, its numbers, 0 for those that it lacks, and the place behind it.
-#[derive(Drop)]
+#[derive(Clone, Copy)]
 pub struct Line {
     pub letter: u8,
     pub a: u64,
@@ -21,7 +21,7 @@ pub struct Line {
 }
 
 // A number, and the place behind its last digit.
-#[derive(Drop)]
+#[derive(Clone, Copy)]
 struct Number {
     value: u64,
     next: usize,

@@ -1,6 +1,7 @@
 // The search over a range of periods: D(q) of a period, and the period with the least D(q)/q. `specs/Search.antt` says
 // what each function gives; `choice` has the choice of ties as a number, `outward` the search for one candidate from a
 // period nearby outward.
+#![tactic(auto)]
 mod choice;
 mod outward;
 
@@ -13,7 +14,7 @@ pub use choice::{ties_number, ties_of};
 pub use outward::{Wanted, best_in_range, candidate_in_range};
 
 // Of several periods with the same least mean difference, the one that a search finds.
-#[derive(Drop)]
+#[derive(Clone, Copy)]
 pub enum Ties {
     Smallest,
     Largest,
@@ -21,7 +22,7 @@ pub enum Ties {
 
 // A search's answer: the period with the least mean difference, the whole parts of the least and the greatest mean, and
 // the sum of differences of the period.
-#[derive(Drop)]
+#[derive(Clone, Copy)]
 pub struct Found {
     pub period: usize,
     pub min_diff: usize,
@@ -30,14 +31,14 @@ pub struct Found {
 }
 
 // A period q and its D(q).
-#[derive(Drop)]
+#[derive(Clone, Copy)]
 pub struct Candidate {
     pub period: usize,
     pub diff: usize,
 }
 
 // Two candidates of neighbouring periods.
-#[derive(Drop)]
+#[derive(Clone, Copy)]
 pub struct Neighbours {
     pub this: Candidate,
     pub next: Candidate,

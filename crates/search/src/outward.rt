@@ -13,7 +13,7 @@ const BLOCK: usize = 16;
 
 // What a search is to find: the least D(q)/q, of several by the choice of ties, looked for from a period nearby
 // outward; or the greatest.
-#[derive(Drop)]
+#[derive(Clone, Copy)]
 pub enum Wanted {
     Least(Ties, usize),
     Greatest,

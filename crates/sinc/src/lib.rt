@@ -1,4 +1,5 @@
 // The filter table of the rate conversion, and interpolated samples and frames.
+#![tactic(auto)]
 pub mod phases;
 pub mod table;
 

@@ -5,6 +5,7 @@
 //
 // A Rattle program has no exit status. The last line on standard error ends in the one it would have, and with
 // `--status` it is written to descriptor 3 too, from which tools/skim.sh takes it.
+#![tactic(auto)]
 ghost use Rattle.std.specs.Prelude.{ℕ};
 ghost use Rattle.plans.specs.Plans.{Usable};
 ghost use Rattle.reels.specs.Reels.{fresh_reel};

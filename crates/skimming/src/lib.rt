@@ -1,5 +1,6 @@
 // A whole reel through the stream: its blocks are read and written to it, some at a time, and at the end it is flushed.
 // Once the stream takes no more, the input is only counted. `specs/Skimming.antt` says what is promised.
+#![tactic(auto)]
 ghost use Rattle.std.specs.Prelude.{◌≡◌, true, ◌*◌, ◌≤◌, length};
 ghost use Rattle.frames.specs.Areas.{areas};
 ghost use Rattle.adding.specs.Calls.{flush_call};

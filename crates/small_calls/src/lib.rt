@@ -1,5 +1,6 @@
 // The calls of stored runs that are lent no area, each with its answer printed (docs/VECTORS.md); and streams that no
 // call hands back.
+#![tactic(auto)]
 mod edits;
 
 pub use edits::with_field;

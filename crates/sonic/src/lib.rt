@@ -2,6 +2,7 @@
 // (`stream`), and its calls that are lent areas, `write_f32` and `write_i16` (`write`), `read_f32` (`read`) and `flush`
 // (`flush`). What they answer is said in `stream/specs/Settings.antt`, `adding/specs/Calls.antt` and
 // `read/specs/Reading.antt`.
+#![tactic(auto)]
 pub use adding::Wrote;
 pub use flush::flush;
 pub use process::{Outcome, Told};

@@ -1,6 +1,7 @@
 // The stream for C: each function calls `stream` or `sonic` and hands its answer over as a struct.
 // include/kelpladder.h has the declarations; `specs/Answers.antt` says what numbers stand for an answer. The stream
 // is `SonicStream` itself. `waves` has the calls for WAVE files.
+#![tactic(auto)]
 mod answers;
 mod calls;
 mod waves;
@@ -10,7 +11,7 @@ use stream::SonicStream;
 
 // An opening: the number of its refusal, 0 if accepted, and the rate or channels that were refused.
 #[repr(C)]
-#[derive(Drop)]
+#[derive(Clone, Copy)]
 pub struct Opened {
     pub refusal: u32,
     pub given: u32,
@@ -19,7 +20,7 @@ pub struct Opened {
 
 // A setting.
 #[repr(C)]
-#[derive(Drop)]
+#[derive(Clone, Copy)]
 pub struct Changed {
     pub refusal: u32,
     pub stream: SonicStream,
@@ -27,7 +28,7 @@ pub struct Changed {
 
 // The frames waiting.
 #[repr(C)]
-#[derive(Drop)]
+#[derive(Clone, Copy)]
 pub struct Available {
     pub refusal: u32,
     pub frames: Frames,
@@ -37,7 +38,7 @@ pub struct Available {
 // What is told of an accepted write or flush: the number of its outcome, the periods passed over, and the sum of the
 // last search.
 #[repr(C)]
-#[derive(Drop)]
+#[derive(Clone, Copy)]
 pub struct Told {
     pub outcome: u32,
     pub passed: usize,
@@ -46,7 +47,7 @@ pub struct Told {
 
 // A write or a flush.
 #[repr(C)]
-#[derive(Drop)]
+#[derive(Clone, Copy)]
 pub struct Wrote {
     pub refusal: u32,
     pub told: Told,
@@ -55,7 +56,7 @@ pub struct Wrote {
 
 // A read: the frames given.
 #[repr(C)]
-#[derive(Drop)]
+#[derive(Clone, Copy)]
 pub struct Gave {
     pub refusal: u32,
     pub frames: Frames,

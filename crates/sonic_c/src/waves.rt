@@ -9,7 +9,7 @@ use stream::refusals;
 
 // What reading answers.
 #[repr(C)]
-#[derive(Drop)]
+#[derive(Clone, Copy)]
 pub struct Wave {
     pub refusal: u32,
     pub rate: u32,
@@ -20,7 +20,7 @@ pub struct Wave {
 
 // What writing answers: the rate or the channels that were refused, or the bytes of the file.
 #[repr(C)]
-#[derive(Drop)]
+#[derive(Clone, Copy)]
 pub struct WaveWritten {
     pub refusal: u32,
     pub given: u32,

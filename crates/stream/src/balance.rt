@@ -4,14 +4,14 @@ ghost use Rattle.stream.specs.Balance.{book_of};
 
 // Frames of periods skipped and frames of periods inserted: those of a call, or the totals of a stream.
 #[repr(C)]
-#[derive(Drop)]
+#[derive(Clone, Copy)]
 pub struct Balance {
     pub skipped: u64,
     pub inserted: u64,
 }
 
 // Totals with those of a call, or that one of them would pass 64 bits.
-#[derive(Drop)]
+#[derive(Clone, Copy)]
 pub enum Booked {
     Past,
     Within(Balance),

@@ -1,6 +1,7 @@
 // The stream's value with its constants, and the calls that are lent no area: opening, settings, the frames available.
 // `specs/Settings.antt` says what each answers. `areas` has refusals 4 and 5, and `balance` refusal 12,
 // for the calls that are lent areas.
+#![tactic(auto)]
 pub mod areas;
 mod balance;
 mod order;
@@ -19,7 +20,7 @@ pub use search::{Ties, ties_of};
 
 // The stream's value, as C has it too. Its samples are in the areas that each call is lent.
 #[repr(C)]
-#[derive(Drop)]
+#[derive(Clone, Copy)]
 pub struct SonicStream {
     pub rate: u32,
     pub channels: u32,
@@ -44,7 +45,7 @@ pub struct SonicStream {
 }
 
 // One setting with its value.
-#[derive(Drop)]
+#[derive(Clone, Copy)]
 pub enum Setting {
     Speed(f32),
     Pitch(f32),
@@ -54,7 +55,7 @@ pub enum Setting {
 
 // An opening's answer: refused with its number, the rate or channels given, and a stream with every field 0; or the
 // stream.
-#[derive(Drop)]
+#[derive(Clone, Copy)]
 pub enum Opened {
     Refused {
         number: u32,
@@ -65,14 +66,14 @@ pub enum Opened {
 }
 
 // A setting's answer. Each refusal carries its number and the entering stream.
-#[derive(Drop)]
+#[derive(Clone, Copy)]
 pub enum Changed {
     Refused(u32, SonicStream),
     Done(SonicStream),
 }
 
 // The answer of `available_frames`.
-#[derive(Drop)]
+#[derive(Clone, Copy)]
 pub enum Available {
     Refused(u32, SonicStream),
     Waiting(Frames),

@@ -8,7 +8,7 @@ ghost use Rattle.stream.specs.Order.{order_of};
 use crate::SonicStream;
 
 // Not in order; or in order, with the sample period that the rate gives.
-#[derive(Drop)]
+#[derive(Clone, Copy)]
 pub enum Order {
     Bad,
     Good(f32),

@@ -1,5 +1,6 @@
 // The stretch: steps that copy, skip, insert or pass over pitch periods, and `change_speed` that takes them. `specs/`
 // says what each function gives.
+#![tactic(auto)]
 mod samples;
 mod speed;
 mod steps;
@@ -11,7 +12,7 @@ pub use speed::change_speed;
 
 // What is fixed for a call: what follows from the opening, the local speed, the play time, the frames held, whether it
 // steps over a period that gives no frame, and which of several periods with the same mean its searches find.
-#[derive(Drop)]
+#[derive(Clone, Copy)]
 pub struct StretchCall {
     pub channels: usize,
     pub rate: usize,
@@ -25,7 +26,7 @@ pub struct StretchCall {
 
 // Where a call has come to: the frames used, the time error, the period record, and the sum of differences that its
 // last search found, 0 before the first.
-#[derive(Drop)]
+#[derive(Clone, Copy)]
 pub struct Place {
     pub position: Frames,
     pub time_error: f32,
@@ -35,7 +36,7 @@ pub struct Place {
 
 // A step: the frames copied; the period skipped and the frames made; the period inserted and the frames made behind it;
 // the period passed over.
-#[derive(Drop)]
+#[derive(Clone, Copy)]
 pub enum Step {
     Copied(Frames),
     Skipped(Frames, Frames),
@@ -44,7 +45,7 @@ pub enum Step {
 }
 
 // The step that is due, and the period record and the sum of the last search after it.
-#[derive(Drop)]
+#[derive(Clone, Copy)]
 pub struct NextStep {
     pub step: Step,
     pub prev: PeriodRecord,
@@ -53,7 +54,7 @@ pub struct NextStep {
 
 // One turn of a call: the step gives more frames than the call may make; or the place after it, its frames, the periods
 // that it passes over, and whether it stalls.
-#[derive(Drop)]
+#[derive(Clone, Copy)]
 pub enum Turn {
     TooMany,
     Went(Place, Frames, usize, bool),
@@ -61,7 +62,7 @@ pub enum Turn {
 
 // What a call gives: the frames made, the frames of the input used, the periods passed over, the sum of its last
 // search, the time error and the period record after it, whether it stalled.
-#[derive(Drop)]
+#[derive(Clone, Copy)]
 pub struct Stretch {
     pub made: Frames,
     pub used: Frames,
@@ -73,7 +74,7 @@ pub struct Stretch {
 }
 
 // The same, or that more frames come out than the call may make.
-#[derive(Drop)]
+#[derive(Clone, Copy)]
 pub enum Stretched {
     Made(Stretch),
     TooMany,

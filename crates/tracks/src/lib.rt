@@ -1,5 +1,6 @@
 // A run, and its output: the head of a WAVE file before it and the sizes at its end, and a named file, which gets its
 // name if the track is whole.
+#![tactic(auto)]
 pub mod files;
 
 ghost use Rattle.std.specs.Prelude.{◌≡◌, true, false};
@@ -16,7 +17,7 @@ use reports::Files;
 use stream::refusals;
 
 // A run with its track ended, and whether the sizes of that could not be set.
-#[derive(Drop)]
+#[derive(Clone, Copy)]
 struct Ending {
     reel: Reel,
     unset: bool,

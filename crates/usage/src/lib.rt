@@ -1,4 +1,5 @@
 // The usage, on standard output, and what is said of bad usage.
+#![tactic(auto)]
 pub fn version() {
     say::line(b"skim (kelpladder) 0.4.0");
 }

@@ -1,6 +1,7 @@
 // Replays stored runs: reads calls from standard input, makes each on the stream that the one before handed back, and
 // prints the answers. The file `stdout` has those of the original, with the refusals of docs/RULES.md;
 // docs/VECTORS.md says how it was made.
+#![tactic(auto)]
 mod replay;
 
 use libc::STDIN_FILENO;

@@ -8,7 +8,7 @@ use transcripts::calls::{flush, make, read, write};
 use transcripts::lent::LentLengths;
 
 // What the lines before have left.
-#[derive(Drop)]
+#[derive(Clone, Copy)]
 struct Session {
     stream: SonicStream,
     lent: LentLengths,

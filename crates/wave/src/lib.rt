@@ -1,5 +1,6 @@
 // RIFF/WAVE files of 16-bit PCM, over lent bytes: reading copies no sample, and nothing is allocated.
 // `specs/Wave.antt` says what is answered.
+#![tactic(auto)]
 ghost use Rattle.std.specs.Prelude.{◌≡◌, ◌+◌, ◌*◌, ◌≤◌, length, take};
 ghost use Rattle.std.proofs.Math.Seq.{paste};
 ghost use Rattle.wave.specs.Wave.{file_of, read_wave, sample_bytes, write_wave};
@@ -9,7 +10,7 @@ use frames::{Frames, Samples};
 use stream::{SonicStream, refusals};
 
 // A file's rate, channels and whole frames, and the byte at which their samples begin.
-#[derive(Drop)]
+#[derive(Clone, Copy)]
 pub struct WaveFile {
     pub rate: u32,
     pub channels: u32,
@@ -18,7 +19,7 @@ pub struct WaveFile {
 }
 
 // The answer of `read_wave`; a refusal has its number.
-#[derive(Drop)]
+#[derive(Clone, Copy)]
 pub enum WaveRead {
     Refused(u32),
     Done(WaveFile),
@@ -26,7 +27,7 @@ pub enum WaveRead {
 
 // The answer of `write_wave`: the bytes of the file. A refusal has its number, and the rate or the channels that were
 // given, or 0.
-#[derive(Drop)]
+#[derive(Clone, Copy)]
 pub enum WaveWritten {
     Refused { number: u32, given: u32 },
     Done(usize),
