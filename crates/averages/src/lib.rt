@@ -1,5 +1,6 @@
 // Averages of neighbouring samples. `specs/Averages.antt` says what each function gives.
 #![tactic(auto)]
+
 ghost use Rattle.std.specs.Prelude.{◌≡◌, [], ◌∷◌, ◌++◌, ◌+◌, ◌≤◌, length, drop};
 ghost use Rattle.averages.specs.Averages.{mean_from, down_sample_input, most_averaged, Averageable};
 
