@@ -1,0 +1,15 @@
+-- `floats::samples::samples_back` meets its contract: one sample more in each turn. Assumes nothing.
+use Rattle.std.proofs.Common.{◌≡◌, ℕ, ◌+◌, ◌-◌, ◌<◌, ◌≤◌, List, map, length, get_or, set, ℤ, pos, sym, refl, ap, ◌∙◌, arith, length-set, to_z-of_z, w16, rules}
+use lib.Ieee.{Float}
+use lib.ListN.{length-map, get_or-map}
+use lib.Seq.{paste, paste-zero}
+use Rattle.frames.proofs.Pasted.{map-turn}
+use Rattle.floats.specs.Write.{sample_in, sample_out}
+use Rattle.floats.proofs.samples.samples_back.Given as goal
+
+abbrev pub invariant-loop-i : goal.invariant-loop-i
+invariant-loop-i l =
+    (l.i ≤ l.n) × (length l.area ≡ length l.initial.area) × (l.area ≡ paste l.initial.area l.t (map sample_in (map sample_out l.source)) l.i)
+
+abbrev pub decreases-loop-i : goal.decreases-loop-i
+decreases-loop-i l = l.n - l.i
