@@ -1,5 +1,5 @@
 -- `floats::casts::f32_to_i32` meets its contract: the wider cast, held to the narrower range (`proofs/Cut.antt`). Assumes nothing.
-use Rattle.std.proofs.Common.{◌≡◌, ℕ, ◌-◌, ◌^◌, ◌<◌, ◌∙◌, arith, w32, w64, SFits, to_z, of_z, rules}
+use Rattle.std.proofs.Common.{◌≡◌, ℕ, ◌-◌, ◌^◌, ◌<◌, ◌∙◌, arith, w32, w64, SFits, to_z, of_z}
 use lib.Signed.{mag}
 use lib.Ieee.{to_signed}
 use lib.Ieee.Casts.{to_signed_in}

@@ -9,7 +9,7 @@ use Rattle.floats.proofs.casts.f64_to_f32.Goals as goal
 use Rattle.floats.proofs.casts.f64_to_f32.Goals.{After-nearest_bits, Start}
 
 held : (c : Start) → T (fits binary64 c.args.x)
-held c = subst T (sym c.well-formed.0.1) tt
+held c = subst T (sym c.well_formed.0.1) tt
 
 pub float_to_bits-x : goal.float_to_bits-x
 float_to_bits-x c = equals_itself c.args.x c.if-x.false

@@ -1,10 +1,10 @@
 -- `floats::narrowing::closest` meets its contract: each arm is one way that twice the remainder compares with m (`proofs/Rounding.antt`). Assumes nothing.
-use Rattle.std.proofs.Common.{mod-lt, div-le_self, arith, rules}
+use Rattle.std.proofs.Common.{mod-lt, div-le_self, arith}
 use Rattle.floats.proofs.Rounding.{closest-below, closest-tie, closest-above}
 use Rattle.floats.proofs.narrowing.closest.Goals as goal
 
 pub overflow_mul-twice : goal.overflow_mul-twice
-overflow_mul-twice c = omega (arith, mod-lt c.args.d c.requires.1.0)
+overflow_mul-twice c = omega (arith, mod-lt c.args.d c.requires.fact_2)
 
 pub overflow_add-result : goal.overflow_add-result
 overflow_add-result c = omega (arith, div-le_self c.args.d c.args.m)

@@ -1,5 +1,5 @@
 -- `floats::narrowing::magnitude` meets its contract: each range of e is a fact of `proofs/NarrowFields.antt`. Assumes nothing.
-use Rattle.std.proofs.Common.{◌≡◌, ℕ, ◌+◌, ◌-◌, ◌*◌, ◌%◌, ◌^◌, ◌<◌, ◌≤◌, sym, ap, ◌∙◌, one-mul, arith, lit<, pow_pos, pow_mono, shl_exact, rules}
+use Rattle.std.proofs.Common.{◌≡◌, ℕ, ◌+◌, ◌-◌, ◌*◌, ◌%◌, ◌^◌, ◌<◌, ◌≤◌, sym, ap, ◌∙◌, one-mul, arith, lit<, pow_pos, pow_mono, shl_exact}
 use lib.Ieee.Nearest.{closest}
 use Rattle.floats.proofs.NarrowBits.{mark}
 use Rattle.floats.proofs.NarrowFields.{tiny-is, low-is, low_le, mid-is, mid_le, high_is, with_lead}
@@ -34,21 +34,28 @@ kept-le : (c : After-closest) → c.closest.result ≤ 2 ^ 23
 kept-le c =
     let s = low c in
     let t = s.args.t in
-    rw (kept c) (low_le (2 ^ 52 + t) (926 - s.args.e) (with_lead t s.requires.1.0) (omega arith))
+    rw (kept c) (low_le (2 ^ 52 + t) (926 - s.args.e) (with_lead t s.requires.fact_2) (omega arith))
 
 -- what is kept of a normal one
 kept-le-2 : (c : After-closest-then-e-lt1151) → c.closest-then-e-lt1151.result ≤ 2 ^ 24
 kept-le-2 c =
     let s = mid c in
-    rw c.closest-then-e-lt1151.ensures (mid_le (2 ^ 52 + s.args.t) (with_lead s.args.t s.requires.1.0))
+    rw c.closest-then-e-lt1151.ensures (mid_le (2 ^ 52 + s.args.t) (with_lead s.args.t s.requires.fact_2))
 
 pub returns-then-e-lt873 : goal.returns-then-e-lt873
-returns-then-e-lt873 c = (λ s. tiny-is s c.args.e c.args.t c.if-e-lt873.true c.requires.1.0, lit< tt)
+returns-then-e-lt873 c = record {
+  t_value = λ s. tiny-is s c.args.e c.args.t c.if-e-lt873.true c.requires.fact_2;
+  upper_bound = lit< tt;
+}
 
 pub closest-requires : goal.closest-requires
 closest-requires c =
     let w = 926 - c.args.e in
-    (omega arith, rw (shifted w (omega arith)) (pow_pos w, pow_mono {i = w} {j = 53} (omega arith)))
+    record {
+      fact_1 = omega arith;
+      fact_2 = rw (shifted w (omega arith)) (pow_pos w);
+      fact_3 = rw (shifted w (omega arith)) (pow_mono {i = w} {j = 53} (omega arith));
+    }
 
 pub overflow_cast-result : goal.overflow_cast-result
 overflow_cast-result c = omega (arith, kept-le c)
@@ -58,7 +65,10 @@ returns-then-e-lt897 c =
     let s = low c in
     let is = sym (kept c) in
     let from : 873 ≤ s.args.e = omega arith in
-    (λ t. low-is t s.args.e s.args.t from c.if-e-lt897.true s.requires.1.0 ∙ (λ i. mark t + is i), omega (arith, kept-le c))
+    record {
+      t_value = λ t. low-is t s.args.e s.args.t from c.if-e-lt897.true s.requires.fact_2 ∙ (λ i. mark t + is i);
+      upper_bound = omega (arith, kept-le c);
+    }
 
 pub overflow_add-result : goal.overflow_add-result
 overflow_add-result c = omega (arith, kept-le-2 c)
@@ -71,12 +81,16 @@ returns-then-e-lt1151 c =
     let s = mid c in
     let e = s.args.e in
     let is = sym c.closest-then-e-lt1151.ensures in
-    let from : 897 ≤ e = omega arith in (
-      λ t. mid-is t e s.args.t from c.if-e-lt1151.true s.requires.1.0 ∙ (λ i. mark t + ((e - 897) * 2 ^ 23 + is i)),
-      omega (arith, kept-le-2 c),
-    )
+    let from : 897 ≤ e = omega arith in
+    record {
+      t_value = λ t. mid-is t e s.args.t from c.if-e-lt1151.true s.requires.fact_2 ∙ (λ i. mark t + ((e - 897) * 2 ^ 23 + is i));
+      upper_bound = omega (arith, kept-le-2 c);
+    }
 
 pub returns : goal.returns
 returns c =
     let s = high c in
-    (λ t. high_is t s.args.e s.args.t c.if-e-lt1151.false s.requires.0 s.requires.1.0 s.requires.1.1, lit< tt)
+    record {
+      t_value = λ t. high_is t s.args.e s.args.t c.if-e-lt1151.false s.requires.fact_1 s.requires.fact_2 s.requires.fact_3;
+      upper_bound = lit< tt;
+    }

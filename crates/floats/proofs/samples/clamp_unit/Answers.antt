@@ -1,5 +1,5 @@
 -- `floats::samples::clamp_unit` meets its contract: what is below -1 becomes -1, which is not above 1. Assumes nothing.
-use Rattle.std.proofs.Common.{◌≡◌, Bool, true, false, cond, sym, refl, ap, ◌∙◌, inl, inr}
+use Rattle.std.proofs.Common.{◌≡◌, Bool, true, false, cond, sym, refl, ap, ◌∙◌}
 use mathlib.Core.Bool.{false≢true}
 use lib.Ieee.{Float, lt, of_bits, neg}
 use Rattle.floats.specs.Numbers.{one}
@@ -17,13 +17,13 @@ minus-one-low = refl
 pub returns-then-y : goal.returns-then-y
 unfolding of_bits neg
 returns-then-y c = elim c.if-x.branch [
-  | inl f ↦ absurd (false≢true (sym minus-one-low ∙ ap (lt one) (sym f.1) ∙ c.if-y.true))
-  | inr f ↦ held-is c.args.x false true f.0.left (ap (lt one) (sym f.1) ∙ c.if-y.true)
+  | goal.then-x w ↦ absurd (false≢true (sym minus-one-low ∙ ap (lt one) (sym w.y-is) ∙ c.if-y.true))
+  | goal.else-x w ↦ held-is c.args.x false true w.if-x.false (ap (lt one) (sym w.y-is) ∙ c.if-y.true)
 ]
 
 pub returns-else-y : goal.returns-else-y
 unfolding of_bits neg
 returns-else-y c = elim c.if-x.branch [
-  | inl f ↦ f.1 ∙ held-is c.args.x true (lt one c.args.x) f.0.taken refl
-  | inr f ↦ f.1 ∙ held-is c.args.x false false f.0.left (ap (lt one) (sym f.1) ∙ c.if-y.false)
+  | goal.then-x w ↦ w.y-is ∙ held-is c.args.x true (lt one c.args.x) w.if-x.true refl
+  | goal.else-x w ↦ w.y-is ∙ held-is c.args.x false false w.if-x.false (ap (lt one) (sym w.y-is) ∙ c.if-y.false)
 ]

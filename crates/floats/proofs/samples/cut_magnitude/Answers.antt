@@ -1,5 +1,5 @@
 -- `floats::samples::cut_magnitude` meets its contract: the digits and the weight fit, and the upper half of their product is the whole part. Assumes nothing.
-use Rattle.std.proofs.Common.{◌≡◌, ℕ, ◌+◌, ◌-◌, ◌*◌, ◌/◌, ◌%◌, ◌^◌, ◌<◌, sym, ap, ◌∙◌, subst, lt_of_lt_of_le, one-mul, arith, lit<, pow_mono, shl_lt, shl_exact, w16, w32, Fits, rules}
+use Rattle.std.proofs.Common.{◌≡◌, ℕ, ◌+◌, ◌-◌, ◌*◌, ◌/◌, ◌%◌, ◌^◌, ◌<◌, sym, ap, ◌∙◌, subst, lt_of_lt_of_le, one-mul, arith, lit<, pow_mono, shl_lt, shl_exact, w16, w32, Fits}
 use lib.Pow.{pow-lt}
 use Rattle.floats.specs.Bits.{exponent_field, cut_magnitude}
 use Rattle.floats.proofs.CutBits.{leading-digits}

@@ -1,5 +1,5 @@
 -- `floats::samples::cut_pattern` meets its contract: the cut by the fields of `proofs/CutBits.antt`, with its sign. Assumes nothing.
-use Rattle.std.proofs.Common.{◌≡◌, ℕ, ◌^◌, ◌<◌, ◌≤◌, Bool, true, false, leb, ℤ, pos, ◌-ℤ◌, neg_ℤ, sym, ap, ◌∙◌, subst, inl, inr, lt_of_lt_of_le, not-le_of_lt, lit≤, le→leb, leb→le, to_z-of_z, w16, w32, SFits, to_z, rules}
+use Rattle.std.proofs.Common.{◌≡◌, ℕ, ◌^◌, ◌<◌, ◌≤◌, Bool, true, false, leb, ℤ, pos, ◌-ℤ◌, neg_ℤ, sym, ap, ◌∙◌, subst, lt_of_lt_of_le, not-le_of_lt, lit≤, le→leb, leb→le, to_z-of_z, w16, w32, SFits, to_z}
 use lib.Dec.{not_T}
 use lib.IntN.{+ℤ_idl}
 use lib.Ieee.Bits.{is_true, is_false}
@@ -33,12 +33,12 @@ value-reads : (c : Joined-b-ge2147483648) → to_z w32 c.if-b-ge2147483648.v-bit
 value-reads c =
     let b = c.args.b in
     elim c.if-b-ge2147483648.branch [
-      | inl f ↦
-          ap (to_z w32) f.1 ∙ to_z-of_z (negated_fits c.before) ∙ negated-is c.before
-          ∙ ap (λ (s : Bool). signed s (cut_magnitude b)) (sym (sign_set b f.0.taken))
-      | inr f ↦
-          ap (to_z w32) f.1 ∙ size-reads c.before
-          ∙ ap (λ (s : Bool). signed s (cut_magnitude b)) (sym (sign_clear b f.0.left))
+      | goal.then-b-ge2147483648 w ↦
+          ap (to_z w32) w.v-is-bits ∙ to_z-of_z (negated_fits c.before) ∙ negated-is c.before
+          ∙ ap (λ (s : Bool). signed s (cut_magnitude b)) (sym (sign_set b w.if-b-ge2147483648.true))
+      | goal.else-b-ge2147483648 w ↦
+          ap (to_z w32) w.v-is-bits ∙ size-reads c.before
+          ∙ ap (λ (s : Bool). signed s (cut_magnitude b)) (sym (sign_clear b w.if-b-ge2147483648.false))
     ]
 
 value-fits : (c : Joined-b-ge2147483648) → SFits w16 (to_z w32 c.if-b-ge2147483648.v-bits)

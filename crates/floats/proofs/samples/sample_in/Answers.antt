@@ -1,5 +1,5 @@
 -- `floats::samples::sample_in` meets its contract: the product's fields are those of a size from 1 to 32767, or it is cut to 0. Assumes nothing.
-use Rattle.std.proofs.Common.{◌≡◌, ◌≤◌, T, ℤ, pos, nat_abs, sym, ap, ◌∙◌, subst, inl, inr, true≢false, lit≤, w16, to_z, of_z, rules}
+use Rattle.std.proofs.Common.{◌≡◌, ◌≤◌, T, ℤ, pos, nat_abs, sym, ap, ◌∙◌, subst, true≢false, lit≤, w16, to_z, of_z}
 use lib.Ieee.{Float, binary32, fits, mul, neg, of_bits, to_signed}
 use lib.Ieee.Bits.{of_bits-to_bits}
 use lib.Ieee.Casts.{to_signed_in}
@@ -27,7 +27,7 @@ reaches-one : (c : Then-p-2) → AtLeastOne (product c.before.before)
 unfolding of_bits neg
 reaches-one c =
     let p = product c.before.before in
-    elim c.if-p.branch [ inl f ↦ one-le p (yes f.0.taken) | inr f ↦ le-minus-one p (yes (sym f.1 ∙ c.if-p-2.true)) ]
+    elim c.if-p.branch [ goal.then-p w ↦ one-le p (yes w.if-p.true) | goal.else-p w ↦ le-minus-one p (yes (sym w.value-is ∙ c.if-p-2.true)) ]
 
 pub float_to_bits-p : goal.float_to_bits-p
 float_to_bits-p c = at_least_no_nan (product c.before.before) (reaches-one c)
@@ -58,7 +58,7 @@ returns-else-p-2 c =
     let a = c.before.before in
     let p = product a in
     let none : to_signed 15 p ≡ pos 0 = elim c.if-p.branch [
-      | inl f ↦ absurd (true≢false (sym f.0.taken ∙ sym f.1 ∙ c.if-p-2.false))
-      | inr f ↦ below_one p (no f.0.left) (no (sym f.1 ∙ c.if-p-2.false))
+      | goal.then-p w ↦ absurd (true≢false (sym w.if-p.true ∙ sym w.value-is ∙ c.if-p-2.false))
+      | goal.else-p w ↦ below_one p (no w.if-p.false) (no (sym w.value-is ∙ c.if-p-2.false))
     ] in
     (sym none ∙ ap (to_signed 15) (product_is a), lit≤ tt)

@@ -1,5 +1,4 @@
-
-use Rattle.std.proofs.Common.{ℤ, ap, ◌∙◌, w16, rules}
+use Rattle.std.proofs.Common.{ℤ, ap, ◌∙◌, w16}
 use lib.Ieee.{binary32, of_int, of_bits}
 use mir.ValLaws.{to_z-of_z}
 use Rattle.floats.proofs.SampleOut.{by_product, sample_out-by-product}

@@ -1,9 +1,6 @@
 -- `floats::samples::samples_back` meets its contract: one sample more in each turn. Assumes nothing.
-use Rattle.std.proofs.Common.{◌≡◌, ℕ, ◌+◌, ◌-◌, ◌<◌, ◌≤◌, List, map, length, get_or, set, ℤ, pos, sym, refl, ap, ◌∙◌, arith, length-set, to_z-of_z, w16, rules}
-use lib.Ieee.{Float}
-use lib.ListN.{length-map, get_or-map}
-use lib.Seq.{paste, paste-zero}
-use Rattle.frames.proofs.Pasted.{map-turn}
+use Rattle.std.proofs.Common.{◌≡◌, ◌-◌, ◌≤◌, map, length}
+use lib.Seq.{paste}
 use Rattle.floats.specs.Write.{sample_in, sample_out}
 use Rattle.floats.proofs.samples.samples_back.Given as goal
 

@@ -1,28 +1,18 @@
 -- `floats::samples::samples_out` meets its contract: one value more in each turn. Assumes nothing.
-use Rattle.std.proofs.Common.{◌≡◌, ℕ, ◌+◌, ◌-◌, ◌<◌, ◌≤◌, List, map, length, get_or, set, pos, sym, refl, ap, ◌∙◌, arith, length-set, to_z-of_z, w16, rules}
+use Rattle.std.proofs.Common.{◌≡◌, ℕ, ◌+◌, ◌<◌, List, map, length, get_or, set, pos, sym, refl, ap, ◌∙◌, arith, length-set, to_z-of_z, w16}
 use lib.Ieee.{Float}
 use lib.Seq.{paste, paste-zero}
 use Rattle.frames.proofs.Pasted.{map-turn}
 use Rattle.floats.specs.Write.{sample_out}
 use Rattle.floats.proofs.samples.samples_out.Goals as goal
-use Rattle.floats.proofs.samples.samples_out.Goals.{After-sample_out-x, At-loop-i, Start}
-
--- ---- places, and what is known there
-
-abbrev start : At-loop-i → Start
-start l = l.before.before
-
--- a sample is made a value
-abbrev turn : After-sample_out-x → At-loop-i
-turn c = c.before.before.before
 
 pub loop-i-init : goal.loop-i-init
 loop-i-init c = (omega arith, refl, paste-zero c.args.slice.now 0 (map sample_out c.args.area.now))
 
 pub loop-i-preserved : goal.loop-i-preserved
 loop-i-preserved c =
-    let l = (turn c).loop-i in
-    let a = (start (turn c)).args in
+    let l = c.loop-i in
+    let a = c.args in
     let h : 0 + l.i < length a.slice.now = omega arith in
     let k : l.i < length a.area.now = omega arith in
     let at : 0 + l.i ≡ l.i = omega arith in
@@ -36,6 +26,6 @@ loop-i-preserved c =
 pub returns : goal.returns
 returns c =
     let l = c.loop-i in
-    let a = (start c.before).args in
+    let a = c.args in
     let e : l.i ≡ a.count.0 = omega arith in
     l.invariant.2 ∙ ap (paste a.slice.now 0 (map sample_out a.area.now)) e

@@ -1,8 +1,6 @@
 -- `floats::samples::samples_out` meets its contract: one value more in each turn. Assumes nothing.
-use Rattle.std.proofs.Common.{◌≡◌, ℕ, ◌+◌, ◌-◌, ◌<◌, ◌≤◌, List, map, length, get_or, set, pos, sym, refl, ap, ◌∙◌, arith, length-set, to_z-of_z, w16, rules}
-use lib.Ieee.{Float}
-use lib.Seq.{paste, paste-zero}
-use Rattle.frames.proofs.Pasted.{map-turn}
+use Rattle.std.proofs.Common.{◌≡◌, ◌-◌, ◌≤◌, map, length}
+use lib.Seq.{paste}
 use Rattle.floats.specs.Write.{sample_out}
 use Rattle.floats.proofs.samples.samples_out.Given as goal
 

@@ -1,5 +1,4 @@
 -- `floats::scales::gain` meets its contract. Assumes nothing.
-use Rattle.std.proofs.Common.{rules}
 use lib.Ieee.{of_bits}
 use Rattle.floats.specs.Scales.{gain}
 use Rattle.floats.proofs.scales.gain.Goals as goal

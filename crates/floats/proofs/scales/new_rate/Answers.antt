@@ -1,5 +1,5 @@
 -- `floats::scales::new_rate` meets its contract. Assumes nothing.
-use Rattle.std.proofs.Common.{◌^◌, le→leb, rules}
+use Rattle.std.proofs.Common.{◌^◌, le→leb}
 use lib.Ieee.{in_float}
 use Rattle.floats.specs.Scales.{new_rate}
 use Rattle.floats.proofs.scales.new_rate.Goals as goal

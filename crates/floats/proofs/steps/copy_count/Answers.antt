@@ -1,5 +1,5 @@
 -- `floats::steps::copy_count` meets its contract (`proofs/CopyCount.antt`). Assumes nothing.
-use Rattle.std.proofs.Common.{◌≡◌, ℕ, ◌^◌, ◌<◌, ◌≤◌, Bool, true, false, cond, T, nat_abs, sym, ap, ◌∙◌, le_refl, arith, w32, w64, Fits, to_z, of_z, rules}
+use Rattle.std.proofs.Common.{◌≡◌, ℕ, ◌^◌, ◌<◌, ◌≤◌, Bool, true, false, cond, T, nat_abs, sym, ap, ◌∙◌, le_refl, arith, w32, w64, Fits, to_z, of_z}
 use lib.Signed.{mag, non_neg}
 use lib.Ieee.{Float, lt, to_signed}
 use lib.Ieee.Casts.{to_signed_in}

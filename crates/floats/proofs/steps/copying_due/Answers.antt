@@ -1,5 +1,5 @@
 -- `floats::steps::copying_due` meets its contract: the two tests, one after the other. Assumes nothing.
-use Rattle.std.proofs.Common.{◌||◌, ◌∙◌, rules}
+use Rattle.std.proofs.Common.{◌||◌, ◌∙◌}
 use lib.Ieee.{of_bits}
 use Rattle.floats.specs.Steps.{copying_due}
 use Rattle.floats.proofs.steps.copying_due.Goals as goal

@@ -1,5 +1,5 @@
 -- `floats::steps::error_copied` meets its contract. Assumes nothing.
-use Rattle.std.proofs.Common.{◌≡◌, ap, ◌∙◌, rules}
+use Rattle.std.proofs.Common.{◌≡◌, ap, ◌∙◌}
 use lib.Ieee.{Float, binary32, binary64, of_bits, add, sub, mul, div}
 use Rattle.floats.specs.Numbers.{one, count, narrow}
 use Rattle.floats.specs.Steps.{error_copied}

@@ -1,5 +1,5 @@
 -- `floats::steps::error_inserted` meets its contract. Assumes nothing.
-use Rattle.std.proofs.Common.{◌≡◌, true, false, rules}
+use Rattle.std.proofs.Common.{◌≡◌, true, false}
 use lib.Ieee.{of_bits, lt}
 use Rattle.floats.specs.Numbers.{half}
 use Rattle.floats.specs.Steps.{error_inserted}

@@ -1,5 +1,4 @@
 -- `floats::steps::error_moved` meets its contract. Assumes nothing.
-use Rattle.std.proofs.Common.{rules}
 use lib.Ieee.{binary32, add, sub, mul, div}
 use Rattle.floats.specs.Steps.{error_moved}
 use Rattle.floats.proofs.steps.error_moved.Goals as goal

@@ -1,5 +1,5 @@
 -- `floats::steps::insert_count` meets its contract. Assumes nothing.
-use Rattle.std.proofs.Common.{◌≡◌, max, true, false, sym, ap, ◌∙◌, le_refl, arith, rules}
+use Rattle.std.proofs.Common.{◌≡◌, max, true, false, sym, ap, ◌∙◌, le_refl, arith}
 use lib.Ieee.{binary32, of_bits, sub, mul, div, le, to_unsigned}
 use Rattle.floats.specs.Numbers.{half, one}
 use Rattle.floats.specs.Steps.{insert_count}

@@ -1,5 +1,5 @@
 -- `floats::steps::skip_count` meets its contract. Assumes nothing.
-use Rattle.std.proofs.Common.{◌≡◌, true, false, sym, ◌∙◌, le_refl, arith, rules}
+use Rattle.std.proofs.Common.{◌≡◌, true, false, sym, ◌∙◌, le_refl, arith}
 use lib.Ieee.{binary32, of_bits, sub, div, le, to_unsigned}
 use Rattle.floats.specs.Numbers.{one, two}
 use Rattle.floats.specs.Steps.{skip_count}

@@ -1,5 +1,5 @@
 -- `floats::steps::to_copy` meets its contract. Assumes nothing.
-use Rattle.std.proofs.Common.{◌∙◌, rules}
+use Rattle.std.proofs.Common.{◌∙◌}
 use lib.Ieee.{binary64, of_bits, mul, div, sub}
 use Rattle.floats.specs.Numbers.{narrow, one}
 use Rattle.floats.specs.Steps.{to_copy}

@@ -1,5 +1,5 @@
 -- `floats::times::expected_frames` meets its contract. Assumes nothing.
-use Rattle.std.proofs.Common.{◌∙◌, rules}
+use Rattle.std.proofs.Common.{◌∙◌}
 use lib.Ieee.{binary32, of_bits, add, div, to_unsigned}
 use Rattle.floats.specs.Numbers.{half}
 use Rattle.floats.specs.Flush.{expected_frames}

@@ -1,5 +1,4 @@
 -- `floats::times::local_speed` meets its contract. Assumes nothing.
-use Rattle.std.proofs.Common.{rules}
 use lib.Ieee.{binary32, mul, div}
 use Rattle.floats.specs.Write.{local_speed}
 use Rattle.floats.proofs.times.local_speed.Goals as goal

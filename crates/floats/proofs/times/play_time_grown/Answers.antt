@@ -1,5 +1,4 @@
 -- `floats::times::play_time_grown` meets its contract. Assumes nothing.
-use Rattle.std.proofs.Common.{rules}
 use lib.Ieee.{binary32, add, mul, div}
 use Rattle.floats.specs.Write.{play_time_grown}
 use Rattle.floats.proofs.times.play_time_grown.Goals as goal

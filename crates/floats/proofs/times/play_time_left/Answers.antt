@@ -1,5 +1,4 @@
 -- `floats::times::play_time_left` meets its contract. Assumes nothing.
-use Rattle.std.proofs.Common.{rules}
 use lib.Ieee.{binary32, mul, div}
 use Rattle.floats.specs.Write.{play_time_left}
 use Rattle.floats.proofs.times.play_time_left.Goals as goal

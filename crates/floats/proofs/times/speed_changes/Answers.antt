@@ -1,5 +1,5 @@
 -- `floats::times::speed_changes` meets its contract: the literals of the code are the two fractions, rounded to an `f64`. Assumes nothing.
-use Rattle.std.proofs.Common.{◌≡◌, Bool, true, false, ◌||◌, refl, rules}
+use Rattle.std.proofs.Common.{◌≡◌, Bool, true, false, ◌||◌, refl}
 use lib.Ieee.{Float, binary64, round, of_bits, lt}
 use Rattle.floats.specs.Write.{speed_changes}
 use Rattle.floats.proofs.times.speed_changes.Goals as goal
