@@ -7,7 +7,7 @@ use native.Mathlib.Omega.{arith}
 use lib.IntN.{ℤ, nat_abs, ◌+ℤ◌, ◌*ℤ◌}
 use lib.Signed.{shr_z, mag_shr, nat_abs-le}
 use mir.Syntax.{w16, w32, w64}
-use mir.Val.{SFits, to_z}
+use mir.Val.{SFits}
 use mir.Facts.{to_z-of_z}
 use Rattle.laws.proofs.Integers.{sfits-of-nat_abs, mag-le-nat_abs, nat_abs-add-le, nat_abs_mul}
 use Rattle.laws.proofs.Widening.{i16, i32, i64, widened-fits, widened-reads}
@@ -62,7 +62,7 @@ shifted_fits : (z : ℤ) (m : ℕ) → nat_abs z ≤ limit sinc_filter_points �
 shifted_fits z m h = record { sfits = lt_of_le_of_lt (mag_shr z m) (omega (arith, mag-le-nat_abs z)) }
 
 -- what the code holds: z, read back from `sum`, and shifted
-pub held-is : {value : ℤ} (sum : ℕ) (z : ℤ) (m : ℕ) → to_z w64 sum ≡ z → nat_abs z ≤ limit sinc_filter_points → value ≡ held_sample (i64 (shr_z (to_z w64 sum) m))
+pub held-is : {value : ℤ} (sum z : ℤ) (m : ℕ) → sum ≡ z → nat_abs z ≤ limit sinc_filter_points → value ≡ held_sample (i64 (shr_z sum m))
     → value ≡ held_sample (shr_z z m)
 held-is sum z m e small v = v ∙ ap held_sample (rw e (to_z-of_z (shifted_fits z m small)))
 

@@ -1,4 +1,5 @@
--- S, `SINC_TABLE` of the Rust original: 601 entries, ten to a line. `negsuc n` is −(n + 1). Definitions only. Assumes nothing.
+-- S, `SINC_TABLE` of the Rust original: 601 entries, ten to a line. `negsuc n` is −(n + 1). Definitions only.
+-- Assumes nothing.
 use Rattle.std.specs.Prelude.{List, [], ◌∷◌, ℕ, ℤ, pos, negsuc}
 
 -- its entries: 12 lobes of 50 points, and the end

@@ -1,5 +1,6 @@
 // The filter table of the rate conversion, and interpolated samples and frames.
 #![tactic(auto)]
+
 pub mod phases;
 pub mod table;
 
@@ -134,7 +135,8 @@ fn hold(z: i64) -> i16
 // One sample: the 12 taps of a channel, the first at `from`, each times its weight, the first at `at`.
 fn interpolate(stage: &[i16], from: Samples, channels: usize, weights: &[i32], at: usize) -> i16
     requires channels_in_bounds { from.0 + (sinc_filter_points - 1) * channels < length stage.now }
-    requires sinc_filter_points_in_bounds { (at + sinc_filter_points ≤ length weights.now) × SmallWeights at weights.now }
+    requires sinc_filter_points_in_bounds { (at + sinc_filter_points ≤ length weights.now)
+        × SmallWeights at weights.now }
     ensures { result ≡ weighted_sample (λ i. get_or stage.now (from.0 + i * channels) (pos 0))
         (λ i. get_or weights.now (at + i) (pos 0)) }
 {
@@ -163,7 +165,8 @@ pub fn ratio_frame(
     output: &mut [i16],
     to: Samples,
 )
-    requires table_value { (table.now ≡ sinc_table) × (ratio < width) × (width ≤ max_width) × (reciprocal ≡ reciprocal_of width) }
+    requires table_value { (table.now ≡ sinc_table) × (ratio < width) × (width ≤ max_width)
+        × (reciprocal ≡ reciprocal_of width) }
     requires channels_in_bounds { (from.0 + sinc_filter_points * channels ≤ length stage.now)
         × (to.0 + channels ≤ length output.old) }
     ensures { output.new ≡ paste output.old to.0

@@ -44,7 +44,8 @@ pub fn weighted_frame(
     output: &mut [i16],
     to: Samples,
 )
-    requires sinc_filter_points_in_bounds { (at + sinc_filter_points ≤ length weights.now) × SmallWeights at weights.now }
+    requires sinc_filter_points_in_bounds { (at + sinc_filter_points ≤ length weights.now)
+        × SmallWeights at weights.now }
     requires channels_in_bounds { (from.0 + sinc_filter_points * channels ≤ length stage.now)
         × (to.0 + channels ≤ length output.old) }
     ensures { output.new ≡ paste output.old to.0

@@ -3,7 +3,8 @@
 // The entries of the table.
 pub const SINC_TABLE_SIZE: usize = 601;
 
-// S of the rate conversion. A caller takes it once, by `sinc_table`, and lends it: indexed here it would be built anew at each use.
+// S of the rate conversion. A caller takes it once, by `sinc_table`, and lends it: indexed here it would be built anew
+// at each use.
 pub const SINC_TABLE: [i16; SINC_TABLE_SIZE] = [
     0, 0, 0, 0, 0, 0, 0, -1, -1, -2, -2, -3, -4, -6, -7, -9, -10, -12, -14, -17, -19, -21, -24,
     -26, -29, -32, -34, -37, -40, -42, -44, -47, -48, -50, -51, -52, -53, -53, -53, -52, -50, -48,

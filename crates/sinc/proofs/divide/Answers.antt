@@ -5,19 +5,16 @@ use native.Mathlib.Omega.{arith}
 use Rattle.laws.specs.Reciprocal.{reciprocal_parts, reciprocal_of}
 use Rattle.laws.proofs.Reciprocal.{reciprocal-divides, product_le}
 use Rattle.sinc.proofs.Coefficient.{reciprocal-serves}
-use Rattle.sinc.proofs.divide.Statement.{statement}
-use Rattle.sinc.proofs.divide.Tie as tie
+use Rattle.sinc.proofs.divide.Goals as goal
+use Rattle.sinc.proofs.divide.Goals.{Start}
 
-product_is : (c : tie.Start) → c.args.size * c.args.reciprocal ≡ c.args.size * reciprocal_of c.args.width
+product_is : (c : Start) → c.args.size * c.args.reciprocal ≡ c.args.size * reciprocal_of c.args.width
 product_is c = ap (λ (n : ℕ). c.args.size * n) c.requires.3
 
-mul-result : tie.Need-overflow-mul-result
-mul-result c = record { fits = omega (arith, product_is c, product_le c.args.size c.args.width 65534 c.requires.2, c.requires.1) }
+pub overflow_mul-result : goal.overflow_mul-result
+overflow_mul-result c = record { fits = omega (arith, product_is c, product_le c.args.size c.args.width 65534 c.requires.2, c.requires.1) }
 
-returns : tie.Need-returns
+pub returns : goal.returns
 returns c =
     ap (λ (n : ℕ). n / reciprocal_parts) (product_is c)
     ∙ reciprocal-divides c.args.size c.args.width c.requires.0 (reciprocal-serves c.args.size c.args.width c.requires.1 c.requires.2)
-
-pub divide-spec : {M : Type 1} → statement M
-divide-spec = tie.close (tie.spec mul-result returns)
