@@ -1,5 +1,6 @@
 // Counts of frames and of samples, and areas of samples: copying, silence, removing from the front.
 #![tactic(auto)]
+
 ghost use Rattle.std.specs.Prelude.{◌≡◌, ◌+◌, ◌*◌, ◌/◌, ◌^◌, ◌≤◌, ◌<◌, pos, length, drop, replicate};
 ghost use Rattle.std.proofs.Math.Seq.{paste};
 ghost use Rattle.frames.specs.Removal.{FrontRemoved};

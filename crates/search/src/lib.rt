@@ -2,6 +2,7 @@
 // what each function gives; `choice` has the choice of ties as a number, `outward` the search for one candidate from a
 // period nearby outward.
 #![tactic(auto)]
+
 mod choice;
 mod outward;
 

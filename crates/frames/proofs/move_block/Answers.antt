@@ -1,5 +1,4 @@
 -- `frames::move_block` meets its contract: a block holds what was copied to it, and is copied on. Assumes nothing.
-use borrow.Author.Rules.{rules}
 use mathlib.Core.Path.{◌≡◌, ◌∙◌}
 use mathlib.Core.List.{List}
 use Prim.Native.Nat.{◌≤◌}

@@ -1,12 +1,11 @@
 -- `frames::move_blocks` meets its contract: a block more in each turn. Assumes nothing.
-use borrow.Author.Rules.{rules}
-use mathlib.Core.Path.{◌≡◌, refl, ◌∙◌}
+use mathlib.Core.Path.{refl, ◌∙◌}
 use mathlib.Core.List.{List}
-use Prim.Native.Nat.{◌+◌, ◌-◌, ◌≤◌}
+use Prim.Native.Nat.{◌+◌, ◌≤◌}
 use native.Mathlib.Omega.{arith}
 use lib.IntN.{ℤ}
-use lib.ListN.{length, drop}
-use lib.Seq.{paste, paste-zero}
+use lib.ListN.{drop}
+use lib.Seq.{paste-zero}
 use Rattle.frames.proofs.Removal.{moved_on}
 use Rattle.frames.proofs.move_blocks.Goals as goal
 

@@ -1,13 +1,8 @@
 -- `frames::move_blocks` meets its contract: a block more in each turn. Assumes nothing.
-use borrow.Author.Rules.{rules}
-use mathlib.Core.Path.{◌≡◌, refl, ◌∙◌}
-use mathlib.Core.List.{List}
-use Prim.Native.Nat.{◌+◌, ◌-◌, ◌≤◌}
-use native.Mathlib.Omega.{arith}
-use lib.IntN.{ℤ}
+use mathlib.Core.Path.{◌≡◌}
+use Prim.Native.Nat.{◌-◌, ◌≤◌}
 use lib.ListN.{length, drop}
-use lib.Seq.{paste, paste-zero}
-use Rattle.frames.proofs.Removal.{moved_on}
+use lib.Seq.{paste}
 use Rattle.frames.proofs.move_blocks.Given as goal
 
 abbrev pub invariant-loop-i : goal.invariant-loop-i

@@ -1,6 +1,4 @@
 -- `frames::remove_front` meets its contract: nothing is moved, or whole blocks and then the rest. Assumes nothing.
-use borrow.Author.Rules.{rules}
-use borrow.Author.Tests.{eqb-true}
 use mathlib.Core.Path.{◌≡◌, ap, ◌∙◌}
 use mathlib.Core.List.{List}
 use mathlib.Core.Logic.{⊎_elim}

@@ -1,13 +1,9 @@
 -- `frames::silence` meets its contract: one sample more in each turn. Assumes nothing.
-use borrow.Author.Rules.{rules}
-use mathlib.Core.Path.{◌≡◌, refl, ap, ◌∙◌}
-use mathlib.Core.List.{List}
-use Prim.Native.Nat.{◌+◌, ◌-◌, ◌≤◌, ◌<◌}
-use native.Mathlib.Omega.{arith}
-use lib.IntN.{ℤ, pos}
-use lib.ListN.{length, set, length-set, replicate}
-use lib.Seq.{paste, paste-zero}
-use Rattle.frames.proofs.Pasted.{silence-turn}
+use mathlib.Core.Path.{◌≡◌}
+use Prim.Native.Nat.{◌-◌, ◌≤◌}
+use lib.IntN.{pos}
+use lib.ListN.{length, replicate}
+use lib.Seq.{paste}
 use Rattle.frames.proofs.silence.Given as goal
 
 abbrev pub invariant-loop-i : goal.invariant-loop-i

@@ -1,5 +1,4 @@
 -- `search::candidate_at` meets its contract: the sum of all differences is D(q). Assumes nothing.
-use borrow.Author.Rules.{rules}
 use Rattle.search.proofs.Candidates.{sum-whole}
 use Rattle.search.proofs.candidate_at.Goals as goal
 

@@ -1,13 +1,12 @@
 -- `search::find_pitch_period_in_range` meets its contract: at period q the two candidates are those of the range up to q.
 -- Assumes nothing.
-use borrow.Author.Rules.{rules}
 use mathlib.Core.Path.{◌≡◌, ◌∙◌, ap}
-use Prim.Native.Nat.{◌+◌, ◌-◌, ◌≤◌}
+use Prim.Native.Nat.{◌+◌, ◌≤◌}
 use native.Mathlib.Nat.{le_refl}
 use native.Mathlib.Omega.{arith}
 use Rattle.search.specs.declared.Ties.{Ties}
 use Rattle.search.specs.Ties.{ties_of}
-use Rattle.search.specs.Search.{lesser, greater, best, worst, found_of, find_pitch_period_in_range, Bounded}
+use Rattle.search.specs.Search.{lesser, greater, best, worst, found_of, find_pitch_period_in_range}
 use Rattle.search.proofs.Candidates.{searchable-within, ties-back, sweep-first, sweep-one, sweep-two}
 use Rattle.search.proofs.find_pitch_period_in_range.Goals as goal
 use Rattle.search.proofs.find_pitch_period_in_range.Goals.{After-candidate_at-last, After-found_of, After-greater, After-neighbours_from-two, After-next-1, After-ties_number-at_tie, At-loop-period, Else-period-max_period, Start}

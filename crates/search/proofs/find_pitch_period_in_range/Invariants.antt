@@ -1,14 +1,9 @@
 -- `search::find_pitch_period_in_range` meets its contract: at period q the two candidates are those of the range up to q.
 -- Assumes nothing.
-use borrow.Author.Rules.{rules}
-use mathlib.Core.Path.{◌≡◌, ◌∙◌, ap}
-use Prim.Native.Nat.{◌+◌, ◌-◌, ◌≤◌}
-use native.Mathlib.Nat.{le_refl}
-use native.Mathlib.Omega.{arith}
-use Rattle.search.specs.declared.Ties.{Ties}
+use mathlib.Core.Path.{◌≡◌}
+use Prim.Native.Nat.{◌-◌, ◌≤◌}
 use Rattle.search.specs.Ties.{ties_of}
-use Rattle.search.specs.Search.{lesser, greater, best, worst, found_of, find_pitch_period_in_range, Bounded}
-use Rattle.search.proofs.Candidates.{searchable-within, ties-back, sweep-first, sweep-one, sweep-two}
+use Rattle.search.specs.Search.{best, worst, Bounded}
 use Rattle.search.proofs.find_pitch_period_in_range.Given as goal
 
 abbrev pub invariant-loop-period : goal.invariant-loop-period

@@ -1,5 +1,4 @@
 -- `search::found_of` meets its contract: the mean of differences is at most the widest. Assumes nothing.
-use borrow.Author.Rules.{rules}
 use mathlib.Core.Path.{refl}
 use Rattle.search.proofs.Candidates.{mean-le}
 use Rattle.search.proofs.found_of.Goals as goal

@@ -1,8 +1,6 @@
 -- `search::gaps_from` meets its contract: after i turns the sum is that of i differences. Assumes nothing.
-use borrow.Author.Rules.{rules}
-use Prim.Native.Nat.{◌+◌, ◌-◌, ◌≤◌}
-use native.Mathlib.Omega.{arith}
-use Rattle.search.proofs.Candidates.{Sum, sum-none, sum_more, sum-at}
+use Prim.Native.Nat.{◌-◌, ◌≤◌}
+use Rattle.search.proofs.Candidates.{Sum}
 use Rattle.search.proofs.gaps_from.Given as goal
 
 abbrev pub invariant-loop-i : goal.invariant-loop-i

@@ -1,6 +1,6 @@
 -- `search::neighbours_from` meets its contract: after i turns the sums are those of i differences of each period. Assumes nothing.
 use borrow.Author.Rules.{rules}
-use Prim.Native.Nat.{◌+◌, ◌-◌, ◌≤◌}
+use Prim.Native.Nat.{◌+◌}
 use native.Mathlib.Omega.{arith}
 use Rattle.search.proofs.Candidates.{Sum, sum-none, sum_more, sum-at, sum-whole}
 use Rattle.search.proofs.neighbours_from.Goals as goal

@@ -6,7 +6,7 @@ use native.Mathlib.Omega.{arith}
 use native.Mathlib.Nat.{le_refl}
 use Rattle.search.specs.declared.Ties.{Ties}
 use Rattle.search.specs.Ties.{ties_of}
-use Rattle.search.specs.Search.{candidate, lesser, best, Bounded}
+use Rattle.search.specs.Search.{candidate, lesser, best}
 use Rattle.search.proofs.Candidates.{searchable-within, ties-back}
 use Rattle.search.proofs.Downward.{other-is, best-less}
 use Rattle.search.proofs.outward.best_in_range.Goals as goal

@@ -1,5 +1,4 @@
 -- `search::outward::candidate_in_range` meets its contract: one search for each thing wanted. Assumes nothing.
-use borrow.Author.Rules.{rules}
 use Rattle.search.specs.Outward.{wanted_in}
 use Rattle.search.proofs.outward.candidate_in_range.Goals as goal
 

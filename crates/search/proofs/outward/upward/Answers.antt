@@ -1,10 +1,9 @@
 -- `search::outward::upward` meets its contract: at period q the candidate is the best of low..=q. Assumes nothing.
 use borrow.Author.Rules.{rules}
 use mathlib.Core.Path.{◌≡◌, refl, ap, ◌∙◌}
-use Prim.Native.Nat.{◌-◌, ◌≤◌}
 use native.Mathlib.Omega.{arith}
 use Rattle.search.specs.Ties.{ties_of}
-use Rattle.search.specs.Search.{lesser, best, Bounded}
+use Rattle.search.specs.Search.{lesser, best}
 use Rattle.search.proofs.Candidates.{sweep-first, sweep-one}
 use Rattle.search.proofs.outward.upward.Goals as goal
 

@@ -1,11 +1,8 @@
 -- `search::outward::upward` meets its contract: at period q the candidate is the best of low..=q. Assumes nothing.
-use borrow.Author.Rules.{rules}
-use mathlib.Core.Path.{◌≡◌, refl, ap, ◌∙◌}
+use mathlib.Core.Path.{◌≡◌}
 use Prim.Native.Nat.{◌-◌, ◌≤◌}
-use native.Mathlib.Omega.{arith}
 use Rattle.search.specs.Ties.{ties_of}
-use Rattle.search.specs.Search.{lesser, best, Bounded}
-use Rattle.search.proofs.Candidates.{sweep-first, sweep-one}
+use Rattle.search.specs.Search.{best, Bounded}
 use Rattle.search.proofs.outward.upward.Given as goal
 
 abbrev pub invariant-loop-period : goal.invariant-loop-period

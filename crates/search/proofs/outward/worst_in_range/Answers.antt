@@ -1,9 +1,8 @@
 -- `search::outward::worst_in_range` meets its contract: at period q the candidate is the worst of low..=q. Assumes nothing.
 use borrow.Author.Rules.{rules}
 use mathlib.Core.Path.{◌≡◌, refl, ap, ◌∙◌}
-use Prim.Native.Nat.{◌-◌, ◌≤◌}
 use native.Mathlib.Omega.{arith}
-use Rattle.search.specs.Search.{greater, worst, Bounded}
+use Rattle.search.specs.Search.{greater, worst}
 use Rattle.search.proofs.Candidates.{sweep-first, sweep-one}
 use Rattle.search.proofs.outward.worst_in_range.Goals as goal
 
