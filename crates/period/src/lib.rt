@@ -1,6 +1,7 @@
 // The pitch period of the stretch. `rates`: what follows from the rate; `pitch`: the period that a step uses. `specs/`
 // says what each function gives.
 #![tactic(auto)]
+
 mod pitch;
 mod rates;
 
