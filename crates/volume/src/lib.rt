@@ -1,5 +1,6 @@
 // Volume: `scale_samples` of the Rust original. `specs/Volume.antt` says what it gives.
 #![tactic(auto)]
+
 ghost use Rattle.std.specs.Prelude.{◌≡◌, map, ◌+◌, ◌≤◌, T, pos, nat_abs, length, drop};
 ghost use Rattle.std.specs.Float.Ieee.{le};
 ghost use Rattle.std.proofs.Math.Seq.{paste};
