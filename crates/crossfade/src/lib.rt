@@ -1,6 +1,7 @@
 // Crossfades: `overlap_add`, and the frames that copy, skip or insert a pitch period. `specs/Crossfade.antt` says what
 // each function gives.
 #![tactic(auto)]
+
 mod crossfades;
 mod periods;
 
