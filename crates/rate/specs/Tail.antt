@@ -1,6 +1,7 @@
 -- docs/RULES.md, "Rate": the frames that tail frames make, and the positions. In r, `.new` is N and `.old` is O; in s,
 -- `.old` is p and `.new` is n. Definitions only.
-use Rattle.std.specs.Prelude.{◌≡◌, cond, List, [], ◌∷◌, ◌++◌, ℕ, zero, suc, ◌+◌, ◌-◌, ◌*◌, ◌/◌, ◌<◌, eqb, pos, length, take, drop, get_or}
+use Rattle.std.specs.Prelude.{◌≡◌, cond, List, [], ◌∷◌, ◌++◌, ℕ, zero, suc, ◌+◌, ◌-◌, ◌*◌, ◌/◌, ◌<◌, eqb, pos}
+use Rattle.std.specs.Prelude.{length, take, drop, get_or}
 use Rattle.frames.specs.Framing.{Frame}
 use Rattle.sinc.specs.Sinc.{sinc_filter_points, tabulate, interpolate}
 use Rattle.rate.specs.declared.Rates.{Rates}

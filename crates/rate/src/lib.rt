@@ -1,5 +1,6 @@
 // Rate conversion: `adjust_rate` of the Rust original. `specs/Conversion.antt` says what it gives.
 #![tactic(auto)]
+
 mod phases;
 mod scan;
 

@@ -1,5 +1,4 @@
 -- `rate::scan::make_frame` meets its contract: by the coefficients kept for the phase, or by those of its ratio. Assumes nothing.
-use borrow.Author.Rules.{rules}
 use mathlib.Core.Path.{◌≡◌, sym, ap, ◌∙◌}
 use mathlib.Core.List.{List}
 use Prim.Native.Nat.{ℕ, ◌+◌, ◌-◌, ◌*◌, ◌≤◌, ◌<◌}
@@ -14,12 +13,12 @@ use Rattle.sinc.specs.Weights.{weighted_frame, CoefficientsAt}
 use Rattle.sinc.proofs.Weights.{weights-small, weighted_frame-is}
 use Rattle.rate.specs.Tail.{interpolate_window}
 use Rattle.rate.proofs.Window.{interpolate_window-is}
-use Rattle.rate.proofs.scan.make_frame.Statement.{statement}
-use Rattle.rate.proofs.scan.make_frame.Tie as tie
+use Rattle.rate.proofs.scan.make_frame.Goals as goal
+use Rattle.rate.proofs.scan.make_frame.Goals.{Start}
 
 -- ---- what is known at the start
 
-module _ (s : tie.Start) where
+module _ (s : Start) where
   abbrev ratio : ℕ
   ratio = s.args.cycle.step * (s.args.phase + 1) - 1
 
@@ -32,15 +31,15 @@ module _ (s : tie.Start) where
 
   ratio-lt : ratio < width
   ratio-lt =
-      let below : s.args.phase + 1 ≤ s.args.cycle.new = omega (arith, s.pre.0.2.below) in
-      let some : 1 ≤ s.args.cycle.step * (s.args.phase + 1) = omega (arith, mul-le-mul_right (s.args.phase + 1) s.pre.0.2.some) in
+      let below : s.args.phase + 1 ≤ s.args.cycle.new = omega (arith, s.requires.table_value.2.below) in
+      let some : 1 ≤ s.args.cycle.step * (s.args.phase + 1) = omega (arith, mul-le-mul_right (s.args.phase + 1) s.requires.table_value.2.some) in
       omega (arith, mul-le-mul_left s.args.cycle.step below)
 
   new_most : s.args.cycle.new ≤ width
-  new_most = omega (arith, mul-le-mul_right s.args.cycle.new s.pre.0.2.some)
+  new_most = omega (arith, mul-le-mul_right s.args.cycle.new s.requires.table_value.2.some)
 
   weights-are : 1 < s.args.cycle.step → CoefficientsAt ratio width (sinc_filter_points * s.args.phase) s.args.kept.now
-  weights-are h = s.pre.0.1 h s.args.phase s.pre.0.2.below
+  weights-are h = s.requires.table_value.1 h s.args.phase s.requires.table_value.2.below
 
   -- the frame at the ratio, and the output with a frame in its place
   abbrev frame : List ℤ
@@ -51,7 +50,7 @@ module _ (s : tie.Start) where
 
   frame_is : interpolate_frame samples s.args.channels ratio width ≡ frame
   frame_is =
-      let long : s.args.channels ≤ length samples = omega (arith, length-drop (s.args.first.0 * s.args.channels) s.args.stage.now, s.pre.1.0) in
+      let long : s.args.channels ≤ length samples = omega (arith, length-drop (s.args.first.0 * s.args.channels) s.args.stage.now, s.requires.channels_in_bounds.0) in
       sym (interpolate_window-is s.args.channels ratio width samples long)
 
   -- by kept weights
@@ -67,63 +66,47 @@ module _ (s : tie.Start) where
       let wide : s.args.cycle.new ≡ width = rw one (omega arith) in
       e ∙ ap placed ((λ i. interpolate_frame samples s.args.channels (same i) (wide i)) ∙ frame_is)
 
--- ---- needs
-
-mul_at : tie.Need-overflow-mul-at
-mul_at c =
+pub overflow_mul-at : goal.overflow_mul-at
+overflow_mul-at c =
     let s = c.before.before.before.before in
-    record { fits = omega (arith, new_most s, s.requires.0.2.below, s.requires.0.2.narrow) }
+    record { fits = omega (arith, new_most s, s.requires.table_value.2.below, s.requires.table_value.2.narrow) }
 
-weighted-frame-requires : tie.Need-weighted-frame-requires
-weighted-frame-requires c κs =
+pub weighted_frame-requires : goal.weighted_frame-requires
+weighted_frame-requires c =
     let s = c.before.before.before.before.before in
-    let e = weights-are s c.before.if1.true in (
-      (e.room, weights-small e (ratio-lt s)),
-      (
-        omega (arith, s.requires.1.0, c.before.before.before.before.samples.ensures),
-        omega (arith, s.requires.1.1, c.before.before.before.samples2.ensures),
-      ),
-    )
+    let e = weights-are s c.if-cycle-gt1.true in record {
+      sinc_filter_points_in_bounds = (e.room, weights-small e (ratio-lt s));
+      channels_in_bounds = (
+        omega (arith, s.requires.channels_in_bounds.0, c.samples-from.ensures),
+        omega (arith, s.requires.channels_in_bounds.1, c.samples-place.ensures),
+      );
+    }
 
-returns : tie.Need-returns
+pub returns-then-cycle-gt1 : goal.returns-then-cycle-gt1
+returns-then-cycle-gt1 c =
+    let d = c.before.before in
+    let at = d.before.before.before.before in
+    kept-is at.before _ d.if-cycle-gt1.true
+    (rw (at.samples-from.ensures, d.samples-place.ensures) at c.weighted_frame.ensures)
+
+pub ratio_frame-requires : goal.ratio_frame-requires
+ratio_frame-requires c =
+    let s = c.before.before.before.before.before in record {
+      table_value = (
+        s.requires.table_value.0,
+        s.requires.table_value.2.below,
+        omega (arith, new_most s, s.requires.table_value.2.narrow),
+        s.requires.table_value.2.parts,
+      );
+      channels_in_bounds = (
+        omega (arith, s.requires.channels_in_bounds.0, c.samples-from.ensures),
+        omega (arith, s.requires.channels_in_bounds.1, c.samples-place.ensures),
+      );
+    }
+
+pub returns : goal.returns
 returns c =
     let d = c.before.before in
     let at = d.before.before.before.before in
-    kept-is at.before _ d.before.if1.true
-    (rw (at.samples.ensures, d.before.before.before.samples2.ensures) at c.before.weighted-frame.ensures)
-
-ratio-frame-requires : tie.Need-ratio-frame-requires
-ratio-frame-requires c κs =
-    let s = c.before.before.before.before.before in (
-      (s.requires.0.0, s.requires.0.2.below, omega (arith, new_most s, s.requires.0.2.narrow), s.requires.0.2.parts),
-      (
-        omega (arith, s.requires.1.0, c.before.before.before.before.samples.ensures),
-        omega (arith, s.requires.1.1, c.before.before.before.samples2.ensures),
-      ),
-    )
-
-returns-2 : tie.Need-returns-2
-returns-2 c =
-    let d = c.before.before in
-    let at = d.before.before.before.before in
-    ratio-frame-is at.before _ (omega (arith, at.before.requires.0.2.some, d.before.if1.false))
-    (rw (at.samples.ensures, d.before.before.before.samples2.ensures) at c.before.ratio-frame.ensures)
-
--- ---- what search closes
-
-samples-requires : tie.Need-samples-requires
-samples-requires c κs = search rules
-
-samples-requires-2 : tie.Need-samples-requires-2
-samples-requires-2 c κs = search rules
-
-same_length : tie.Need-same-length
-same_length c = search rules
-
-same-length-2 : tie.Need-same-length-2
-same-length-2 c = search rules
-
-pub make-frame-spec : {M : Type 1} → statement M
-make-frame-spec =
-    tie.close
-    (tie.spec samples-requires samples-requires-2 mul_at weighted-frame-requires same_length returns ratio-frame-requires same-length-2 returns-2)
+    ratio-frame-is at.before _ (omega (arith, at.requires.table_value.2.some, d.if-cycle-gt1.false))
+    (rw (at.samples-from.ensures, d.samples-place.ensures) at c.ratio_frame.ensures)
