@@ -1,6 +1,7 @@
 // 16-bit little-endian PCM: its bytes as samples, and the values that a stream gives as bytes. `specs/Pcm.antt` says
 // which.
 #![tactic(auto)]
+
 ghost use Rattle.std.specs.Prelude.{◌≡◌, ◌+◌, ◌*◌, ◌≤◌, length};
 ghost use Rattle.pcm.specs.Pcm.{sample_of, pair_of, sample_read, Decoded, Encoded};
 
