@@ -1,6 +1,7 @@
 // The stretch: steps that copy, skip, insert or pass over pitch periods, and `change_speed` that takes them. `specs/`
 // says what each function gives.
 #![tactic(auto)]
+
 mod samples;
 mod speed;
 mod steps;

@@ -1,0 +1,14 @@
+-- `stretch::speed::change_speed` meets its contract: between two turns what is made and what is due make up the whole (`Between`), and each
+-- turn uses a frame at least. Assumes nothing.
+use mathlib.Core.Path.{◌≡◌}
+use Prim.Native.Nat.{◌-◌}
+use lib.ListN.{length}
+use Rattle.stretch.proofs.Between.{Going}
+use Rattle.stretch.proofs.speed.change_speed.Given as goal
+
+abbrev pub invariant-loop-place : goal.invariant-loop-place
+invariant-loop-place l =
+    Going l.call l.input l.initial.place l.initial.area l.area l.first l.all l.limit l.place l.made l.passed × (length l.area ≡ length l.initial.area) × (length l.scratch ≡ length l.initial.scratch)
+
+abbrev pub decreases-loop-place : goal.decreases-loop-place
+decreases-loop-place l = l.held - l.place.position.0
