@@ -1,0 +1,56 @@
+// Where a standard stream stands in its file, which std does not say: /proc/self/fdinfo tells it, in a text that begins
+// with a line of the position, in decimal, and a line of flags, in octal.
+use std::io::Read;
+use std::rt::Files;
+use std::{fs, str};
+
+// The bytes that are looked at.
+const LOOKED_AT: usize = 128;
+
+// The flag of a file that appends.
+const APPENDS: u64 = 0o2000;
+
+#[derive(Clone, Copy)]
+pub struct Place {
+    pub at: u64,
+    pub appends: bool,
+}
+
+// What stands behind a word in one of the lines.
+fn behind<'a>(text: &'a str, word: &str) -> Option<&'a str> {
+    for line in text.lines() {
+        if let Some(rest) = line.strip_prefix(word) {
+            return Some(rest.trim());
+        }
+    }
+    None
+}
+
+// Where a stream stands, as the file of this name tells.
+fn told_in(files: &impl Files, path: &str) -> Option<Place> {
+    let mut bytes = [0u8; LOOKED_AT];
+    let mut file = fs::open(files, path).ok()?;
+    let n = file.read(&mut bytes).ok()?;
+    let text = str::from_utf8(&bytes[..n]).ok()?;
+    let at = behind(text, "pos:")?.parse::<u64>().ok()?;
+    let flags = u64::from_str_radix(behind(text, "flags:")?, 8).ok()?;
+    Some(Place {
+        at,
+        appends: flags / APPENDS % 2 == 1,
+    })
+}
+
+// The name of standard input, or of standard output, which opens its file anew.
+pub const INPUT: &str = "/proc/self/fd/0";
+
+pub const OUTPUT: &str = "/proc/self/fd/1";
+
+// Where standard input stands, if that is known.
+pub fn of_input(files: &impl Files) -> Option<Place> {
+    told_in(files, "/proc/self/fdinfo/0")
+}
+
+// Where standard output stands, if that is known.
+pub fn of_output(files: &impl Files) -> Option<Place> {
+    told_in(files, "/proc/self/fdinfo/1")
+}
