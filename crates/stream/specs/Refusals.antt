@@ -97,7 +97,8 @@ positions_in_order r s =
 unfoldable pub is_in_order : SonicStream → Bool
 is_in_order s =
     limits_in_order s
-    && (period_in_order s && (settings_in_order s && (prev_in_order s && positions_in_order (rates_of s.rate s.pitch) s)))
+    && (period_in_order s
+    && (settings_in_order s && (prev_in_order s && positions_in_order (rates_of s.rate s.pitch) s)))
 
 -- ---- 4 to 7, by the lengths of the areas; then 12, by the totals
 

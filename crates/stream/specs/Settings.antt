@@ -57,7 +57,8 @@ with_setting (StepOver on) s = with_settings s s.speed s.pitch s.volume (cond on
 
 unfoldable pub set_call : SonicStream → Setting → Changed
 set_call s v =
-    cond (is_in_order s) (Changed.Done (stream_of (with_setting v (unlent s)) s.waiting.0)) (Changed.Refused bad_stream s)
+    cond (is_in_order s) (Changed.Done (stream_of (with_setting v (unlent s)) s.waiting.0))
+    (Changed.Refused bad_stream s)
 
 unfoldable pub available_call : SonicStream → Available
 available_call s = cond (is_in_order s) (Available.Waiting s.waiting) (Available.Refused bad_stream s)

@@ -2,6 +2,7 @@
 // `specs/Settings.antt` says what each answers. `areas` has refusals 4 and 5, and `balance` refusal 12,
 // for the calls that are lent areas.
 #![tactic(auto)]
+
 pub mod areas;
 mod balance;
 mod order;

@@ -57,7 +57,7 @@ fn prev_in_order(stream: SonicStream) -> bool
     stream.prev_min_diff <= SonicStream::MAX_MIN_DIFF
 }
 
-// Whether p is below O and n the least whole number with typeof.n.O at least p·N: for p = 0, whether n is 0.
+// Whether p is below O and n the least whole number with n·O at least p·N: for p = 0, whether n is 0.
 fn positions_in_order(stream: SonicStream) -> bool
     requires { InLimits stream.rate stream.channels × (settings_in_order stream ≡ true) }
     ensures { result ≡ positions_in_order (rates_of stream.rate stream.pitch) stream }
