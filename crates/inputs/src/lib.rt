@@ -1,10 +1,10 @@
-// The skim tool's input, which is standard input: what is known of it, and blocks of it. `specs/Sources.antt` says
-// which bytes are read.
+// The skim tool's input: what is known of it, and blocks of it. `specs/Sources.antt` says which bytes are read.
 #![tactic(auto)]
+
 ghost use Rattle.std.specs.Prelude.{◌≡◌, ◌+◌, ◌≤◌, min, length, take};
 ghost use Rattle.inputs.specs.Sources.{raw_source, wave_source, block_of, source_after, Begins};
 
-use libc::STDIN_FILENO;
+use std::io::Read;
 
 // What the input is: raw PCM, or a WAVE file. Of that `size` is the size of its data chunk, and `left` are the bytes of
 // it that were not read yet; of raw PCM both are 0. The first bytes of raw PCM, up to four, are read to see what it is:
@@ -112,28 +112,33 @@ fn begin(block: &mut [u8], first: u32, ready: usize) -> usize
 }
 
 // One read behind the first `have` bytes of a block, which stay.
-fn read_behind(block: &mut [u8], have: usize) -> BlockBytes
+fn read_behind<R: Read>(reader: &mut R, block: &mut [u8], have: usize) -> BlockBytes
     requires { have ≤ length block.old }
     ensures { (have + result.bytes ≤ length block.old)
         × (take have block.new ≡ take have block.old) }
 {
     let part = &mut block[have..];
-    let got = libc::read(STDIN_FILENO, part);
-    BlockBytes {
-        bytes: io::count(got, part),
-        failed: got < 0,
+    match reader.read(part) {
+        Ok(bytes) => BlockBytes {
+            bytes,
+            failed: false,
+        },
+        Err(_) => BlockBytes {
+            bytes: 0,
+            failed: true,
+        },
     }
 }
 
 // Puts the bytes that stand ready at the front of the block, and reads until it is full, the input ends or a read
 // fails.
-pub fn fill(block: &mut [u8], first: u32, ready: usize) -> BlockBytes
+pub fn fill<R: Read>(reader: &mut R, block: &mut [u8], first: u32, ready: usize) -> BlockBytes
     ensures { (result.bytes ≤ length block.old) × (min ready (length block.old) ≤ result.bytes)
         × Begins first (min ready (length block.old)) block.new }
 {
     let mut have = begin(block, first, ready);
     while have < block.len() {
-        let got = read_behind(block, have);
+        let got = read_behind(reader, block, have);
         if got.bytes == 0 {
             return BlockBytes {
                 bytes: have,
