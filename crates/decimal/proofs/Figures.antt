@@ -3,7 +3,6 @@ use Rattle.std.proofs.Common.{◌≡◌, [], ◌∷◌, refl}
 use lib.Ieee.{of_int, div, round, of_bits}
 use Rattle.floats.specs.Numbers.{half, narrow}
 use Rattle.floats.specs.Settings.{min_pitch, max_pitch, min_volume, max_volume}
-use Rattle.bytes.specs.Bytes.{index_of, index_after}
 use Rattle.decimal.specs.declared.Decimal.{Decimal}
 use Rattle.decimal.specs.declared.Value.{Value}
 use Rattle.decimal.specs.Decimal.{digits_from, whole_of, places_from, decimal_of, quotient, value_of}
@@ -18,5 +17,5 @@ pub table : (decimal_of (49 ∷ 46 ∷ 50 ∷ 53 ∷ []) ≡ Decimal.Number 125 
     × (decimal_of (46 ∷ 53 ∷ []) ≡ Decimal.Refused)
     × (decimal_of (49 ∷ 46 ∷ []) ≡ Decimal.Refused)
     × (decimal_of (49 ∷ 46 ∷ 50 ∷ 46 ∷ 51 ∷ []) ≡ Decimal.Refused)
-unfolding value_of decimal_of whole_of places_from digits_from index_of index_after quotient narrow of_int div round of_bits
+unfolding value_of decimal_of whole_of places_from digits_from quotient narrow of_int div round of_bits
 table = (refl, refl, refl, refl, refl, refl, refl, refl, refl, refl)

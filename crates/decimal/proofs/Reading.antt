@@ -1,14 +1,16 @@
 -- Reading a text from its front, in this order:
 --   digits-below, digits_above, digits-full     a byte that ends the reading
 --   digits_more, digits-end                     one digit more, and none
---   find-point, behind-point                    the first point, and the part behind it
+--   point_of, find-point, behind-point          the first point, and the part behind it
 --   decimal-whole, decimal-behind, decimal-refused     a decimal number by the digits before it
 --   few-places                                  at most 15 digits behind it
 -- Assumes nothing.
-use Rattle.std.proofs.Common.{◌≡◌, ℕ, suc, ◌+◌, ◌-◌, ◌*◌, ◌<◌, ◌≤◌, Bool, true, false, cond, ◌&&◌, eqb, ltb, leb, List, length, get_or, take, drop, sym, refl, ap, ◌∙◌, add-one, arith, length-drop, take_all, drop-cons, le-ltb, lt-ltb, eq-eqb, ne_eqb, eqb-true, le-leb, leb-true}
-use borrow.Author.Tests.{lt-leb}
-use lib.Seq.{take-length, drop-length}
-use Rattle.bytes.specs.Bytes.{index_of, slice}
+use Rattle.std.proofs.Common.{◌≡◌, ℕ, Option, Some, None, suc, ◌+◌, ◌-◌, ◌*◌, ◌<◌, ◌≤◌, Bool, true, false, cond, ◌&&◌, eqb, ltb, leb, List, length, get_or, take, drop, sym, refl, ap, ◌∙◌, add-one, arith, length-drop, take_all, drop-cons, le-ltb, lt-ltb, eq-eqb, ne_eqb, eqb-true, le-leb, leb-true}
+use borrow.Author.Tests.{lt-leb, ltb-false}
+use lib.Seq.{drop-length}
+use Rattle.std.specs.List.{position, position_or_len}
+use Rattle.std.specs.Option.{unwrap_or}
+use Rattle.std.proofs.lemmas.List.Sums.{prefix_len-le-length}
 use Rattle.decimal.specs.declared.Digits.{Digits}
 use Rattle.decimal.specs.declared.Decimal.{Decimal}
 use Rattle.decimal.specs.Decimal.{is_digit, limit, digits_from, whole_of, placed, places_from, behind, decimal_of}
@@ -39,10 +41,25 @@ pub digits-end : (text : List ℕ) (n i : ℕ) → i ≡ length text → digits_
 unfolding digits_from
 digits-end text n i e = rw (e, drop-length)
 
--- what a search of the whole text gives
-pub find-point : (text : List ℕ) (p : ℕ) → p ≡ 0 + index_of 46 (slice 0 (length text) text) → p ≡ index_of 46 text
-unfolding slice
-find-point text p e = e ∙ rw (take-length text) (omega arith)
+-- the place of the first point, or the text's length
+abbrev pub point_of : List ℕ → ℕ
+point_of text = position_or_len (λ (b : ℕ). eqb b 46) text
+
+place-or-end : (q n : ℕ) → q ≤ n → unwrap_or (cond (ltb q n) (Some q) None) n ≡ q
+place-or-end q n h = go (ltb q n) refl
+  where
+    go : (b : Bool) → ltb q n ≡ b → unwrap_or (cond b (Some q) None) n ≡ q
+    go true e = refl
+    go false e = omega (arith, h, ltb-false q n e)
+
+-- what a search of the text gives
+pub find-point : (text : List ℕ) (p : ℕ) (r : Option ℕ) → r ≡ position (λ (b : ℕ). eqb b 46) text
+    → p ≡ unwrap_or r (length text) → (p ≡ point_of text) × (p ≤ length text)
+find-point text p r found e =
+    let in_text : point_of text ≤ length text = prefix_len-le-length _ text in
+    let is : p ≡ point_of text =
+    e ∙ ap (λ (o : Option ℕ). unwrap_or o (length text)) found ∙ place-or-end (point_of text) (length text) in_text in
+    (is, omega (arith, is, in_text))
 
 -- the part behind the point p
 pub behind-point : (text : List ℕ) (p : ℕ) → take (length text - (p + 1)) (drop (p + 1) text) ≡ drop (suc p) text
@@ -51,7 +68,7 @@ behind-point text p =
     rw (take_all (length text - (p + 1)) (drop (p + 1) text) fits, add-one)
 
 -- by the digits before the point p, and whether it is there
-module _ (text : List ℕ) (p : ℕ) (first : p ≡ index_of 46 text) where
+module _ (text : List ℕ) (p : ℕ) (first : p ≡ point_of text) where
   decimal-is : decimal_of text ≡ cond (eqb p (length text)) (placed 0 (whole_of text)) (behind (whole_of (take p text)) (drop (suc p) text))
   unfolding decimal_of
   decimal-is = rw first
@@ -101,9 +118,9 @@ behind-few (Digits.Number m) rest e = places-few m rest e
 
 pub few-places : (text : List ℕ) {n k : ℕ} → decimal_of text ≡ Decimal.Number n k → k ≤ 15
 unfolding decimal_of
-few-places text {n} {k} = go (eqb (index_of 46 text) (length text))
+few-places text {n} {k} = go (eqb (point_of text) (length text))
   where
     go : (b : Bool)
-        → cond b (placed 0 (whole_of text)) (behind (whole_of (take (index_of 46 text) text)) (drop (suc (index_of 46 text)) text)) ≡ Decimal.Number n k → k ≤ 15
+        → cond b (placed 0 (whole_of text)) (behind (whole_of (take (point_of text) text)) (drop (suc (point_of text)) text)) ≡ Decimal.Number n k → k ≤ 15
     go true e = omega (arith, placed-is (whole_of text) 0 e)
-    go false e = behind-few (whole_of (take (index_of 46 text) text)) (drop (suc (index_of 46 text)) text) e
+    go false e = behind-few (whole_of (take (point_of text) text)) (drop (suc (point_of text)) text) e

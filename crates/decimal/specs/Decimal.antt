@@ -1,9 +1,9 @@
 -- Decimal numbers as ASCII text: digits, or digits, a point and digits, and the f32 that one gives. Definitions only.
 -- Assumes nothing.
 use Rattle.std.specs.Prelude.{ℕ, suc, ◌+◌, ◌-◌, ◌*◌, ◌^◌, Bool, cond, ◌&&◌, List, [], ◌∷◌, length, take, drop, pos, ◌==◌, nat_le, nat_lt, Float}
+use Rattle.std.specs.List.{position_or_len}
 use Rattle.std.specs.Float.{binary64}
 use Rattle.std.specs.Float.Ieee.{of_int, div}
-use Rattle.bytes.specs.Bytes.{index_of}
 use Rattle.floats.specs.Numbers.{narrow}
 use Rattle.decimal.specs.declared.Digits.{Digits}
 use Rattle.decimal.specs.declared.Decimal.{Decimal}
@@ -45,7 +45,7 @@ behind (Digits.Number n) rest = places_from n rest
 -- with no point, or at the first one
 unfoldable pub decimal_of : List ℕ → Decimal
 decimal_of text =
-    let point : ℕ = index_of 46 text in
+    let point : ℕ = position_or_len (λ (b : ℕ). b == 46) text in
     cond (point == length text) (placed 0 (whole_of text))
     (behind (whole_of (take point text)) (drop (suc point) text))
 

@@ -1,6 +1,8 @@
 // Decimal numbers as ASCII text: digits, or digits, a point and digits. `specs/Decimal.antt` says what each text gives.
 #![tactic(auto)]
-ghost use Rattle.std.specs.Prelude.{◌≡◌, ◌^◌, ◌≤◌};
+
+ghost use Rattle.std.specs.Prelude.{◌≡◌, ◌==◌, ◌^◌, ◌≤◌};
+ghost use Rattle.std.specs.List.{position};
 ghost use Rattle.decimal.specs.Decimal.{digits_from, whole_of, places_from, decimal_of, quotient, value_of};
 
 // A number may have this many digits, leading zeros not counted, so that an f64 holds it exactly.
@@ -81,11 +83,18 @@ fn read_places(whole: u64, text: &[u8]) -> Decimal
     }
 }
 
+// The place of the first such byte.
+fn find(text: &[u8], byte: u8) -> Option<usize>
+    ensures { result ≡ position (λ b. b == byte) text.now }
+{
+    text.iter().position(|b| *b == byte)
+}
+
 // A decimal number.
 pub fn read_decimal(text: &[u8]) -> Decimal
     ensures { result ≡ decimal_of text.now }
 {
-    let point = bytes::scan::find(text, 0, text.len(), b'.');
+    let point = find(text, b'.').unwrap_or(text.len());
     match read_whole(&text[..point]) {
         Digits::Refused => Decimal::Refused,
         Digits::Number(whole) => {
