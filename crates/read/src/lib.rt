@@ -1,5 +1,6 @@
 // The read: frames waiting, as f32 values. `specs/Reading.antt` says what it answers.
 #![tactic(auto)]
+
 ghost use Rattle.std.specs.Prelude.{◌≡◌, true, false, min};
 ghost use Rattle.floats.specs.Settings.{sample_period};
 ghost use Rattle.stream.specs.Refusals.{is_in_order, output_bad};
