@@ -1,6 +1,7 @@
 // Frames of a reel of which nothing came out: how many there are, and the longest stretch of them. `map` writes down
 // every stretch. `specs/Passes.antt` says what is kept.
 #![tactic(auto)]
+
 pub mod map;
 
 ghost use Rattle.std.specs.Prelude.{◌≡◌};

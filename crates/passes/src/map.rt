@@ -2,6 +2,7 @@
 ghost use Rattle.std.specs.Prelude.{◌+◌, ◌≤◌, length};
 
 use crate::Span;
+use std::io::Write;
 
 // The most bytes of a line are 92: two counts of 20 digits, two times of 24, and a byte behind each.
 const LINE: usize = 92;
@@ -9,24 +10,38 @@ const LINE: usize = 92;
 // The most digits of a count.
 const DIGITS: usize = 20;
 
+// The digit of a number's last place.
+fn digit(n: u64) -> u8 {
+    48 + (n % 10) as u8
+}
+
+// The digits of a count.
+fn digits(n: u64) -> usize
+    ensures { result ≤ 20 }
+{
+    let mut rest = n / 10;
+    let mut count: usize = 1;
+    while rest > 0 && count < DIGITS {
+        rest = rest / 10;
+        count += 1;
+    }
+    count
+}
+
 // Puts a count into a line from `at` on, and answers where it ends.
 fn put_count(n: u64, line: &mut [u8], at: usize) -> usize
     requires { at + 20 ≤ length line.old }
     ensures { result ≤ at + 20 }
 {
-    let mut digits = [0u8; DIGITS];
-    let count = io::decimal(n, &mut digits);
-    let mut i: usize = 0;
-    while i < count {
-        line[at + i] = digits[i];
-        i += 1;
+    let end = at + digits(n);
+    let mut rest = n;
+    let mut place = end;
+    while place > at {
+        place -= 1;
+        line[place] = digit(rest);
+        rest = rest / 10;
     }
-    at + count
-}
-
-// The digit of a number's last place.
-fn digit(n: u64) -> u8 {
-    48 + (n % 10) as u8
+    end
 }
 
 // Puts the time of so many frames into a line, in seconds with three digits behind the point, and answers where it
@@ -45,7 +60,7 @@ fn put_seconds(frames: u64, rate: u64, line: &mut [u8], at: usize) -> usize
 }
 
 // Writes the line of a stretch, and answers whether all of it was taken.
-pub fn write_line(fd: i32, span: Span, rate: u64) -> bool
+pub fn write_line<W: Write>(to: &mut W, span: Span, rate: u64) -> bool
     requires { (1 ≤ rate) × (rate ≤ 500000) }
 {
     let mut line = [0u8; LINE];
@@ -57,10 +72,11 @@ pub fn write_line(fd: i32, span: Span, rate: u64) -> bool
     line[start] = b'\t';
     let end = put_seconds(span.frames, rate, &mut line, start + 1);
     line[end] = b'\n';
-    io::write_all(fd, &line[..end + 1])
+    to.write_all(&line[..end + 1]).is_ok()
 }
 
 // Writes the names of the columns, and answers whether all of them were taken.
-pub fn write_head(fd: i32) -> bool {
-    io::write_all(fd, b"first_frame\tframes\tstart_seconds\tlength_seconds\n")
+pub fn write_head<W: Write>(to: &mut W) -> bool {
+    to.write_all(b"first_frame\tframes\tstart_seconds\tlength_seconds\n")
+        .is_ok()
 }
