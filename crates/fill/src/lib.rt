@@ -1,6 +1,7 @@
 // The first half of a call's work: copied or stretched frames, at pitch 1.0 into the output behind the frames waiting,
 // at another into the stage behind the tail. The input stays.
 #![tactic(auto)]
+
 mod copies;
 mod destination;
 mod stretches;
