@@ -1,8 +1,8 @@
 // Prints the figures of docs/RULES.md without a star: samples in, and one step of the stretch over silence, whose
 // period is 20 frames at 8,000 Hz, at three local speeds. The starred figures are computed in proofs/Starred.antt.
 #![tactic(auto)]
+
 use frames::{Frames, Samples};
-use libc::STDOUT_FILENO;
 use period::PeriodRecord;
 use search::Ties;
 use stretch::{Stretch, StretchCall, Stretched};
@@ -12,35 +12,31 @@ const RATE: u32 = 8000;
 // The frames that a search at this rate looks at.
 const REQUIRED: usize = 246;
 
-fn print_number(label: &[u8], n: u64) {
-    io::write_all(STDOUT_FILENO, label);
-    io::print_decimal(STDOUT_FILENO, n);
+fn print_text(rt: &impl Print, text: &str) {
+    let _ = rt.print(text);
 }
 
-fn print_sample(label: &[u8], sample: i16) {
-    let value = sample as i32;
-    io::write_all(STDOUT_FILENO, label);
-    if value < 0 {
-        print_number(b"-", (0 - value) as u64);
-    } else {
-        print_number(b"", value as u64);
-    }
-    io::write_all(STDOUT_FILENO, b"\n");
+fn print_number(rt: &impl Print, label: &str, n: u64) {
+    let _ = print!(rt; "{label}{n}");
 }
 
-fn print_stretch(answer: Stretch) {
+fn print_sample(rt: &impl Print, label: &str, sample: i16) {
+    let _ = println!(rt; "{label}{sample}");
+}
+
+fn print_stretch(rt: &impl Print, answer: Stretch) {
     let made = answer.made.0;
     let used = answer.used.0;
-    print_number(b" frames made ", made as u64);
-    print_number(b", used ", used as u64);
+    print_number(rt, " frames made ", made as u64);
+    print_number(rt, ", used ", used as u64);
     if answer.stalled {
-        io::write_all(STDOUT_FILENO, b", stalled");
+        print_text(rt, ", stalled");
     }
-    io::write_all(STDOUT_FILENO, b"\n");
+    print_text(rt, "\n");
 }
 
 // A stretch of as much silence as one step needs, at a local speed.
-fn print_step(label: &[u8], speed: f32) {
+fn print_step(rt: &impl Print, label: &str, speed: f32) {
     let input = [0i16; REQUIRED];
     let mut stage = [0i16; REQUIRED];
     let mut scratch = [0i16; REQUIRED];
@@ -60,7 +56,7 @@ fn print_step(label: &[u8], speed: f32) {
         period: 0,
         min_diff: 0,
     };
-    io::write_all(STDOUT_FILENO, label);
+    print_text(rt, label);
     match stretch::change_speed(
         &input,
         call,
@@ -73,18 +69,18 @@ fn print_step(label: &[u8], speed: f32) {
         &mut scratch,
     ) {
         Stretched::TooMany => {
-            io::write_all(STDOUT_FILENO, b" too many\n");
+            print_text(rt, " too many\n");
         }
         Stretched::Made(answer) => {
-            print_stretch(answer);
+            print_stretch(rt, answer);
         }
     }
 }
 
-fn main() {
-    print_sample(b"sample 1.0: ", floats::samples::sample_in(1.0));
-    print_sample(b"sample -0.5: ", floats::samples::sample_in(-0.5));
-    print_step(b"s = 21:", 21.0);
-    print_step(b"s = 22:", 22.0);
-    print_step(b"s = 0.25:", 0.25);
+fn main(rt: HostRuntime) {
+    print_sample(&rt, "sample 1.0: ", floats::samples::sample_in(1.0));
+    print_sample(&rt, "sample -0.5: ", floats::samples::sample_in(-0.5));
+    print_step(&rt, "s = 21:", 21.0);
+    print_step(&rt, "s = 22:", 22.0);
+    print_step(&rt, "s = 0.25:", 0.25);
 }
