@@ -1,6 +1,7 @@
 -- Decimal numbers as ASCII text: digits, or digits, a point and digits, and the f32 that one gives. Definitions only.
 -- Assumes nothing.
-use Rattle.std.specs.Prelude.{ℕ, suc, ◌+◌, ◌-◌, ◌*◌, ◌^◌, Bool, cond, ◌&&◌, List, [], ◌∷◌, length, take, drop, pos, ◌==◌, nat_le, nat_lt, Float}
+use Rattle.std.specs.Prelude.{ℕ, suc, ◌+◌, ◌-◌, ◌*◌, ◌^◌, pos, nat_le, nat_lt, Bool, cond, ◌&&◌, ◌==◌, Float}
+use Rattle.std.specs.Prelude.{List, [], ◌∷◌, length, take, drop}
 use Rattle.std.specs.List.{position_or_len}
 use Rattle.std.specs.Float.{binary64}
 use Rattle.std.specs.Float.Ieee.{of_int, div}
@@ -34,7 +35,8 @@ placed k (Digits.Number n) = Decimal.Number n k
 -- 1 to 15 digits behind the point, after those of n before it
 unfoldable pub places_from : ℕ → List ℕ → Decimal
 places_from n text =
-    cond (nat_le 1 (length text)) (cond (nat_le (length text) 15) (placed (length text) (digits_from n text)) Decimal.Refused)
+    cond (nat_le 1 (length text))
+    (cond (nat_le (length text) 15) (placed (length text) (digits_from n text)) Decimal.Refused)
     Decimal.Refused
 
 -- by the digits before the point

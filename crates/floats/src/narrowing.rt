@@ -27,7 +27,8 @@ pub(crate) fn magnitude(e: u64, t: u64) -> u32
     requires fact_1 { e < 2048 }
     requires fact_2 { t < 2 ^ 52 }
     requires fact_3 { (e < 2047) ⊎ (t ≡ 0) }
-    ensures t_value { (s : Bool) → to_bits binary32 (narrow (of_fields binary64 s e t)) ≡ (if s then 2 ^ 31 else 0) + result }
+    ensures t_value { (s : Bool) → to_bits binary32 (narrow (of_fields binary64 s e t))
+        ≡ (if s then 2 ^ 31 else 0) + result }
     ensures upper_bound { result < 2 ^ 31 }
 {
     if e < 873 {
