@@ -1,117 +1,121 @@
 // An answer's line of stored runs (docs/VECTORS.md): what a call answers, then every field of the stream that it hands
 // back, and the sums over the samples kept.
 #![tactic(auto)]
+
 use fill::{Outcome, Told};
 use frames::Frames;
-use libc::STDOUT_FILENO;
 use scripts::sums::{area_sum, bits};
 use stream::{Balance, SonicStream};
 
-// Prints bytes as they are.
-pub fn print(text: &[u8]) {
-    io::write_all(STDOUT_FILENO, text);
+// Prints bytes as they are. Here and below, a write that fails is passed over.
+pub fn print(rt: &impl Print, text: &[u8]) {
+    let _ = rt.write_all(text);
 }
 
 // Prints a space and a count, or the number of a refusal or an outcome, in decimal.
-pub fn print_count(n: u64) {
-    print(b" ");
-    io::print_decimal(STDOUT_FILENO, n);
+pub fn print_count(rt: &impl Print, n: u64) {
+    let _ = print!(rt; " {n}");
 }
 
 // Prints a space and a word in hexadecimal.
-pub fn print_word(n: u32) {
-    print(b" ");
-    io::print_hex(STDOUT_FILENO, n as u64, 8);
+pub fn print_word(rt: &impl Print, n: u32) {
+    let _ = print!(rt; " {n:08x}");
 }
 
 // Prints the bits of a float.
-fn print_float(x: f32) {
-    print_word(bits(x));
+fn print_float(rt: &impl Print, x: f32) {
+    print_word(rt, bits(x));
 }
 
 // Prints a space and a count of frames.
-fn print_frames(n: Frames) {
-    print_count(n.0 as u64);
+fn print_frames(rt: &impl Print, n: Frames) {
+    print_count(rt, n.0 as u64);
 }
 
 // Prints a refusal with its number.
-pub fn print_refused(number: u32) {
-    print(b" refused");
-    print_count(number as u64);
+pub fn print_refused(rt: &impl Print, number: u32) {
+    print(rt, b" refused");
+    print_count(rt, number as u64);
 }
 
 // Prints the outcome of a write or a flush.
-fn print_outcome(outcome: Outcome) {
+fn print_outcome(rt: &impl Print, outcome: Outcome) {
     match outcome {
-        Outcome::Empty => print(b" empty"),
-        Outcome::Copied => print(b" copied"),
-        Outcome::Waiting => print(b" waiting"),
-        Outcome::Stretched => print(b" stretched"),
-        Outcome::Stalled => print(b" stalled"),
+        Outcome::Empty => print(rt, b" empty"),
+        Outcome::Copied => print(rt, b" copied"),
+        Outcome::Waiting => print(rt, b" waiting"),
+        Outcome::Stretched => print(rt, b" stretched"),
+        Outcome::Stalled => print(rt, b" stalled"),
     }
 }
 
 // Prints what is told of a write or a flush.
-pub fn print_told(told: Told) {
+pub fn print_told(rt: &impl Print, told: Told) {
     let outcome = told.outcome;
-    print_outcome(outcome);
-    print_count(told.passed as u64);
-    print_count(told.sum as u64);
+    print_outcome(rt, outcome);
+    print_count(rt, told.passed as u64);
+    print_count(rt, told.sum as u64);
 }
 
 // Prints what follows from the opening, and speed, pitch and volume.
-fn print_settings(stream: SonicStream) {
-    print(b" |");
-    print_count(stream.rate as u64);
-    print_count(stream.channels as u64);
-    print_float(stream.speed);
-    print_float(stream.pitch);
-    print_float(stream.volume);
-    print_float(stream.sample_period);
+fn print_settings(rt: &impl Print, stream: SonicStream) {
+    print(rt, b" |");
+    print_count(rt, stream.rate as u64);
+    print_count(rt, stream.channels as u64);
+    print_float(rt, stream.speed);
+    print_float(rt, stream.pitch);
+    print_float(rt, stream.volume);
+    print_float(rt, stream.sample_period);
 }
 
 // Prints times, positions and the period record.
-fn print_state(stream: SonicStream) {
-    print(b" |");
-    print_float(stream.input_play_time);
-    print_float(stream.time_error);
-    print_count(stream.old_rate_position as u64);
-    print_count(stream.new_rate_position as u64);
-    print_count(stream.prev_period as u64);
-    print_count(stream.prev_min_diff as u64);
+fn print_state(rt: &impl Print, stream: SonicStream) {
+    print(rt, b" |");
+    print_float(rt, stream.input_play_time);
+    print_float(rt, stream.time_error);
+    print_count(rt, stream.old_rate_position as u64);
+    print_count(rt, stream.new_rate_position as u64);
+    print_count(rt, stream.prev_period as u64);
+    print_count(rt, stream.prev_min_diff as u64);
 }
 
 // Prints how many frames a part of an area has, and their sum.
-fn print_part(count: Frames, channels: u32, area: &[i16]) {
-    print_frames(count);
-    print_word(area_sum(area, count, channels));
+fn print_part(rt: &impl Print, count: Frames, channels: u32, area: &[i16]) {
+    print_frames(rt, count);
+    print_word(rt, area_sum(area, count, channels));
 }
 
 // Prints the totals.
-fn print_balance(balance: Balance) {
-    print(b" |");
-    print_count(balance.skipped);
-    print_count(balance.inserted);
+fn print_balance(rt: &impl Print, balance: Balance) {
+    print(rt, b" |");
+    print_count(rt, balance.skipped);
+    print_count(rt, balance.inserted);
 }
 
 // Prints whether the stream steps over, and its choice of ties.
-fn print_choices(stream: SonicStream) {
-    print_count(stream.step_over as u64);
-    print_count(stream.ties as u64);
+fn print_choices(rt: &impl Print, stream: SonicStream) {
+    print_count(rt, stream.step_over as u64);
+    print_count(rt, stream.ties as u64);
 }
 
 // Prints the rest of an answer's line.
-pub fn print_stream(stream: SonicStream, input: &[i16], stage: &[i16], output: &[i16]) {
-    print_settings(stream);
-    print_state(stream);
-    print(b" |");
+pub fn print_stream(
+    rt: &impl Print,
+    stream: SonicStream,
+    input: &[i16],
+    stage: &[i16],
+    output: &[i16],
+) {
+    print_settings(rt, stream);
+    print_state(rt, stream);
+    print(rt, b" |");
     let held = stream.held;
     let tail = stream.tail;
     let waiting = stream.waiting;
-    print_part(held, stream.channels, input);
-    print_part(tail, stream.channels, stage);
-    print_part(waiting, stream.channels, output);
-    print_balance(stream.balance);
-    print_choices(stream);
-    print(b"\n");
+    print_part(rt, held, stream.channels, input);
+    print_part(rt, tail, stream.channels, stage);
+    print_part(rt, waiting, stream.channels, output);
+    print_balance(rt, stream.balance);
+    print_choices(rt, stream);
+    print(rt, b"\n");
 }

@@ -1,6 +1,7 @@
 // The calls of stored runs that are lent no area, each with its answer printed (docs/VECTORS.md); and streams that no
 // call hands back.
 #![tactic(auto)]
+
 mod edits;
 
 pub use edits::with_field;
@@ -22,15 +23,15 @@ pub fn unopened() -> SonicStream {
 }
 
 // Opens a stream. A refusal carries the number given.
-fn open(rate: u32, channels: u32, ties: u32) -> SonicStream {
+fn open(rt: &impl Print, rate: u32, channels: u32, ties: u32) -> SonicStream {
     match SonicStream::with_ties(rate, channels, stream::ties_of(ties)) {
         Opened::Refused {
             number,
             given,
             stream,
         } => {
-            print_refused(number);
-            print_count(given as u64);
+            print_refused(rt, number);
+            print_count(rt, given as u64);
             stream
         }
         Opened::Done(stream) => stream,
@@ -38,10 +39,10 @@ fn open(rate: u32, channels: u32, ties: u32) -> SonicStream {
 }
 
 // Changes a setting.
-fn set(stream: SonicStream, setting: Setting) -> SonicStream {
+fn set(rt: &impl Print, stream: SonicStream, setting: Setting) -> SonicStream {
     match stream.set(setting) {
         Changed::Refused(number, after) => {
-            print_refused(number);
+            print_refused(rt, number);
             after
         }
         Changed::Done(after) => after,
@@ -49,29 +50,29 @@ fn set(stream: SonicStream, setting: Setting) -> SonicStream {
 }
 
 // Asks for the frames available.
-fn available(stream: SonicStream) -> SonicStream {
+fn available(rt: &impl Print, stream: SonicStream) -> SonicStream {
     match stream.available_frames() {
         Available::Refused(number, after) => {
-            print_refused(number);
+            print_refused(rt, number);
             after
         }
         Available::Waiting(n) => {
-            print_count(n.0 as u64);
+            print_count(rt, n.0 as u64);
             stream
         }
     }
 }
 
 // Makes the call of a line that names no areas.
-pub fn small_call(stream: SonicStream, line: Line) -> SonicStream {
+pub fn small_call(rt: &impl Print, stream: SonicStream, line: Line) -> SonicStream {
     let letter = line.letter;
     let first = word(line.a);
     match letter {
-        b'o' => open(first, word(line.b), word(line.c)),
-        b's' => set(stream, Setting::Speed(float(first))),
-        b'p' => set(stream, Setting::Pitch(float(first))),
-        b'v' => set(stream, Setting::Volume(float(first))),
-        b't' => set(stream, Setting::StepOver(first > 0)),
-        _ => available(stream),
+        b'o' => open(rt, first, word(line.b), word(line.c)),
+        b's' => set(rt, stream, Setting::Speed(float(first))),
+        b'p' => set(rt, stream, Setting::Pitch(float(first))),
+        b'v' => set(rt, stream, Setting::Volume(float(first))),
+        b't' => set(rt, stream, Setting::StepOver(first > 0)),
+        _ => available(rt, stream),
     }
 }
