@@ -1,6 +1,7 @@
 // The areas' sizes, and the jobs that they serve: those of which no call wants more room. `specs/Plans.antt` says what
 // is answered; that no call of a job served is refused, but for a total past 64 bits, is proved in the crate `serving`.
 #![tactic(auto)]
+
 ghost use Rattle.std.specs.Prelude.{◌≡◌, true, ◌≤◌, min};
 ghost use Rattle.search.specs.Search.{longest_period};
 ghost use Rattle.stream.specs.Refusals.{is_in_order};
