@@ -4,8 +4,8 @@
 --   made-most         it makes m frames at most, if tail and staged frames do in the share N to O
 --   tail-most         it leaves no more in the tail than rate conversion keeps
 -- Assumes nothing.
-use mathlib.Core.Path.{◌≡◌, refl, sym, ap, ◌∙◌, subst}
-use mathlib.Core.Bool.{Bool, true, false, cond, ◌&&◌}
+use mathlib.Core.Path.{◌≡◌, refl, sym, ap}
+use mathlib.Core.Bool.{Bool, true, false, cond}
 use mathlib.Core.Logic.{◌⊎◌, inl, inr}
 use mathlib.Core.List.{List, [], append-nil}
 use Prim.Native.Nat.{ℕ, ◌+◌, ◌-◌, ◌*◌, ◌≤◌, ◌<◌}
@@ -24,15 +24,14 @@ use Rattle.rate.specs.Tail.{PositionInOrder}
 use Rattle.rate.specs.Conversion.{Conversion, adjust_rate}
 use Rattle.rate.proofs.Most.{adjust-most, adjust-rest}
 use Rattle.period.specs.Rates.{max_required}
-use Rattle.volume.specs.Volume.{scaled}
 use Rattle.stretch.specs.declared.Stretch.{Stretch}
 use Rattle.stretch.specs.Speed.{frames_made, last_place, stalled, answer_for}
 use Rattle.stretch.proofs.Claims.{steps-complete, position-held}
 use Rattle.stream.specs.State.{State}
 use Rattle.fill.specs.declared.Outcome.{Outcome}
-use Rattle.fill.specs.declared.Outcome.TheVariants.{Empty, Copied, Waiting, Stretched, Stalled}
+use Rattle.fill.specs.declared.Outcome.TheVariants.{Empty, Waiting, Stretched, Stalled}
 use Rattle.fill.specs.Taking.{Taken, nothing, removed, copied, stretched, stepped, taken_at, taken, speed_at, call_at, place_of, steps_at}
-use Rattle.process.specs.Process.{Made, counting, finished, process}
+use Rattle.process.specs.Process.{counting, finished, process}
 use Rattle.process.proofs.States.{Keeps}
 use Rattle.process.proofs.Taken.{taken-keeps}
 use Rattle.process.proofs.Claims.{Held, held-ready}

@@ -16,8 +16,7 @@ use lib.Seq.{paste}
 use Rattle.frames.specs.Areas.{Areas, areas}
 use Rattle.frames.specs.Framing.{Frame, frames_of, Behind}
 use Rattle.frames.specs.Removal.{FrontRemoved}
-use Rattle.frames.proofs.Framing.{length-frames_of, frames_of-cong, frames_of-map}
-use Rattle.frames.proofs.Pasted.{paste-part}
+use Rattle.frames.proofs.Framing.{length-frames_of, frames_of-map}
 use Rattle.frames.proofs.Behind.{behind-paste}
 use Rattle.frames.proofs.Removal.{remaining-frames, removed-frames}
 use Rattle.volume.specs.Volume.{scaled}

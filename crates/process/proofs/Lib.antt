@@ -4,5 +4,5 @@ pub mod Joining
 mod Finishing
 mod Working
 pub mod Claims
-pub mod Told
+pub mod Telling
 pub mod Amounts

@@ -2,6 +2,7 @@
 // follow. `specs/Process.antt` says what becomes of the samples. Work goes into the free parts of the areas first and
 // is committed at the end.
 #![tactic(auto)]
+
 mod finish;
 
 ghost use Rattle.std.specs.Prelude.{◌≡◌, ◌^◌, ◌+◌, ◌≤◌};
