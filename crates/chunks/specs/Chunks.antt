@@ -1,5 +1,6 @@
 -- docs/RULES.md, "WAVE files": the head of a file, and one of its chunks. Definitions only. Assumes nothing.
-use Rattle.std.specs.Prelude.{Bool, true, false, not, cond, ◌&&◌, List, [], ◌∷◌, ℕ, ◌+◌, ◌-◌, ◌%◌, leb, ltb, eqb, length}
+use Rattle.std.specs.Prelude.{Bool, true, false, not, cond, ◌&&◌, List, [], ◌∷◌, ℕ, ◌+◌, ◌-◌, ◌%◌, leb, ltb, eqb}
+use Rattle.std.specs.Prelude.{length}
 use Rattle.stream.specs.Refusals.{bad_size, bad_format, rate_bad, channels_bad}
 use Rattle.chunks.specs.declared.Format.{Format}
 use Rattle.chunks.specs.declared.Chunk.{Chunk}

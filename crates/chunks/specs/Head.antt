@@ -10,8 +10,8 @@ riff_part size = riff_id ++ four_bytes (36 + size) ++ wave_id
 -- a fmt chunk of 16 bytes: tag 1, channels, rate, the bytes of a second, the bytes of a frame, 16 bits
 abbrev pub format_part : ℕ → ℕ → List ℕ
 format_part rate channels =
-    format_id ++ four_bytes 16 ++ two_bytes 1 ++ two_bytes channels ++ four_bytes rate ++ four_bytes (2 * rate * channels)
-    ++ two_bytes (2 * channels) ++ two_bytes 16
+    format_id ++ four_bytes 16 ++ two_bytes 1 ++ two_bytes channels ++ four_bytes rate
+    ++ four_bytes (2 * rate * channels) ++ two_bytes (2 * channels) ++ two_bytes 16
 
 -- the head of the data chunk
 abbrev pub data_part : ℕ → List ℕ

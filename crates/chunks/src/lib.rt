@@ -1,6 +1,7 @@
 // The chunks of a RIFF/WAVE file of 16-bit PCM: its head, one chunk of it at a time, and the head of a file that is
 // written. A file need not be at hand as a whole: `specs/` says what is answered.
 #![tactic(auto)]
+
 mod formats;
 mod head;
 mod ids;

@@ -9,8 +9,7 @@ use native.Mathlib.Omega.{arith}
 use Rattle.chunks.specs.declared.Format.{Format}
 use Rattle.chunks.specs.Numbers.{u32_at}
 use Rattle.chunks.specs.Chunks.{format_id, is_id, format_in, format_after}
-use Rattle.chunks.proofs.formats.format_after.Statement.{statement}
-use Rattle.chunks.proofs.formats.format_after.Tie as tie
+use Rattle.chunks.proofs.formats.format_after.Goals as goal
 
 known : (chunk : List ℕ) (size : ℕ) (f : Format) → f.found ≡ true → f ≡ format_after chunk size f
 unfolding format_after
@@ -33,25 +32,19 @@ module _ (chunk : List ℕ) (size : ℕ) (f : Format) (unknown : f.found ≡ fal
   unfolding format_after
   used e h g q = q ∙ sym (simp (unknown, format-here e, le-leb 16 size h))
 
-returns : tie.Need-returns
-returns c = search (known, rules)
+pub returns-then-format : goal.returns-then-format
+returns-then-format c = search (known, rules)
 
-returns-2 : tie.Need-returns-2
-returns-2 c = search (other, rules)
+pub returns-then-u32_at-ne-FMT : goal.returns-then-u32_at-ne-FMT
+returns-then-u32_at-ne-FMT c = search (other, rules)
 
-returns-3 : tie.Need-returns-3
-returns-3 c =
-    let small : c.before.before.before.before.before.args.size < 16 = omega arith in
+pub returns-then-size-lt-LEAST_SIZE : goal.returns-then-size-lt-LEAST_SIZE
+returns-then-size-lt-LEAST_SIZE c =
+    let small : c.args.size < 16 = omega arith in
     search (short, rules)
 
-format-in-requires : tie.Need-format-in-requires
-format-in-requires c κs = c.before.before.before.before.before.requires.1 (omega arith)
+pub format_in-requires : goal.format_in-requires
+format_in-requires c = c.requires.1 (omega arith)
 
-returns-4 : tie.Need-returns-4
-returns-4 c = search (used, rules)
-
-u32-at-requires : tie.Need-u32-at-requires
-u32-at-requires c κs = search rules
-
-pub format-after-spec : {M : Type 1} → statement M
-format-after-spec = tie.close (tie.spec returns u32-at-requires returns-2 returns-3 format-in-requires returns-4)
+pub returns : goal.returns
+returns c = search (used, rules)

@@ -11,8 +11,7 @@ use Rattle.chunks.specs.declared.Format.{Format}
 use Rattle.chunks.specs.declared.Chunk.{Chunk}
 use Rattle.chunks.specs.Numbers.{u32_at}
 use Rattle.chunks.specs.Chunks.{data_id, is_id, padded, format_after, is_read, sized_chunk}
-use Rattle.chunks.proofs.sized_chunk.Statement.{statement}
-use Rattle.chunks.proofs.sized_chunk.Tie as tie
+use Rattle.chunks.proofs.sized_chunk.Goals as goal
 
 -- ---- its answers
 
@@ -49,47 +48,23 @@ module _ (rest : List ℕ) (size room : ℕ) (f : Format) (id : ℕ) (first : id
   unfolding sized_chunk
   other-inside e h g q = simp (other-here e, le-ltb room (padded size) h, q)
 
--- ---- needs
+pub returns-then-size-room : goal.returns-then-size-room
+returns-then-size-room c = search (data-past, rules)
 
-returns : tie.Need-returns
-returns c = search (data-past, rules)
+pub returns-then-not-is_read : goal.returns-then-not-is_read
+returns-then-not-is_read c = search (data-unread, rules)
 
-returns-2 : tie.Need-returns-2
-returns-2 c = search (data-unread, rules)
+pub returns-then-u32_at-eq-DATA : goal.returns-then-u32_at-eq-DATA
+returns-then-u32_at-eq-DATA c = search (data-read, rules)
 
-returns-3 : tie.Need-returns-3
-returns-3 c = search (data-read, rules)
-
-returns-4 : tie.Need-returns-4
-returns-4 c =
-    let a = c.before.before.before.before.args in
+pub returns-then-padded-room : goal.returns-then-padded-room
+returns-then-padded-room c =
+    let a = c.args in
     let past : a.room < padded a.size = omega arith in
     search (other-past, rules)
 
-returns-5 : tie.Need-returns-5
-returns-5 c =
-    let a = c.before.before.before.before.before.args in
+pub returns : goal.returns
+returns c =
+    let a = c.args in
     let inside : padded a.size ≤ a.room = omega arith in
     search (other-inside, rules)
-
--- ---- what search closes
-
-u32-at-requires : tie.Need-u32-at-requires
-u32-at-requires c κs = search rules
-
-is-read-requires : tie.Need-is-read-requires
-is-read-requires c κs = search rules
-
-add-padded : tie.Need-overflow-add-padded
-add-padded c = search rules
-
-add-t10 : tie.Need-overflow-add-t10
-add-t10 c = search rules
-
-format-after-requires : tie.Need-format-after-requires
-format-after-requires c κs = search rules
-
-pub sized-chunk-spec : {M : Type 1} → statement M
-sized-chunk-spec =
-    tie.close
-    (tie.spec u32-at-requires returns is-read-requires returns-2 returns-3 add-padded returns-4 add-t10 format-after-requires returns-5)
