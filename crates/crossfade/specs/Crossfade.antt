@@ -17,7 +17,8 @@ crossfade_frame k t down up (suc n) =
 unfoldable pub crossfade_to : ℕ → ℕ → List ℤ → List ℤ → ℕ → List ℤ
 crossfade_to k channels down up zero = []
 crossfade_to k channels down up (suc t) =
-    crossfade_to k channels down up t ++ crossfade_frame k t (drop (t * channels) down) (drop (t * channels) up) channels
+    crossfade_to k channels down up t
+    ++ crossfade_frame k t (drop (t * channels) down) (drop (t * channels) up) channels
 
 -- `overlap_add`: k frames from down into up
 unfoldable pub overlap_add : ℕ → ℕ → List ℤ → List ℤ → List ℤ

@@ -97,7 +97,8 @@ fn crossfade_frames(
     to: Samples,
 )
     requires k_le_longest_period { (k.0 ≤ longest_period) × (reciprocal ≡ reciprocal_of k.0) }
-    requires channels_in_bounds { (down.0 + k.0 * channels ≤ length input.now) × (up.0 + k.0 * channels ≤ length input.now)
+    requires channels_in_bounds { (down.0 + k.0 * channels ≤ length input.now)
+        × (up.0 + k.0 * channels ≤ length input.now)
         × (to.0 + k.0 * channels ≤ length area.old) }
     ensures { area.new ≡ paste area.old to.0
         (overlap_add k.0 channels (drop down.0 input.now) (drop up.0 input.now))
@@ -169,7 +170,8 @@ pub fn overlap_add(
     to: Samples,
 )
     requires k_le_longest_period { k.0 ≤ longest_period }
-    requires channels_in_bounds { (down.0 + k.0 * channels ≤ length input.now) × (up.0 + k.0 * channels ≤ length input.now)
+    requires channels_in_bounds { (down.0 + k.0 * channels ≤ length input.now)
+        × (up.0 + k.0 * channels ≤ length input.now)
         × (to.0 + k.0 * channels ≤ length area.old) }
     ensures { area.new ≡ paste area.old to.0
         (overlap_add k.0 channels (drop down.0 input.now) (drop up.0 input.now))

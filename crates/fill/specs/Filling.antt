@@ -1,6 +1,7 @@
 -- What the functions of `fill` require and ensure of a stream s; its areas go from a to b. Definitions only. Assumes
 -- nothing.
-use Rattle.std.specs.Prelude.{◌≡◌, Bool, true, false, cond, List, ℕ, ◌-◌, ◌*◌, ◌/◌, ◌^◌, ◌≤◌, ◌<◌, ℤ, Float, length, take, drop}
+use Rattle.std.specs.Prelude.{◌≡◌, Bool, true, false, cond, List, ℕ, ◌-◌, ◌*◌, ◌/◌, ◌^◌, ◌≤◌, ◌<◌, ℤ, Float, length}
+use Rattle.std.specs.Prelude.{take, drop}
 use Rattle.std.specs.Float.Ieee.{eq}
 use Rattle.std.proofs.Math.Seq.{paste}
 use Rattle.frames.specs.Areas.{Areas}

@@ -1,7 +1,8 @@
 -- docs/RULES.md, "Period search": `find_pitch_period`, on the samples from the position on: which are searched, when
 -- the previous period is used, and the record; both searches go by the choice of ties, and the sum of differences of
 -- the period found is passed on (C-17). Definitions only. Assumes nothing.
-use Rattle.std.specs.Prelude.{ℕ, ◌+◌, ◌-◌, ◌*◌, ◌/◌, ◌≤◌, min, max, Bool, not, cond, ◌&&◌, ◌≡◌, ◌⊎◌, List, leb, ltb, eqb, ℤ}
+use Rattle.std.specs.Prelude.{ℕ, ◌+◌, ◌-◌, ◌*◌, ◌/◌, ◌≤◌, min, max, Bool, not, cond, ◌&&◌, ◌≡◌, ◌⊎◌, List, leb, ltb}
+use Rattle.std.specs.Prelude.{eqb, ℤ}
 use Rattle.search.specs.declared.Ties.{Ties}
 use Rattle.search.specs.declared.Found.{Found}
 use Rattle.period.specs.declared.PeriodRecord.{PeriodRecord}

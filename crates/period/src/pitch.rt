@@ -6,7 +6,8 @@ ghost use Rattle.search.specs.Search.{widest_gap, Searchable, Bounded};
 ghost use Rattle.search.specs.Outward.{wanted_in};
 ghost use Rattle.averages.specs.Averages.{Averageable};
 ghost use Rattle.period.specs.Pitch.{values_of, find_pitch_period, InRange, PrevInOrder};
-ghost use Rattle.period.specs.Searches.{first_search, second_search, last_search, nearby_of, best_of, prev_might_be_better};
+ghost use Rattle.period.specs.Searches.{first_search, second_search, last_search, nearby_of, best_of};
+ghost use Rattle.period.specs.Searches.{prev_might_be_better};
 
 use crate::{Chosen, PeriodRecord};
 use frames::{Frames, Samples};
@@ -73,7 +74,8 @@ fn coarse_search(
     scratch: &mut [i16],
 ) -> Candidate
     requires in_limits { InLimits rate channels }
-    requires channels_in_bounds { (max_required rate * channels ≤ length samples.now) × (max_required rate ≤ length scratch.old) }
+    requires channels_in_bounds { (max_required rate * channels ≤ length samples.now)
+        × (max_required rate ≤ length scratch.old) }
     ensures { (result ≡ first_search wanted samples.now channels rate) × Bounded result }
 {
     let skip = crate::rates::skip(rate);
@@ -104,7 +106,8 @@ fn fine_search(
 ) -> Candidate
     requires in_limits { InLimits rate channels }
     requires near_bound { (near ≤ max_period rate) × (min_period rate < near + skip rate) }
-    requires channels_in_bounds { (max_required rate * channels ≤ length samples.now) × (max_required rate ≤ length scratch.old) }
+    requires channels_in_bounds { (max_required rate * channels ≤ length samples.now)
+        × (max_required rate ≤ length scratch.old) }
     ensures { (result ≡ second_search wanted samples.now channels rate near) × Bounded result }
 {
     let reach = 4 * crate::rates::skip(rate);
@@ -127,7 +130,8 @@ fn least_at(
     scratch: &mut [i16],
 ) -> LeastMean
     requires in_limits { InLimits rate channels }
-    requires channels_in_bounds { (max_required rate * channels ≤ length samples.now) × (max_required rate ≤ length scratch.old) }
+    requires channels_in_bounds { (max_required rate * channels ≤ length samples.now)
+        × (max_required rate ≤ length scratch.old) }
     ensures { (result.near ≡ nearby_of ties samples.now channels rate)
         × (result.best ≡ best_of ties samples.now channels rate) × Bounded result.best }
 {
@@ -164,7 +168,8 @@ fn greatest_at(
 ) -> Candidate
     requires in_limits { InLimits rate channels }
     requires near_bound { (near ≤ max_period rate) × (min_period rate < near + skip rate) }
-    requires channels_in_bounds { (max_required rate * channels ≤ length samples.now) × (max_required rate ≤ length scratch.old) }
+    requires channels_in_bounds { (max_required rate * channels ≤ length samples.now)
+        × (max_required rate ≤ length scratch.old) }
     ensures { (result ≡ last_search Wanted.Greatest samples.now channels rate near) × Bounded result }
 {
     if crate::rates::skip(rate) == 1 {
@@ -199,7 +204,8 @@ pub fn find_pitch_period(
 ) -> Chosen
     requires in_limits { InLimits rate channels }
     requires prev_in_order { PrevInOrder rate prev }
-    requires channels_in_bounds { (max_required rate * channels ≤ length samples.now) × (max_required rate ≤ length scratch.old) }
+    requires channels_in_bounds { (max_required rate * channels ≤ length samples.now)
+        × (max_required rate ≤ length scratch.old) }
     ensures { (result ≡ find_pitch_period ties samples.now channels rate prev) × InRange rate result.period.0
         × PrevInOrder rate result.prev }
 {

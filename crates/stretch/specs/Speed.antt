@@ -1,6 +1,7 @@
 -- docs/RULES.md, "Stretch steps": `change_speed`. The list of a call's steps, and what is computed from it. u is the
 -- call, x the held input, h a place. Definitions only.
-use Rattle.std.specs.Prelude.{ℕ, zero, suc, ◌+◌, ◌*◌, ◌≤◌, Bool, false, cond, ◌||◌, List, [], ◌∷◌, ◌++◌, ◌≡◌, leb, ltb, ℤ, Float, take}
+use Rattle.std.specs.Prelude.{ℕ, zero, suc, ◌+◌, ◌*◌, ◌≤◌, Bool, false, cond, ◌||◌, List, [], ◌∷◌, ◌++◌, ◌≡◌, leb, ltb}
+use Rattle.std.specs.Prelude.{ℤ, Float, take}
 use Rattle.std.proofs.Math.Seq.{paste}
 use Rattle.frames.specs.Framing.{Frame, frames_of}
 use Rattle.period.specs.declared.PeriodRecord.{PeriodRecord}

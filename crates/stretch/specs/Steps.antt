@@ -1,13 +1,15 @@
 -- docs/RULES.md, "Stretch steps": which step is due at a place, what it gives and uses, and the place after it; with
 -- C-16, C-17 and C-18. u is the call, x the held input, h a place. Definitions only.
-use Rattle.std.specs.Prelude.{ℕ, ◌+◌, ◌-◌, ◌*◌, ◌^◌, ◌≤◌, ◌≡◌, Bool, false, cond, ◌&&◌, ◌||◌, List, [], T, eqb, ltb, ℤ, Float, drop}
+use Rattle.std.specs.Prelude.{ℕ, ◌+◌, ◌-◌, ◌*◌, ◌^◌, ◌≤◌, ◌≡◌, Bool, false, cond, ◌&&◌, ◌||◌, List, [], T, eqb, ltb, ℤ}
+use Rattle.std.specs.Prelude.{Float, drop}
 use Rattle.std.specs.Float.{binary32}
 use Rattle.std.specs.Float.Ieee.{lt, fits}
 use Rattle.std.proofs.Math.Seq.{paste}
 use Rattle.frames.specs.declared.Frames.{Frames}
 use Rattle.floats.specs.Numbers.{one}
 use Rattle.floats.specs.Settings.{sample_period}
-use Rattle.floats.specs.Steps.{copying_due, copy_count, skip_count, insert_count, error_copied, error_skipped, error_inserted}
+use Rattle.floats.specs.Steps.{copying_due, copy_count, skip_count, insert_count, error_copied, error_skipped}
+use Rattle.floats.specs.Steps.{error_inserted}
 use Rattle.period.specs.declared.PeriodRecord.{PeriodRecord}
 use Rattle.period.specs.declared.Chosen.{Chosen}
 use Rattle.period.specs.Rates.{InLimits}
