@@ -5,17 +5,19 @@ ghost use Rattle.stream.specs.Refusals.{within};
 ghost use Rattle.jobs.specs.Arguments.{asked_of, AskedInRange};
 
 use crate::options::{Options, given, is_option};
+use crate::words::{count, read_word};
 use crate::{Asked, Job};
 use decimal::{Digits, Value};
+use std::env::Env;
 use stream::SonicStream;
 
 // The most bytes of an argument.
 const TEXT: usize = 32;
 
 // The whole number that an argument is; 0, which no argument may be, for anything else.
-fn whole(place: usize) -> u32 {
+fn whole(env: &impl Env, place: usize) -> u32 {
     let mut text = [0u8; TEXT];
-    let n = os::arg(place, &mut text);
+    let n = read_word(env, place, &mut text);
     match decimal::read_whole(&text[..n]) {
         Digits::Refused => 0,
         Digits::Number(k) => { if k <= 0xffff_ffff { k as u32 } else { 0 } }
@@ -23,9 +25,9 @@ fn whole(place: usize) -> u32 {
 }
 
 // The decimal number that an argument is; 0, which no argument may be, for anything else.
-fn value(place: usize) -> f32 {
+fn value(env: &impl Env, place: usize) -> f32 {
     let mut text = [0u8; TEXT];
-    let n = os::arg(place, &mut text);
+    let n = read_word(env, place, &mut text);
     match decimal::read_value(&text[..n]) {
         Value::Refused => 0.0,
         Value::Nearest(x) => x,
@@ -34,9 +36,9 @@ fn value(place: usize) -> f32 {
 
 // Whether an argument is made of digits and points: a number, if perhaps a wrong one. Any other that stands first is a
 // name.
-fn is_number(place: usize) -> bool {
+fn is_number(env: &impl Env, place: usize) -> bool {
     let mut text = [0u8; TEXT];
-    let n = os::arg(place, &mut text);
+    let n = read_word(env, place, &mut text);
     n > 0 && are_digits(&text[..n])
 }
 
@@ -53,15 +55,15 @@ fn are_digits(text: &[u8]) -> bool {
 }
 
 // Whether an argument is this word.
-pub(crate) fn is_word(place: usize, word: &[u8]) -> bool {
+pub(crate) fn is_word(env: &impl Env, place: usize, word: &[u8]) -> bool {
     let mut text = [0u8; TEXT];
-    let n = os::arg(place, &mut text);
-    check::same(&text[..n], word)
+    let n = read_word(env, place, &mut text);
+    &text[..n] == word
 }
 
 // Whether the first argument asks for the status on a descriptor.
-pub fn wants_status() -> bool {
-    is_word(1, b"--status")
+pub fn wants_status(env: &impl Env) -> bool {
+    is_word(env, 1, b"--status")
 }
 
 fn is_within(x: f32, low: f32, high: f32) -> bool
@@ -103,7 +105,7 @@ struct Numbers {
 
 // The job of these numbers: rate and channels, if there are four or five, speed and pitch, and the volume, if there are
 // three or five; or none of them.
-fn job(options: Options, numbers: Numbers) -> Job
+fn job(env: &impl Env, options: Options, numbers: Numbers) -> Job
     requires { numbers.before ≤ 11 }
 {
     let with_rate = numbers.count > 3;
@@ -116,18 +118,22 @@ fn job(options: Options, numbers: Numbers) -> Job
     let with_volume = numbers.count == 3 || numbers.count == 5;
     Job {
         rate: if with_rate {
-            whole(numbers.before + 1)
+            whole(env, numbers.before + 1)
         } else {
             8000
         },
         channels: if with_rate {
-            whole(numbers.before + 2)
+            whole(env, numbers.before + 2)
         } else {
             1
         },
-        speed: if some { value(before + 1) } else { 20.0 },
-        pitch: if some { value(before + 2) } else { 0.5 },
-        volume: if with_volume { value(before + 3) } else { 1.0 },
+        speed: if some { value(env, before + 1) } else { 20.0 },
+        pitch: if some { value(env, before + 2) } else { 0.5 },
+        volume: if with_volume {
+            value(env, before + 3)
+        } else {
+            1.0
+        },
         step_over: !options.as_original,
         ties: stream::ties_of(options.longest_period as u32),
         map: options.map,
@@ -138,12 +144,12 @@ fn job(options: Options, numbers: Numbers) -> Job
 }
 
 // The arguments behind the options, of which there are `count` with the program's name and the options.
-fn numbers_of(options: Options, count: usize) -> Numbers
+fn numbers_of(env: &impl Env, options: Options, count: usize) -> Numbers
     requires { options.before ≤ 9 }
     ensures { result.before ≤ 11 }
 {
     let first = options.before + 1;
-    let names = if first < count && !is_number(first) {
+    let names = if first < count && !is_number(env, first) {
         first
     } else {
         0
@@ -161,10 +167,10 @@ fn numbers_of(options: Options, count: usize) -> Numbers
 }
 
 // Whether one of the arguments from a place on begins as options do.
-fn has_option(from: usize, count: usize) -> bool {
+fn has_option(env: &impl Env, from: usize, count: usize) -> bool {
     let mut place = from;
     while place < count {
-        if is_option(place) {
+        if is_option(env, place) {
             return true;
         }
         place += 1;
@@ -173,38 +179,38 @@ fn has_option(from: usize, count: usize) -> bool {
 }
 
 // What the names and numbers behind the options ask for.
-fn asked(options: Options, count: usize) -> Asked
+fn asked(env: &impl Env, options: Options, count: usize) -> Asked
     requires { options.before ≤ 9 }
     ensures { AskedInRange result }
 {
-    let numbers = numbers_of(options, count);
+    let numbers = numbers_of(env, options, count);
     if numbers.names > 0 && (options.raw || numbers.count > 3 || count < numbers.before + 1) {
         return Asked::Wrong(8);
     }
     if numbers.count == 1 || numbers.count > 5 {
         return Asked::Wrong(0);
     }
-    checked(job(options, numbers))
+    checked(job(env, options, numbers))
 }
 
 // What the arguments ask for, behind `--status` if that is the first.
-pub fn read(with_status: bool) -> Asked
+pub fn read(env: &impl Env, with_status: bool) -> Asked
     ensures { AskedInRange result }
 {
-    let count = os::arg_count();
-    let options = given(with_status);
+    let count = count(env);
+    let options = given(env, with_status);
     let first = options.before + 1;
-    if options.map > 0 && (options.map >= count || is_option(options.map)) {
+    if options.map > 0 && (options.map >= count || is_option(env, options.map)) {
         return Asked::Wrong(7);
     }
-    if count == first + 1 && is_word(first, b"--help") {
+    if count == first + 1 && is_word(env, first, b"--help") {
         return Asked::Help;
     }
-    if count == first + 1 && is_word(first, b"--version") {
+    if count == first + 1 && is_word(env, first, b"--version") {
         return Asked::Version;
     }
-    if has_option(first, count) {
+    if has_option(env, first, count) {
         return Asked::Wrong(6);
     }
-    asked(options, count)
+    asked(env, options, count)
 }

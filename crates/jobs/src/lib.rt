@@ -1,14 +1,16 @@
 // The job that the arguments of the skim tool ask for, and its stream. `specs/Arguments.antt` and `specs/Settings.antt`
 // say what is answered.
 #![tactic(auto)]
+
 mod arguments;
 mod options;
 mod settling;
+mod words;
 
 pub use arguments::{read, wants_status};
-pub use options::open_map;
 pub use settling::{open, settle, with_format};
 use stream::Ties;
+pub use words::{NAME, name};
 
 // What a run is to do: the opening and the settings of its stream; the places of the arguments that name the map's
 // file, 0 if none is wanted, the input's and the output's, 0 for standard input and output; and whether the input is

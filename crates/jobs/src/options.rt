@@ -3,6 +3,8 @@
 ghost use Rattle.std.specs.Prelude.{◌+◌, ◌≤◌};
 
 use crate::arguments::is_word;
+use crate::words::begins;
+use std::env::Env;
 
 // What was found so far: whether to stop as the original does, whether to find the longest of several periods with the
 // same mean, whether the input is raw PCM, the place of the map's name, 0 if there is none, and the arguments that
@@ -17,27 +19,27 @@ pub struct Options {
 }
 
 // One option more, if the next argument is one that was not given yet.
-fn one_more(mut found: Options) -> Options
+fn one_more(env: &impl Env, mut found: Options) -> Options
     requires { found.before ≤ 8 }
     ensures { result.before ≤ found.before + 2 }
 {
     let next = found.before + 1;
-    if !found.as_original && is_word(next, b"--as-original") {
+    if !found.as_original && is_word(env, next, b"--as-original") {
         found.as_original = true;
         found.before = next;
         return found;
     }
-    if !found.longest_period && is_word(next, b"--longest-period") {
+    if !found.longest_period && is_word(env, next, b"--longest-period") {
         found.longest_period = true;
         found.before = next;
         return found;
     }
-    if !found.raw && is_word(next, b"--raw") {
+    if !found.raw && is_word(env, next, b"--raw") {
         found.raw = true;
         found.before = next;
         return found;
     }
-    if found.map == 0 && is_word(next, b"--map") {
+    if found.map == 0 && is_word(env, next, b"--map") {
         found.map = next + 1;
         found.before = next + 1;
     }
@@ -45,7 +47,7 @@ fn one_more(mut found: Options) -> Options
 }
 
 // The options, behind `--status` if that is the first argument.
-pub(crate) fn given(with_status: bool) -> Options
+pub(crate) fn given(env: &impl Env, with_status: bool) -> Options
     ensures { result.before ≤ 9 }
 {
     let none = Options {
@@ -55,23 +57,10 @@ pub(crate) fn given(with_status: bool) -> Options
         map: 0,
         before: if with_status { 1 } else { 0 },
     };
-    one_more(one_more(one_more(one_more(none))))
+    one_more(env, one_more(env, one_more(env, one_more(env, none))))
 }
 
 // Whether an argument begins as options do.
-pub(crate) fn is_option(place: usize) -> bool {
-    let mut text = [0u8; 2];
-    os::arg(place, &mut text);
-    text[0] == b'-' && text[1] == b'-'
-}
-
-// Opens the file of the map, whose name is the argument at this place, and answers a descriptor, or −1, and then errno
-// says why.
-pub fn open_map(place: usize) -> i32 {
-    let mut name = io::buffer();
-    let n = os::arg(place, &mut name);
-    if n == 0 && os::errno() != 0 {
-        return -1;
-    }
-    os::open_overwrite(&name[..n])
+pub(crate) fn is_option(env: &impl Env, place: usize) -> bool {
+    begins(env, place, b"--")
 }

@@ -1,5 +1,4 @@
 -- `jobs::arguments::asked` meets its contract: a job that is asked for was checked. Assumes nothing.
-use borrow.Author.Rules.{rules}
 use mathlib.Core.Path.{◌≡◌}
 use mathlib.Core.Bool.{Bool, true, false, cond}
 use Rattle.stream.specs.Refusals.{rate_bad, channels_bad, within}
@@ -7,9 +6,7 @@ use Rattle.floats.specs.Settings.{min_speed, max_speed, min_pitch, max_pitch, mi
 use Rattle.jobs.specs.declared.Job.{Job}
 use Rattle.jobs.specs.declared.Asked.{Asked}
 use Rattle.jobs.specs.Arguments.{asked_of, AskedInRange}
-use borrow.Author.Rules.{rules}
-use Rattle.jobs.proofs.arguments.asked.Statement.{statement}
-use Rattle.jobs.proofs.arguments.asked.Tie as tie
+use Rattle.jobs.proofs.arguments.asked.Goals as goal
 
 -- ---- what a checked job is
 
@@ -36,37 +33,5 @@ asked-in-range j Asked.Version e = tt
 asked-in-range j (Asked.Wrong place) e = tt
 asked-in-range j (Asked.Run k) e = cc (same-job j k e)
 
--- ---- needs
-
-numbers-of-requires : tie.Need-numbers-of-requires
-numbers-of-requires c κs = search rules
-
-add-if4 : tie.Need-overflow-add-if4
-add-if4 c = search rules
-
-returns : tie.Need-returns
-returns c = search rules
-
-returns-2 : tie.Need-returns-2
-returns-2 c = search rules
-
-job-requires : tie.Need-job-requires
-job-requires c κs = search rules
-
-checked-requires : tie.Need-checked-requires
-checked-requires c κs = search rules
-
-returns-3 : tie.Need-returns-3
-returns-3 c = asked-in-range c.before.job.result c.checked.result c.checked.ensures
-
-pub asked-spec : {M : Type 1} → statement M
-asked-spec =
-    tie.close
-    (tie.spec
-    numbers-of-requires
-    add-if4
-    returns
-    returns-2
-    job-requires
-    checked-requires
-    returns-3)
+pub returns : goal.returns
+returns g c = asked-in-range c.job.result c.checked.result c.checked.ensures

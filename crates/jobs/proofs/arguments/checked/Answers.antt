@@ -1,0 +1,79 @@
+-- `jobs::arguments::checked` meets its contract. Assumes nothing.
+use Rattle.std.proofs.Common.{◌≡◌, ℕ, ◌≤◌, false, cond, sym, ◌∙◌, lt-ltb, le-ltb}
+use Rattle.floats.specs.Settings.{min_speed, max_speed, min_pitch, max_pitch, min_volume, max_volume}
+use Rattle.stream.specs.Refusals.{rate_bad, channels_bad, within}
+use Rattle.jobs.specs.declared.Job.{Job}
+use Rattle.jobs.specs.declared.Asked.{Asked}
+use Rattle.jobs.specs.Arguments.{asked_of}
+use Rattle.jobs.proofs.arguments.checked.Goals as goal
+use Rattle.jobs.proofs.arguments.checked.Goals.{then-job-lt-MIN_RATE-via-then-job-lt-MIN_RATE, then-job-lt-MIN_RATE-via-else-job-lt-MIN_RATE+then-job-gt-MAX_RATE, then-job-lt-MIN_CHANNELS-via-then-job-lt-MIN_CHANNELS, then-job-lt-MIN_CHANNELS-via-else-job-lt-MIN_CHANNELS+then-job-gt-MAX_CHANNELS}
+
+rate_good : (n : ℕ) → 1000 ≤ n → n ≤ 500000 → rate_bad n ≡ false
+unfolding rate_bad
+rate_good n low high = simp (le-ltb n 1000 low, le-ltb 500000 n high)
+
+channels_good : (n : ℕ) → 1 ≤ n → n ≤ 32 → channels_bad n ≡ false
+unfolding channels_bad
+channels_good n low high = simp (le-ltb n 1 low, le-ltb 32 n high)
+
+-- with rate and channels in their ranges the settings decide
+by-settings : (j : Job) → rate_bad j.rate ≡ false → channels_bad j.channels ≡ false
+    → asked_of j ≡ cond (within min_speed max_speed j.speed)
+    (cond (within min_pitch max_pitch j.pitch)
+    (cond (within min_volume max_volume j.volume) (Asked.Run j) (Asked.Wrong 5))
+    (Asked.Wrong 4))
+    (Asked.Wrong 3)
+unfolding asked_of
+by-settings j rate channels = simp (rate, channels)
+
+pub returns-then-job-lt-MIN_RATE : goal.returns-then-job-lt-MIN_RATE
+unfolding asked_of rate_bad
+returns-then-job-lt-MIN_RATE c =
+    elim c.then-job-lt-MIN_RATE.branch [
+      | then-job-lt-MIN_RATE-via-then-job-lt-MIN_RATE w ↦ simp (lt-ltb _ _ w.if-job-lt-MIN_RATE.true)
+      | then-job-lt-MIN_RATE-via-else-job-lt-MIN_RATE+then-job-gt-MAX_RATE w ↦
+          simp (le-ltb _ _ w.if-job-lt-MIN_RATE.false, lt-ltb _ _ w.if-job-gt-MAX_RATE.true)
+    ]
+
+pub returns-then-job-lt-MIN_CHANNELS : goal.returns-then-job-lt-MIN_CHANNELS
+unfolding asked_of channels_bad
+returns-then-job-lt-MIN_CHANNELS c =
+    let rate = rate_good c.args.job.rate c.if-job-lt-MIN_RATE.false c.if-job-gt-MAX_RATE.false in
+    elim c.then-job-lt-MIN_CHANNELS.branch [
+      | then-job-lt-MIN_CHANNELS-via-then-job-lt-MIN_CHANNELS w ↦ simp (rate, lt-ltb _ _ w.if-job-lt-MIN_CHANNELS.true)
+      | then-job-lt-MIN_CHANNELS-via-else-job-lt-MIN_CHANNELS+then-job-gt-MAX_CHANNELS w ↦
+          simp (rate, le-ltb _ _ w.if-job-lt-MIN_CHANNELS.false, lt-ltb _ _ w.if-job-gt-MAX_CHANNELS.true)
+    ]
+
+pub returns-then-not-is_within : goal.returns-then-not-is_within
+returns-then-not-is_within c =
+    let j = c.args.job in
+    let rate = rate_good j.rate c.if-job-lt-MIN_RATE.false c.if-job-gt-MAX_RATE.false in
+    let channels = channels_good j.channels c.if-job-lt-MIN_CHANNELS.false c.if-job-gt-MAX_CHANNELS.false in
+    simp (by-settings j rate channels, sym c.is_within.ensures ∙ c.if-not-is_within.true)
+
+pub returns-then-not-is_within-2 : goal.returns-then-not-is_within-2
+returns-then-not-is_within-2 c =
+    let j = c.args.job in
+    let rate = rate_good j.rate c.if-job-lt-MIN_RATE.false c.if-job-gt-MAX_RATE.false in
+    let channels = channels_good j.channels c.if-job-lt-MIN_CHANNELS.false c.if-job-gt-MAX_CHANNELS.false in
+    let speed = sym c.is_within.ensures ∙ c.if-not-is_within.false in
+    simp (by-settings j rate channels, speed, sym c.is_within-2.ensures ∙ c.if-not-is_within-2.true)
+
+pub returns-then-not-is_within-3 : goal.returns-then-not-is_within-3
+returns-then-not-is_within-3 c =
+    let j = c.args.job in
+    let rate = rate_good j.rate c.if-job-lt-MIN_RATE.false c.if-job-gt-MAX_RATE.false in
+    let channels = channels_good j.channels c.if-job-lt-MIN_CHANNELS.false c.if-job-gt-MAX_CHANNELS.false in
+    let speed = sym c.is_within.ensures ∙ c.if-not-is_within.false in
+    let pitch = sym c.is_within-2.ensures ∙ c.if-not-is_within-2.false in
+    simp (by-settings j rate channels, speed, pitch, sym c.is_within-3.ensures ∙ c.if-not-is_within-3.true)
+
+pub returns : goal.returns
+returns c =
+    let j = c.args.job in
+    let rate = rate_good j.rate c.if-job-lt-MIN_RATE.false c.if-job-gt-MAX_RATE.false in
+    let channels = channels_good j.channels c.if-job-lt-MIN_CHANNELS.false c.if-job-gt-MAX_CHANNELS.false in
+    let speed = sym c.is_within.ensures ∙ c.if-not-is_within.false in
+    let pitch = sym c.is_within-2.ensures ∙ c.if-not-is_within-2.false in
+    simp (by-settings j rate channels, speed, pitch, sym c.is_within-3.ensures ∙ c.if-not-is_within-3.false)

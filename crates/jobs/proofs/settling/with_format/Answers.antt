@@ -1,0 +1,8 @@
+-- `jobs::settling::with_format` meets its contract. Assumes nothing.
+use mathlib.Core.Path.{refl}
+use Rattle.jobs.specs.Settings.{with_format}
+use Rattle.jobs.proofs.settling.with_format.Goals as goal
+
+pub returns : goal.returns
+unfolding with_format
+returns c = refl
