@@ -1,6 +1,7 @@
 // What a write and a flush share: their answer, and the work of a call that has added frames to the input.
 // `specs/Calls.antt` says what each answers.
 #![tactic(auto)]
+
 ghost use Rattle.frames.specs.Areas.{areas};
 ghost use Rattle.adding.specs.Adding.{AddReady, AddEnsures};
 
