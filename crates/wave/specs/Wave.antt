@@ -1,6 +1,8 @@
 -- docs/RULES.md, "WAVE files": what reading and writing a file answer. Definitions only. Assumes nothing.
-use Rattle.std.specs.Prelude.{Bool, cond, ◌||◌, List, [], ◌∷◌, ◌++◌, ℕ, zero, suc, ◌+◌, ◌*◌, ◌/◌, ltb, ℤ, length, take, drop}
-use Rattle.stream.specs.Refusals.{bad_rate, bad_channels, not_wave, bad_size, bad_format, rate_bad, channels_bad, max_area}
+use Rattle.std.specs.Prelude.{Bool, cond, ◌||◌, List, [], ◌∷◌, ◌++◌, ℕ, zero, suc, ◌+◌, ◌*◌, ◌/◌, ltb, ℤ}
+use Rattle.std.specs.Prelude.{length, take, drop}
+use Rattle.stream.specs.Refusals.{bad_rate, bad_channels, not_wave, bad_size, bad_format}
+use Rattle.stream.specs.Refusals.{rate_bad, channels_bad, max_area}
 use Rattle.pcm.specs.Pcm.{pair_of}
 use Rattle.chunks.specs.declared.Format.{Format}
 use Rattle.chunks.specs.declared.Chunk.{Chunk}

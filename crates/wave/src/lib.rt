@@ -1,6 +1,7 @@
 // RIFF/WAVE files of 16-bit PCM, over lent bytes: reading copies no sample, and nothing is allocated.
 // `specs/Wave.antt` says what is answered.
 #![tactic(auto)]
+
 ghost use Rattle.std.specs.Prelude.{◌≡◌, ◌+◌, ◌*◌, ◌≤◌, length, take};
 ghost use Rattle.std.proofs.Math.Seq.{paste};
 ghost use Rattle.wave.specs.Wave.{file_of, read_wave, sample_bytes, write_wave};
