@@ -26,7 +26,7 @@ max_width = 16384
 unfoldable pub table_place : ℕ → ℕ → ℕ → ℕ
 table_place i r N = lobe_points * i + lobe_points * r / N
 
--- e = 50·i·N + 50r − L-as-N
+-- e = 50·i·N + 50r − L·N
 unfoldable pub remainder : ℕ → ℕ → ℕ → ℕ
 remainder i r N = lobe_points * i * N + lobe_points * r - table_place i r N * N
 

@@ -21,7 +21,7 @@ use Rattle.rate.proofs.Cycles.{cycle-le, phase-more, ratio-is, phase-lt}
 use Rattle.rate.proofs.Window.{window-is, length-interpolated}
 use Rattle.rate.proofs.Turns.{scanning-start, scanning-turn, scanning-full, scan-done, emitting-start, emitting-turn}
 use Rattle.rate.proofs.scan.scan_tail.Goals as goal
-use Rattle.rate.proofs.scan.scan_tail.Goals.{After-output-1, At-loop-n, At-scan, Else-made-room, Joined-p-old_rate, Left-scan, Start}
+use Rattle.rate.proofs.scan.scan_tail.Goals.{At-loop-n, At-scan, Else-made-room, Joined-p-old_rate, Left-scan, Start}
 use Rattle.rate.proofs.scan.scan_tail.Goals.{else-scan-test, then-scan-test+then-loop-n-test+then-made-room}
 use Rattle.rate.proofs.scan.scan_tail.Goals.{then-p-old_rate, else-p-old_rate}
 
@@ -156,10 +156,6 @@ left-long c =
       | then-scan-test+then-loop-n-test+then-made-room w ↦ ap length w.output-is ∙ w.loop-n.invariant.behind.long ∙ long
     ]
 
--- a frame is made
-abbrev made_at : After-output-1 → Else-made-room
-made_at c = c.before.before.before
-
 -- the inner loop is left
 abbrev left-loop : Joined-p-old_rate → AtLoop
 left-loop c = c.before.before
@@ -238,24 +234,24 @@ make_frame-requires c =
     }
 
 pub overflow_add-made : goal.overflow_add-made
-overflow_add-made c = record { fits = made-fits (made_at c) }
+overflow_add-made c = record { fits = made-fits c.before.before.before }
 
 pub overflow_add-n : goal.overflow_add-n
-overflow_add-n c = record { fits = omega (arith, last (loop-of (made_at c))) }
+overflow_add-n c = record { fits = omega (arith, last (loop-of c.before.before.before)) }
 
 pub loop-n-preserved : goal.loop-n-preserved
 loop-n-preserved c =
-    let d = loop-of (made_at c) in
+    let d = loop-of c.before.before.before in
     let s = begun d in
     let a = s.args in
     let b = d.loop-n.invariant in
     let x = drop ((scanned d).scan.j * a.channels) a.stage.now in
     let staged = mul-le-mul_right a.channels (ahead d) in
     let taps : a.channels ≤ length x = omega (arith, length-drop ((scanned d).scan.j * a.channels) a.stage.now, s.requires.1.holds) in
-    emitting-turn b c.make_frame.new.output (more-due d (made_at c).loop-n-test.true)
-    (omega (arith, room (made_at c), b.behind.long))
+    emitting-turn b c.make_frame.new.output (more-due d c.before.before.before.loop-n-test.true)
+    (omega (arith, room c.before.before.before, b.behind.long))
     (length-interpolated a.rates (record { old = (scanned d).scan.p; new = d.loop-n.n }) a.channels x taps)
-    (frame_is (made_at c) _ c.make_frame.ensures)
+    (frame_is c.before.before.before _ c.make_frame.ensures)
 
 pub overflow_add-p : goal.overflow_add-p
 overflow_add-p c = record { fits = omega (arith, (small (scanned c.before)).below) }
