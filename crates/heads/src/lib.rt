@@ -1,12 +1,16 @@
-// What the skim tool's input begins with: raw PCM, or a WAVE file, whose chunks are walked up to its samples. A file
-// that is named takes the place of standard input.
+// What the skim tool's input begins with: raw PCM, or a WAVE file, whose chunks are walked up to its samples.
 #![tactic(auto)]
+
 ghost use Rattle.std.specs.Prelude.{◌≡◌, ◌≤◌, length};
 ghost use Rattle.heads.specs.Inputs.{Taken};
 
 use chunks::{Chunk, ChunkHead, Format};
 use inputs::{BlockBytes, Source, fill};
-use libc::STDIN_FILENO;
+use ports::standing;
+use std::fs::OpenFile;
+use std::io::{Read, Seek, SeekFrom};
+use std::rt::Files;
+use std::{fs, io};
 use stream::refusals;
 
 // Raw PCM; a WAVE file with samples of this format; one that is refused with this number, where the format and the size
@@ -21,10 +25,13 @@ pub enum Input {
 
 // The bytes of the input that are left, if that is known.
 #[derive(Clone, Copy)]
-struct Left {
+pub struct Left {
     known: bool,
     bytes: usize,
 }
+
+// The bytes of a chunk that are read and dropped at a time.
+const SKIPPED: usize = 4096;
 
 // The bytes that came of a chunk's head; those that are looked at behind it, and those of them that came; the size of a
 // data chunk, or 0; whether a read failed.
@@ -38,26 +45,41 @@ struct Looked {
 }
 
 // A place in the input, or 0 if it has none.
-fn place(answer: i64) -> u64 {
-    if answer < 0 { 0 } else { answer as u64 }
+fn place(answer: io::Result<u64>) -> u64 {
+    answer.unwrap_or(0)
 }
 
-// The bytes of an input that can be sought. One that ends where it stands is taken for one that cannot.
-fn input_left() -> Left {
-    let here = libc::lseek(STDIN_FILENO, 0, libc::SEEK_CUR);
-    let start = place(here);
-    let end = place(libc::lseek(STDIN_FILENO, 0, libc::SEEK_END));
+// The bytes from where an input stands to its end. One that ends where it stands is taken for one that cannot be
+// sought.
+fn between(start: u64, end: u64) -> Left {
     if end <= start {
         return Left {
             known: false,
             bytes: 0,
         };
     }
-    libc::lseek(STDIN_FILENO, here, libc::SEEK_SET);
     Left {
         known: true,
         bytes: (end - start) as usize,
     }
+}
+
+// The bytes of a file that are left.
+pub fn file_left<S: Seek>(file: &mut S) -> Left {
+    let start = place(file.seek(SeekFrom::Current(0)));
+    let end = place(file.seek(SeekFrom::End(0)));
+    let left = between(start, end);
+    if left.known && place(file.seek(SeekFrom::Start(start))) != start {
+        return between(0, 0);
+    }
+    left
+}
+
+// The bytes of standard input that are left.
+pub fn input_left(files: &impl Files) -> Left {
+    let start = standing::of_input(files).map_or(u64::MAX, |place| place.at);
+    let end = fs::metadata(files, standing::INPUT).map_or(0, |told| told.len());
+    between(start, end)
 }
 
 // The same with so many bytes fewer.
@@ -73,20 +95,20 @@ fn fewer(left: Left, count: usize) -> Left {
 }
 
 // Reads and drops so many bytes, or as many as the block takes, or as come.
-fn skip_block(count: usize, block: &mut [u8]) -> BlockBytes
+fn skip_block<R: Read>(reader: &mut R, count: usize, block: &mut [u8]) -> BlockBytes
     ensures { result.bytes ≤ count }
 {
     if count < block.len() {
-        return fill(&mut block[..count], 0, 0);
+        return fill(reader, &mut block[..count], 0, 0);
     }
-    fill(block, 0, 0)
+    fill(reader, block, 0, 0)
 }
 
 // Reads and drops so many bytes, or as many as come.
-fn skip(count: usize, block: &mut [u8]) -> BlockBytes {
+fn skip<R: Read>(reader: &mut R, count: usize, block: &mut [u8]) -> BlockBytes {
     let mut done: usize = 0;
     while done < count {
-        let part = skip_block(count - done, block);
+        let part = skip_block(reader, count - done, block);
         if part.bytes == 0 {
             return BlockBytes {
                 bytes: done,
@@ -112,10 +134,10 @@ fn looked_at(chunk: ChunkHead) -> usize
 }
 
 // Reads the head of a chunk, and of any but data up to 16 bytes behind it.
-fn look(window: &mut [u8]) -> Looked
+fn look<R: Read>(reader: &mut R, window: &mut [u8]) -> Looked
     requires { 24 ≤ length window.old }
 {
-    let head = fill(&mut window[..8], 0, 0);
+    let head = fill(reader, &mut window[..8], 0, 0);
     if head.bytes < 8 {
         return Looked {
             head: head.bytes,
@@ -127,7 +149,7 @@ fn look(window: &mut [u8]) -> Looked
     }
     let chunk = chunks::head_of(window);
     let behind = looked_at(chunk);
-    let body = fill(&mut window[8..8 + behind], 0, 0);
+    let body = fill(reader, &mut window[8..8 + behind], 0, 0);
     Looked {
         head: 8,
         behind,
@@ -159,16 +181,16 @@ fn rest(looked: Looked, count: usize) -> usize {
 }
 
 // Walks from chunk to chunk. A proved loop has to end, and nothing says that the input does.
-fn walk(start: Left) -> Input
+fn walk<R: Read>(reader: &mut R, start: Left) -> Input
     ensures { Taken result }
 {
     let mut left = start;
     let mut format = Format::NONE;
-    let mut block = io::buffer();
+    let mut block = [0u8; SKIPPED];
     let mut rounds = u64::MAX;
     while rounds > 0 {
         let mut window = [0u8; chunks::LOOKED_AT];
-        let looked = look(&mut window);
+        let looked = look(reader, &mut window);
         if looked.failed {
             return Input::Failed;
         }
@@ -181,7 +203,7 @@ fn walk(start: Left) -> Input
             }
             Chunk::Other(count, next) => {
                 let behind = rest(looked, count);
-                let skipped = skip(behind, &mut block);
+                let skipped = skip(reader, behind, &mut block);
                 if skipped.failed {
                     return Input::Failed;
                 }
@@ -197,20 +219,17 @@ fn walk(start: Left) -> Input
     Input::Failed
 }
 
-// Opens the file of this name as standard input, and answers whether that was done; if not, errno says why. A
-// descriptor that is opened is the lowest that is free.
-pub fn open(name: &[u8]) -> bool {
-    libc::close(STDIN_FILENO);
-    os::open_read(name) == STDIN_FILENO
+// Opens the file of this name, at a descriptor above those of the standard streams, of which some may be closed.
+pub fn open<R: Files>(files: &R, name: &str) -> io::Result<R::File> {
+    fs::open(files, name)?.try_clone()
 }
 
 // What the input is, with its first 12 bytes in `head`. Standard input is raw PCM unless it begins with RIFF.
-fn begin_in(head: &mut [u8], named: bool) -> Input
+fn begin_in<R: Read>(reader: &mut R, head: &mut [u8], left: Left, named: bool) -> Input
     requires { length head.old ≡ 12 }
     ensures { Taken result }
 {
-    let left = input_left();
-    let first = fill(&mut head[..4], 0, 0);
+    let first = fill(reader, &mut head[..4], 0, 0);
     if first.failed {
         return Input::Failed;
     }
@@ -218,20 +237,20 @@ fn begin_in(head: &mut [u8], named: bool) -> Input
     if !named && number != chunks::RIFF {
         return Input::Raw(Source::begun(number, first.bytes));
     }
-    let others = fill(&mut head[4..], 0, 0);
+    let others = fill(reader, &mut head[4..], 0, 0);
     if others.failed {
         return Input::Failed;
     }
     if others.bytes < 8 || !chunks::is_wave(head) {
         return Input::Refused(refusals::NOT_WAVE, Format::NONE, 0);
     }
-    walk(fewer(left, chunks::FILE_HEAD))
+    walk(reader, fewer(left, chunks::FILE_HEAD))
 }
 
-// What the input is: a WAVE file if it is named, or begins with RIFF.
-pub fn begin(named: bool) -> Input
+// What an input is of which so many bytes are left: a WAVE file if it is named, or begins with RIFF.
+pub fn begin<R: Read>(reader: &mut R, left: Left, named: bool) -> Input
     ensures { Taken result }
 {
     let mut head = [0u8; chunks::FILE_HEAD];
-    begin_in(&mut head, named)
+    begin_in(reader, &mut head, left, named)
 }
