@@ -1,5 +1,6 @@
 // The flush: a write of silence, of which only the frames expected are kept; then everything held is cleared.
 #![tactic(auto)]
+
 ghost use Rattle.std.specs.Prelude.{◌≡◌, ◌+◌, ◌-◌, ◌*◌, ◌≤◌, min};
 ghost use Rattle.frames.specs.Areas.{areas};
 ghost use Rattle.floats.specs.Settings.{sample_period};

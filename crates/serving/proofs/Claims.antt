@@ -1,13 +1,13 @@
 -- A served job is never refused, but for a total past 64 bits: write-served, flush-served. Assumes nothing.
-use mathlib.Core.Path.{◌≡◌, refl, sym, ap, ◌∙◌, subst}
+use mathlib.Core.Path.{◌≡◌, refl, sym, subst}
 use mathlib.Core.Bool.{true}
 use mathlib.Core.Logic.{◌⊎◌, inl, inr}
-use mathlib.Core.List.{List, [], map}
+use mathlib.Core.List.{List, map}
 use Prim.Native.Nat.{ℕ, zero, suc, ◌+◌, ◌*◌, ◌/◌, ◌≤◌}
 use native.Mathlib.Omega.{arith}
 use lib.IntN.{pos}
 use lib.Ieee.{Float}
-use lib.ListN.{length, take, replicate, length-map, length-take, length-replicate}
+use lib.ListN.{length, replicate, length-map, length-take, length-replicate}
 use Rattle.frames.specs.Areas.{Areas}
 use Rattle.frames.specs.Framing.{Frame}
 use Rattle.frames.proofs.Framing.{length-frames_of}
@@ -18,7 +18,7 @@ use Rattle.stream.specs.State.{State}
 use Rattle.stream.specs.Stream.{state_of, stream_of}
 use Rattle.stream.specs.Refusals.{accepted, total_full, is_in_order}
 use Rattle.fill.specs.declared.Told.{Told}
-use Rattle.process.specs.Process.{whole_frames, joined, write_work, flush_work, expected, cleared}
+use Rattle.process.specs.Process.{whole_frames, write_work, flush_work, expected, cleared}
 use Rattle.adding.specs.declared.Wrote.{Wrote}
 use Rattle.adding.specs.Calls.{refused_call, accepted_call, call_by, refusal_of, write_call, flush_call, OrderAfter}
 use Rattle.adding.proofs.Adding.{work_of}

@@ -1,6 +1,6 @@
 -- Streams that are steady before any call that is lent areas: fresh-opened, fresh_set, steady-unheld; and one of which frames were read: steady-read.
 -- Assumes nothing.
-use mathlib.Core.Path.{◌≡◌, refl, subst, ◌∙◌}
+use mathlib.Core.Path.{◌≡◌, refl, ◌∙◌}
 use mathlib.Core.Bool.{Bool, true, false, cond, true≢false}
 use mathlib.Core.List.{[]}
 use Prim.Native.Nat.{ℕ, ◌*◌, ◌≤◌}
@@ -12,7 +12,6 @@ use Rattle.stream.specs.declared.SonicStream.{SonicStream}
 use Rattle.stream.specs.declared.Setting.{Setting}
 use Rattle.stream.specs.declared.Setting.TheVariants.{Speed, Pitch, Volume, StepOver}
 use Rattle.stream.specs.declared.Opened.{Opened}
-use Rattle.stream.specs.State.{State}
 use Rattle.stream.specs.Stream.{state_of, stream_of, unlent, zero_stream}
 use Rattle.stream.specs.Settings.{fresh, open_call, with_setting}
 use Rattle.stream.specs.Refusals.{bad_rate, bad_channels, rate_bad, channels_bad}

@@ -7,7 +7,6 @@ use native.Mathlib.Omega.{arith}
 use borrow.Author.Tests.{leb-true}
 use Rattle.frames.proofs.Room.{frames-le, samples-le}
 use Rattle.period.specs.Rates.{InLimits, max_period, max_required}
-use Rattle.rate.specs.declared.Rates.{Rates}
 use Rattle.rate.specs.Halving.{rates_of}
 use Rattle.stream.specs.declared.SonicStream.{SonicStream}
 use Rattle.plans.specs.Plans.{input_area, stage_area, output_area, block_samples, tail_frames, is_small, growth_of, held_within, output_room, limit_of, served}

@@ -4,20 +4,20 @@
 --   work-fits                 refusals 3 to 7 are not met
 --   work-same, work-steady    the stream after it is of the same job, and steady
 -- Assumes nothing.
-use mathlib.Core.Path.{◌≡◌, refl, sym, ap, ◌∙◌, subst}
+use mathlib.Core.Path.{◌≡◌, refl, ap, ◌∙◌}
 use mathlib.Core.Bool.{Bool, true, false, cond}
 use mathlib.Core.Logic.{◌⊎◌, inl, inr, ⊎_elim}
-use mathlib.Core.List.{List, ◌++◌}
-use Prim.Native.Nat.{ℕ, ◌+◌, ◌-◌, ◌*◌, ◌/◌, ◌≤◌, ◌<◌, min}
-use native.Mathlib.Nat.{le_trans, mul-le-mul_left, mul-le-mul_right, min-le_left}
+use mathlib.Core.List.{List}
+use Prim.Native.Nat.{ℕ, ◌+◌, ◌-◌, ◌*◌, ◌/◌, ◌≤◌, ◌<◌}
+use native.Mathlib.Nat.{le_trans, mul-le-mul_right, min-le_left}
 use native.Mathlib.Omega.{arith}
-use borrow.Author.Tests.{leb-true, leb-false}
+use borrow.Author.Tests.{leb-true}
 use lib.Dec.{T, leb}
-use lib.Ieee.{Float, binary32, div, le, to_unsigned}
+use lib.Ieee.{binary32, div, le, to_unsigned}
 use lib.ListN.{length, length-append}
 use Rattle.frames.specs.Areas.{Areas}
 use Rattle.frames.specs.Framing.{Frame}
-use Rattle.frames.proofs.Room.{samples-le, count-le}
+use Rattle.frames.proofs.Room.{samples-le}
 use Rattle.floats.specs.Settings.{min_speed, max_speed, min_pitch, max_pitch}
 use Rattle.floats.proofs.Pace.{PaceReady, Paced, paced-grown}
 use Rattle.period.specs.Rates.{InLimits, max_period, max_required}
@@ -31,23 +31,19 @@ use Rattle.stream.proofs.InOrder.{tests-of, limits_of, within-range, ranges-of, 
 use Rattle.stream.proofs.AreaTests.{AreasGood}
 use Rattle.stream.proofs.Streams.{held-is, tail_is}
 use Rattle.fill.specs.declared.Outcome.TheVariants.{Stalled}
-use Rattle.fill.specs.declared.Told.{Told}
-use Rattle.fill.specs.Taking.{taken}
-use Rattle.process.specs.Process.{Made, joined, process}
-use Rattle.process.proofs.States.{SameSettings}
+use Rattle.process.specs.Process.{Made, joined}
 use Rattle.process.proofs.Taken.{process-settings}
-use Rattle.process.proofs.Claims.{Held}
-use Rattle.process.proofs.Amounts.{Kept, Used, Left, process-left, staged-is, made-most, tail-most}
+use Rattle.process.proofs.Amounts.{Kept, Left, process-left, staged-is, made-most, tail-most}
 use Rattle.adding.specs.Adding.{Accepted}
 use Rattle.adding.specs.Calls.{refusal_of}
 use Rattle.adding.proofs.Adding.{work_of}
 use Rattle.adding.proofs.Room.{added-held}
 use Rattle.adding.proofs.Accepting.{areas-bad-of, total-alone}
-use Rattle.plans.specs.Plans.{input_area, stage_area, output_area, block_samples, tail_frames, is_small, growth_of, output_room, held_most, limit_of, served, plan_of}
-use Rattle.plans.proofs.Sizes.{stage-least, stage-most, output-least, output-most}
+use Rattle.plans.specs.Plans.{input_area, stage_area, output_area, block_samples, tail_frames, is_small, growth_of, output_room, held_most, limit_of, plan_of}
+use Rattle.plans.proofs.Sizes.{stage-most, output-least, output-most}
 use Rattle.serving.specs.Steady.{Steady, AreasSized, SameJob, WriteWent}
 use Rattle.serving.proofs.Room.{limit-input, limit-stage, limit-output, block-waits}
-use Rattle.serving.proofs.Pacing.{PacedWith, PacedState, staged-most, left-paced}
+use Rattle.serving.proofs.Pacing.{PacedState, staged-most, left-paced}
 
 -- ---- streams of one job have one limit
 

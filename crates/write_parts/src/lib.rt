@@ -1,6 +1,7 @@
 // What a write of values and one of 16-bit samples share: refusals 3 to 5 by the stream and the areas' lengths, before
 // the samples are stored; 6, 7 and 12 by the work on them. `specs/Writing.antt` says what is answered.
 #![tactic(auto)]
+
 ghost use Rattle.frames.specs.Areas.{areas};
 ghost use Rattle.adding.specs.Adding.{AddReady};
 ghost use Rattle.write_parts.specs.Writing.{BegunAs, WorkAnswered};
