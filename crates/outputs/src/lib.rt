@@ -1,14 +1,20 @@
-// The skim tool's output, which is standard output: `names` has the file that is named, which takes its place; here is
-// the head of a WAVE file, whose sizes are set at the end.
+// The skim tool's output, standard output or a file that is named: `names` has the latter; here is the head of a WAVE
+// file, whose sizes are set at the end.
 #![tactic(auto)]
+
 pub mod names;
 
 ghost use Rattle.std.specs.Prelude.{◌≡◌};
 ghost use Rattle.period.specs.Rates.{InLimits};
 ghost use Rattle.outputs.specs.Tracks.{track_bytes};
 
-use libc::STDOUT_FILENO;
 use plans::Plan;
+use ports::{Outgoing, standing};
+use std::fs;
+use std::fs::{OpenFile, OpenOptions};
+use std::io::{IsTerminal, Seek, SeekFrom, Stdout, Write};
+use std::os::unix::fs::FileTypeExt;
+use std::rt::Files;
 
 // The size that sox writes where it cannot know another, as to a pipe.
 const UNKNOWN: u32 = 0x7fff_f000;
@@ -37,47 +43,87 @@ fn track_bytes(frames: u64, plan: Plan) -> u32
     (frames * frame) as u32
 }
 
-// Where the output stands; negative if it cannot be sought.
-pub fn place() -> i64 {
-    libc::lseek(STDOUT_FILENO, 0, libc::SEEK_CUR)
+// Where standard output stands, if it is of a kind that can be sought, and does not append.
+fn standard_place(files: &impl Files, stdout: &Stdout) -> Option<u64> {
+    let kind = fs::metadata(files, standing::OUTPUT).ok()?.file_type();
+    let is_device = kind.is_char_device() && !stdout.is_terminal();
+    if !kind.is_file() && !is_device {
+        return None;
+    }
+    let place = standing::of_output(files)?;
+    if place.appends { None } else { Some(place.at) }
+}
+
+// Where the output stands, if it can be sought.
+pub fn place(files: &impl Files, output: &mut Outgoing) -> Option<u64> {
+    match output {
+        Outgoing::Standard(stdout) => standard_place(files, stdout),
+        Outgoing::Named(file) => file.seek(SeekFrom::Current(0)).ok(),
+        Outgoing::Closed => None,
+    }
 }
 
 // Writes the head of a track whose length is not known yet.
-pub fn write_head(plan: Plan) -> bool
+pub fn write_head<W: Write>(to: &mut W, plan: Plan) -> bool
     requires { InLimits plan.rate plan.channels }
 {
     let mut head = [0u8; chunks::HEAD_BYTES];
     chunks::put_head(&mut head, plan.rate as u32, plan.channels as u32, UNKNOWN);
-    io::write_all(STDOUT_FILENO, &head)
+    to.write_all(&head).is_ok()
 }
 
-// Sets the sizes in a head that was written at this place. What is written to a file that appends goes to its end: that
-// is taken away again.
-fn set_sizes(head: &[u8], place: i64) -> Sizes {
-    let end = libc::lseek(STDOUT_FILENO, 0, libc::SEEK_END);
-    let put = libc::pwrite(STDOUT_FILENO, head, place);
-    if put < 44 {
+// The bytes of a file, or 0 if that is not known.
+fn length<F: OpenFile>(file: &F) -> u64 {
+    file.metadata().map_or(0, |told| told.len())
+}
+
+// Sets the sizes in a head that was written at this place of a file. What is written to a file that appends goes to its
+// end: that is taken away again.
+fn set_sizes<F: Write + Seek + OpenFile>(file: &mut F, head: &[u8], place: u64) -> Sizes {
+    let end = length(file);
+    if file.seek(SeekFrom::Start(place)).is_err() {
         return Sizes::Unset;
     }
-    if libc::lseek(STDOUT_FILENO, 0, libc::SEEK_END) != end {
-        libc::ftruncate(STDOUT_FILENO, end);
+    if file.write_all(head).is_err() {
+        return Sizes::Unset;
+    }
+    if length(file) != end {
+        let _ = file.set_len(end);
         return Sizes::Unset;
     }
     Sizes::Set
 }
 
-// Sets the sizes of a track of so many frames, whose head was written at this place.
-pub fn end(frames: u64, place: i64, plan: Plan) -> Sizes
+// The same in the file of standard output, which is opened anew for that.
+fn set_standard_sizes(files: &impl Files, head: &[u8], place: u64) -> Sizes {
+    match OpenOptions::new().write(true).open(files, standing::OUTPUT) {
+        Ok(mut file) => set_sizes(&mut file, head, place),
+        Err(_) => Sizes::Unset,
+    }
+}
+
+// Sets the sizes of a track of so many frames, whose head was written at this place, if that is known.
+pub fn end(
+    files: &impl Files,
+    output: &mut Outgoing,
+    frames: u64,
+    place: Option<u64>,
+    plan: Plan,
+) -> Sizes
     requires { InLimits plan.rate plan.channels }
 {
     let size = track_bytes(frames, plan);
     if size > chunks::MOST_BYTES {
         return Sizes::TooLong;
     }
-    if place < 0 {
+    let Some(at) = place else {
         return Sizes::Unset;
-    }
+    };
     let mut head = [0u8; chunks::HEAD_BYTES];
     chunks::put_head(&mut head, plan.rate as u32, plan.channels as u32, size);
-    set_sizes(&head, place)
+    match output {
+        Outgoing::Standard(_) => set_standard_sizes(files, &head, at),
+        Outgoing::Named(file) => set_sizes(file, &head, at),
+        Outgoing::Closed => Sizes::Unset,
+    }
 }

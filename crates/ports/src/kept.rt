@@ -19,6 +19,10 @@ impl<T> Kept<T> {
         &self.inner
     }
 
+    pub fn get_mut(&mut self) -> &mut T {
+        &mut self.inner
+    }
+
     // The last error that was met, if there was one.
     pub fn error(&self) -> Option<Error> {
         self.error
