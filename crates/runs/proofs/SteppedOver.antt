@@ -11,7 +11,7 @@ use Rattle.fill.specs.declared.Outcome.{Outcome}
 use Rattle.fill.specs.declared.Outcome.TheVariants.{Empty, Copied, Waiting, Stretched, Stalled}
 use Rattle.process.specs.Process.{joined, process, write_work, flush_work, cleared}
 use Rattle.process.proofs.Claims.{Held}
-use Rattle.process.proofs.Told.{told-exactly}
+use Rattle.process.proofs.Telling.{told-exactly}
 use Rattle.runs.specs.Ledger.{Call, setting, write, flush, read, Ledger, begun, entry}
 use Rattle.runs.specs.Demand.{accepted_of, All, NoWrite, NoFlush}
 use Rattle.runs.specs.Balance.{NotStalled}

@@ -17,7 +17,7 @@ use Rattle.stream.specs.Stream.{state_of}
 use Rattle.stream.specs.Refusals.{accepted}
 use Rattle.fill.specs.declared.Told.{Told}
 use Rattle.process.specs.Process.{whole_frames, joined, write_work, flush_work}
-use Rattle.process.proofs.Told.{ToldExactly, told-exactly}
+use Rattle.process.proofs.Telling.{ToldExactly, told-exactly}
 use Rattle.adding.specs.declared.Wrote.{Wrote}
 use Rattle.adding.specs.Calls.{refused_call, accepted_call, call_by, refusal_of, write_call, flush_call}
 use Rattle.adding.specs.Adding.{Accepted}

@@ -1,14 +1,18 @@
 -- A write, to its answer:
 --   written             the frames that it adds
+--   write-ready         what the tests say of a write that they let pass
+--   write-behind        its frames, stored behind those held
 --   write-refused       its contract, refused before its work
 --   write-answered      its contract, by the answer to its work
 -- Assumes nothing.
 use mathlib.Core.Path.{◌≡◌, refl, sym, ◌∙◌, subst}
 use mathlib.Core.List.{List, map}
-use Prim.Native.Nat.{ℕ, ◌/◌}
+use Prim.Native.Nat.{ℕ, ◌*◌, ◌/◌}
 use lib.IntN.{ℤ}
 use lib.Ieee.{Float}
 use lib.ListN.{length}
+use lib.Seq.{paste}
+use Rattle.frames.specs.declared.Frames.{Frames}
 use Rattle.frames.specs.Areas.{Areas, areas}
 use Rattle.frames.specs.Framing.{Frame, frames_of, Behind}
 use Rattle.frames.proofs.Framing.{length-frames_of}
@@ -22,8 +26,9 @@ use Rattle.process.specs.Streams.{joined_stream}
 use Rattle.process.specs.Working.{WorkedAs}
 use Rattle.adding.specs.declared.Wrote.{Wrote}
 use Rattle.adding.specs.Calls.{accepted_call, write_call}
-use Rattle.adding.specs.Adding.{Accepted, AddEnsures}
+use Rattle.adding.specs.Adding.{Accepted, AddReady, AddEnsures}
 use Rattle.adding.proofs.Answers.{CallAnswered, call-done}
+use Rattle.adding.proofs.Joining.{written_behind, accepted-samples}
 use Rattle.adding.proofs.Adding.{answer_by, work_of, worked-in-order, added-answered}
 use Rattle.write_parts.specs.declared.Begun.{Begun}
 use Rattle.write_parts.specs.Writing.{BegunAs, answer_of, WorkAnswered}
@@ -31,6 +36,19 @@ use Rattle.write_parts.specs.Writing.{BegunAs, answer_of, WorkAnswered}
 -- the n frames that it adds, as the input holds them
 abbrev pub written : SonicStream → List Float → ℕ → List Frame
 written s samples n = map (map sample_in) (frames_of s.channels n samples)
+
+-- ---- the tests let it pass, and its frames are stored
+
+pub write-ready : (s : SonicStream) (samples : List Float) (a : Areas) (b : Begun) (period : Float) (n : Frames) → b ≡ Begun.Fits period n
+    → BegunAs s (length samples) a b → AddReady s period a n.0 × (n.0 ≡ length samples / s.channels)
+write-ready s samples a b period n e told = subst (BegunAs s (length samples) a) e told
+
+pub write-behind : (s : SonicStream) (samples : List Float) (a : Areas) (period : Float) (n : ℕ) (stored : List ℤ) → AddReady s period a n
+    → n ≡ length samples / s.channels → stored ≡ paste a.input (s.held.0 * s.channels) (map sample_in samples) (n * s.channels)
+    → Behind s.channels s.held.0 n a.input stored (written s samples n)
+write-behind s samples a period n stored r count pasted =
+    let p = r.accepted in
+    written_behind s.channels s.held.0 n samples a.input stored (accepted-samples p samples count) p.fits pasted
 
 -- ---- refused before its work
 

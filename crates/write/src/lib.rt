@@ -1,6 +1,7 @@
 // The write, of values or of 16-bit samples: the parts are those of `write_parts`, and the samples are stored between
 // them.
 #![tactic(auto)]
+
 ghost use Rattle.std.specs.Prelude.{map};
 ghost use Rattle.frames.specs.Areas.{areas};
 ghost use Rattle.floats.specs.Write.{sample_out};
