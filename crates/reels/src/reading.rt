@@ -9,6 +9,7 @@ use crate::state::RunState;
 use frames::Frames;
 use inputs::{BlockBytes, fill};
 use plans::Plan;
+use std::io::Read;
 
 // A reel with a block read, and the block's samples.
 #[derive(Clone, Copy)]
@@ -36,7 +37,13 @@ fn count(mut reel: Reel, filled: BlockBytes, plan: Plan) -> Reel
 }
 
 // Reads a block. Of a WAVE file no more is read than its data chunk has.
-pub fn read_block(reel: Reel, plan: Plan, block: &mut [i16], bytes: &mut [u8]) -> BlockRead
+pub fn read_block<R: Read>(
+    reader: &mut R,
+    reel: Reel,
+    plan: Plan,
+    block: &mut [i16],
+    bytes: &mut [u8],
+) -> BlockRead
     requires { Usable plan × (reel.partial ≡ 0) × (block_samples ≡ length block.old)
         × (block_bytes ≡ length bytes.old) }
     ensures { (result.samples ≤ length block.new) × BlockReadAs plan reel bytes.new result
@@ -45,7 +52,7 @@ pub fn read_block(reel: Reel, plan: Plan, block: &mut [i16], bytes: &mut [u8]) -
     let channels = plan.channels;
     let source = reel.source;
     let size = source.block(2 * plan.block);
-    let filled = fill(&mut bytes[..size], source.first, source.ready);
+    let filled = fill(reader, &mut bytes[..size], source.first, source.ready);
     let frames = Frames(filled.bytes / (2 * channels));
     let samples = frames.samples(channels).0;
     pcm::decode(bytes, samples, block);

@@ -13,10 +13,10 @@ use crate::state::{
 use adding::Wrote;
 use frames::Frames;
 use inputs::Source;
-use libc::STDOUT_FILENO;
 use passes::Passes;
 use plans::{BLOCK_SAMPLES, Plan};
 use read::Gave;
+use std::io::Write;
 use stream::SonicStream;
 
 #[derive(Clone, Copy)]
@@ -56,13 +56,13 @@ pub fn first_held(written: u64, held: u64) -> u64
 }
 
 // Writes out the first `count` values, and answers whether all were taken.
-fn write_values(values: &[f32], count: usize, bytes: &mut [u8]) -> bool
+fn write_values<W: Write>(writer: &mut W, values: &[f32], count: usize, bytes: &mut [u8]) -> bool
     requires { (count ≤ length values.now) × (2 * count ≤ length bytes.old) }
     ensures { Encoded count values.now bytes.new }
 {
     let size = 2 * count;
     pcm::encode(values, count, bytes);
-    io::write_all(STDOUT_FILENO, &bytes[..size])
+    writer.write_all(&bytes[..size]).is_ok()
 }
 
 impl Reel {
@@ -181,7 +181,13 @@ impl Reel {
     }
 
     // Reads a block of the frames waiting, and writes it out.
-    fn write_out(mut self, output: &mut [i16], values: &mut [f32], bytes: &mut [u8]) -> Reel
+    fn write_out<W: Write>(
+        mut self,
+        writer: &mut W,
+        output: &mut [i16],
+        values: &mut [f32],
+        bytes: &mut [u8],
+    ) -> Reel
         requires { (32 ≤ length values.old) × (2 * length values.old ≤ length bytes.old) }
         ensures { FewerWait (length output.old)
             (read_call self.stream block_samples values.old output.old).answer self result }
@@ -195,7 +201,7 @@ impl Reel {
             Gave::Done(n, stream) => {
                 let count = n.samples(channels).0;
                 self.stream = stream;
-                if write_values(values, count, bytes) {
+                if write_values(writer, values, count, bytes) {
                     self.frames_out = std::num::wrapping_add_u64(self.frames_out, n.0 as u64);
                 } else {
                     self = self.stopped(RunState::WriteFailed);
@@ -206,14 +212,21 @@ impl Reel {
     }
 
     // Writes out the frames waiting, while there are as many as `few`, at least 1. Each turn gives one or more.
-    pub fn drain(self, few: usize, output: &mut [i16], values: &mut [f32], bytes: &mut [u8]) -> Reel
+    pub fn drain<W: Write>(
+        self,
+        few: usize,
+        writer: &mut W,
+        output: &mut [i16],
+        values: &mut [f32],
+        bytes: &mut [u8],
+    ) -> Reel
         requires { (1 ≤ few) × (32 ≤ length values.old) × (2 * length values.old ≤ length bytes.old) }
         ensures { Drained (length output.old) few self result }
     {
         let mut reel = self;
         let mut turns = reel.stream.waiting.0;
         while turns > 0 && reel.stream.waiting.0 >= few && !reel.has_failed() {
-            reel = reel.write_out(output, values, bytes);
+            reel = reel.write_out(writer, output, values, bytes);
             turns -= 1;
         }
         reel
