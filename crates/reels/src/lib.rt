@@ -2,6 +2,7 @@
 // out those that wait, and `state` is how the run goes. Nothing is told here: the program tells it. `specs/` says what
 // is kept.
 #![tactic(auto)]
+
 pub mod reading;
 pub mod reel;
 pub mod state;

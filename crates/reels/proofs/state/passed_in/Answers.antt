@@ -1,0 +1,5 @@
+-- `reels::state::passed_in` meets its contract. Assumes nothing.
+use Rattle.reels.proofs.state.passed_in.Goals as goal
+
+pub returns-in-Done : goal.returns-in-Done
+returns-in-Done c = rw c.in-Done.is
