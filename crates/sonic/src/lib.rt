@@ -3,6 +3,7 @@
 // (`flush`). What they answer is said in `stream/specs/Settings.antt`, `adding/specs/Calls.antt` and
 // `read/specs/Reading.antt`.
 #![tactic(auto)]
+
 pub use adding::Wrote;
 pub use flush::flush;
 pub use process::{Outcome, Told};
