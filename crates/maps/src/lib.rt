@@ -1,6 +1,7 @@
 // What is noted of frames of a reel of which nothing came out, and the map of them, written line by line.
 // `specs/Maps.antt` says what is noted.
 #![tactic(auto)]
+
 ghost use Rattle.std.specs.Prelude.{◌≡◌};
 ghost use Rattle.period.specs.Rates.{InLimits};
 ghost use Rattle.reels.specs.Reels.{first_held};
@@ -9,6 +10,7 @@ ghost use Rattle.maps.specs.Maps.{span_of, noted_write, noted_flush, MapWritten,
 
 use passes::{Passes, Span, map};
 use plans::Plan;
+use ports::Ports;
 use reels::reel::{Reel, first_held};
 use reels::state::{RunState, is_fine};
 
@@ -20,11 +22,6 @@ fn span(first: u64, end: u64) -> Span
         first,
         frames: if first < end { end - first } else { 0 },
     }
-}
-
-// A descriptor as the system takes it; −1, which it refuses, for a number that is none.
-fn descriptor(map: u32) -> i32 {
-    if map < 0x8000_0000 { map as i32 } else { -1 }
 }
 
 // After a write: if it passed over a period, nothing came of the frames that left the input.
@@ -66,38 +63,35 @@ fn mapped(mut reel: Reel, taken: bool) -> Reel
 }
 
 // Begins the map, if one is wanted.
-pub fn begin(reel: Reel) -> Reel
+pub fn begin(reel: Reel, ports: &mut Ports) -> Reel
     ensures { MapWritten reel result }
 {
     if reel.map == Reel::NO_MAP {
         return reel;
     }
-    mapped(reel, map::write_head(descriptor(reel.map)))
+    mapped(reel, map::write_head(&mut ports.map))
 }
 
 // Writes the line of a stretch, if a map is wanted and the stretch has a frame.
-fn put_line(reel: Reel, stretch: Span, plan: Plan) -> Reel
+fn put_line(reel: Reel, stretch: Span, plan: Plan, ports: &mut Ports) -> Reel
     requires { InLimits plan.rate plan.channels }
     ensures { MapWritten reel result }
 {
     if reel.map == Reel::NO_MAP || stretch.frames == 0 {
         return reel;
     }
-    mapped(
-        reel,
-        map::write_line(descriptor(reel.map), stretch, plan.rate),
-    )
+    mapped(reel, map::write_line(&mut ports.map, stretch, plan.rate))
 }
 
 // Writes the line of what was the last stretch before a call, if another has begun.
-pub fn put_ended(reel: Reel, before: Span, plan: Plan) -> Reel
+pub fn put_ended(reel: Reel, before: Span, plan: Plan, ports: &mut Ports) -> Reel
     requires { InLimits plan.rate plan.channels }
     ensures { MapWritten reel result }
 {
     if reel.passes.last.first == before.first {
         return reel;
     }
-    put_line(reel, before, plan)
+    put_line(reel, before, plan, ports)
 }
 
 // The frames from a stall on, if the run ended stalled and its flush, if it had one, gave no frame; otherwise none.
@@ -124,11 +118,11 @@ fn unskimmed(reel: Reel) -> Span
 
 // Ends the map, with what was the last stretch before the flush: writes its line if another has begun, that of the
 // last stretch, and that of the frames from a stall on.
-pub fn end(reel: Reel, before: Span, plan: Plan) -> Reel
+pub fn end(reel: Reel, before: Span, plan: Plan, ports: &mut Ports) -> Reel
     requires { InLimits plan.rate plan.channels }
     ensures { MapWritten reel result }
 {
     let last = reel.passes.last;
-    let after = put_line(put_ended(reel, before, plan), last, plan);
-    put_line(after, unskimmed(reel), plan)
+    let after = put_line(put_ended(reel, before, plan, ports), last, plan, ports);
+    put_line(after, unskimmed(reel), plan, ports)
 }

@@ -1,5 +1,4 @@
 -- `maps::mapped` meets its contract. Assumes nothing.
-use borrow.Author.Rules.{rules}
 use mathlib.Core.Path.{◌≡◌, refl, sym, ap, ◌∙◌, subst}
 use mathlib.Core.Bool.{false}
 use Rattle.reels.specs.declared.state.RunState.{RunState}
@@ -7,15 +6,11 @@ use Rattle.reels.specs.States.{sound}
 use Rattle.reels.specs.Serving.{OnlyTotals}
 use Rattle.reels.proofs.Going.{failed-once, kept-unsound, input-trans, notes-trans}
 use Rattle.reels.proofs.Serving.{only_kept}
-use Rattle.maps.proofs.mapped.Statement.{statement}
-use Rattle.maps.proofs.mapped.Tie as tie
+use Rattle.maps.proofs.mapped.Goals as goal
 
-stopped-requires : tie.Need-stopped-requires
-stopped-requires c κs = search rules
-
-returns : tie.Need-returns
-returns c =
-    let r = c.before.before.args.reel in
+pub returns-then-not-taken : goal.returns-then-not-taken
+returns-then-not-taken c =
+    let r = c.args.reel in
     let k = c.stopped.ensures in
     let unsound : sound c.stopped.result.state ≡ false = ap sound k.state_is ∙ kept-unsound r.state _ refl in
     record {
@@ -31,9 +26,3 @@ returns c =
       map_stays = λ e. absurd (failed-once e unsound);
       only_kept = λ o. subst OnlyTotals (sym k.state_is) (only_kept r.state RunState.WriteFailed tt o);
     }
-
-returns-2 : tie.Need-returns-2
-returns-2 c = search rules
-
-pub mapped_spec : {M : Type 1} → statement M
-mapped_spec = tie.close (tie.spec stopped-requires returns returns-2)
