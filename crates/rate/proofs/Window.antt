@@ -22,22 +22,22 @@ window-is ch tail j stage h =
     ap (take sinc_filter_points) (drop-frames_of ch j tail stage (omega arith)) ∙ take-frames_of ch sinc_filter_points (tail - j) (drop (j * ch) stage) (omega arith)
 
 -- the frame i of some
-get_d-frames_of : {A : Type 0} (ch k i : ℕ) (a : List A) → i < k → get_or (frames_of ch k a) i [] ≡ take ch (drop (i * ch) a)
+get_or-frames_of : {A : Type 0} (ch k i : ℕ) (a : List A) → i < k → get_or (frames_of ch k a) i [] ≡ take ch (drop (i * ch) a)
 unfolding frames_of
-get_d-frames_of ch zero i a h = absurd (omega arith)
-get_d-frames_of ch (suc k) zero a h = ap (λ (n : ℕ). take ch (drop n a)) (sym (zero-mul ch))
-get_d-frames_of ch (suc k) (suc i) a h =
+get_or-frames_of ch zero i a h = absurd (omega arith)
+get_or-frames_of ch (suc k) zero a h = ap (λ (n : ℕ). take ch (drop n a)) (sym (zero-mul ch))
+get_or-frames_of ch (suc k) (suc i) a h =
     let e : ch + i * ch ≡ suc i * ch = omega (arith, suc-mul i ch) in
-    get_d-frames_of ch k i (drop ch a) (omega arith) ∙ ap (take ch) (drop-drop (i * ch) ch a ∙ ap (λ (n : ℕ). drop n a) e)
+    get_or-frames_of ch k i (drop ch a) (omega arith) ∙ ap (take ch) (drop-drop (i * ch) ch a ∙ ap (λ (n : ℕ). drop n a) e)
 
 module _ (ch ratio N : ℕ) (x : List ℤ) (h : ch ≤ length x) where
   channels_is : length (get_or (frames_of ch sinc_filter_points x) 0 []) ≡ ch
-  channels_is = ap length (get_d-frames_of ch sinc_filter_points 0 x (omega arith) ∙ ap (λ (n : ℕ). take ch (drop n x)) (zero-mul ch)) ∙ length-take-le ch x h
+  channels_is = ap length (get_or-frames_of ch sinc_filter_points 0 x (omega arith) ∙ ap (λ (n : ℕ). take ch (drop n x)) (zero-mul ch)) ∙ length-take-le ch x h
 
   -- tap i of channel c
   tap-is : (c i : ℕ) → c < ch → i < sinc_filter_points → get_or (get_or (frames_of ch sinc_filter_points x) i []) c (pos 0) ≡ get_or x (i * ch + c) (pos 0)
   tap-is c i k l =
-      ap (λ (f : List ℤ). get_or f c (pos 0)) (get_d-frames_of ch sinc_filter_points i x l) ∙ get_or-take ch (drop (i * ch) x) c (pos 0) k ∙ get_or-drop (i * ch) x c (pos 0)
+      ap (λ (f : List ℤ). get_or f c (pos 0)) (get_or-frames_of ch sinc_filter_points i x l) ∙ get_or-take ch (drop (i * ch) x) c (pos 0) k ∙ get_or-drop (i * ch) x c (pos 0)
 
   -- a window's frame is the flat samples' frame
   pub interpolate_window-is : interpolate_window (frames_of ch sinc_filter_points x) ratio N ≡ interpolate_frame x ch ratio N

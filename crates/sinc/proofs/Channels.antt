@@ -9,7 +9,7 @@ use lib.Seq.{get_or-drop}
 use lib.Signed.{shr_z}
 use Rattle.sinc.specs.Sinc.{sinc_filter_points, tap_sum, held_sample, interpolate, interpolate_frame}
 use Rattle.sinc.specs.Weights.{weighted_sample}
-use Rattle.sinc.proofs.Tabulated.{length-tabulate, get_d_tabulate}
+use Rattle.sinc.proofs.Tabulated.{length-tabulate, get_or-tabulate}
 use Rattle.sinc.proofs.Taps.{weighted_sum-cong}
 
 -- channel c of the frame that begins at `from`, its first tap at `first`: a value that the code has
@@ -35,8 +35,8 @@ pub length-interpolate_frame : (x : List ℤ) (channels r N : ℕ) → length (i
 unfolding interpolate_frame
 length-interpolate_frame x channels r N = length-tabulate channels (λ c. interpolate (λ i. get_or x (i * channels + c) (pos 0)) r N)
 
-pub get_d-interpolate_frame : (x : List ℤ) (channels r N c : ℕ) → c < channels
+pub get_or-interpolate_frame : (x : List ℤ) (channels r N c : ℕ) → c < channels
     → get_or (interpolate_frame x channels r N) c (pos 0) ≡ interpolate (λ i. get_or x (i * channels + c) (pos 0)) r N
 unfolding interpolate_frame
-get_d-interpolate_frame x channels r N c h =
-    get_d_tabulate channels (λ k. interpolate (λ i. get_or x (i * channels + k) (pos 0)) r N) c (pos 0) h
+get_or-interpolate_frame x channels r N c h =
+    get_or-tabulate channels (λ k. interpolate (λ i. get_or x (i * channels + k) (pos 0)) r N) c (pos 0) h

@@ -15,11 +15,11 @@ unfolding tabulate
 length-tabulate zero f = refl
 length-tabulate (suc n) f = ap suc (length-tabulate n (λ i. f (suc i)))
 
-pub get_d_tabulate : (n : ℕ) (f : ℕ → ℤ) (i : ℕ) (d : ℤ) → i < n → get_or (tabulate n f) i d ≡ f i
+pub get_or-tabulate : (n : ℕ) (f : ℕ → ℤ) (i : ℕ) (d : ℤ) → i < n → get_or (tabulate n f) i d ≡ f i
 unfolding tabulate
-get_d_tabulate zero f i d h = absurd (not-suc-le-zero h)
-get_d_tabulate (suc n) f zero d h = refl
-get_d_tabulate (suc n) f (suc i) d h = get_d_tabulate n (λ j. f (suc j)) i d (le_of_suc-le-suc h)
+get_or-tabulate zero f i d h = absurd (not-suc-le-zero h)
+get_or-tabulate (suc n) f zero d h = refl
+get_or-tabulate (suc n) f (suc i) d h = get_or-tabulate n (λ j. f (suc j)) i d (le_of_suc-le-suc h)
 
 pub tabulate-cong : (n : ℕ) (f g : ℕ → ℤ) → ((i : ℕ) → i < n → f i ≡ g i) → tabulate n f ≡ tabulate n g
 unfolding tabulate
@@ -30,5 +30,5 @@ tabulate-cong (suc n) f g e = rw (e 0 (omega arith), tabulate-cong n (λ i. f (s
 pub tabulate-turn : (l : List ℤ) (to n : ℕ) (f : ℕ → ℤ) (i : ℕ) (d : ℤ) → to + i < length l → i < n
     → set (paste l to (tabulate n f) i) (to + i) (f i) ≡ paste l to (tabulate n f) (i + 1)
 tabulate-turn l to n f i d h k =
-    ap (λ (v : ℤ). set (paste l to (tabulate n f) i) (to + i) v) (sym (get_d_tabulate n f i d k))
+    ap (λ (v : ℤ). set (paste l to (tabulate n f) i) (to + i) v) (sym (get_or-tabulate n f i d k))
     ∙ paste-suc l to (tabulate n f) i d h (omega (arith, length-tabulate n f)) ∙ ap (paste l to (tabulate n f)) (sym (add-one i))
