@@ -7,47 +7,50 @@ use reels::reel::Reel;
 use reels::state::is_fine;
 
 // The writes that stalled, if any did.
-pub(crate) fn say_stalls(reel: Reel, plan: Plan)
+pub(crate) fn say_stalls(rt: &impl Eprint, reel: Reel, plan: Plan)
     requires { InLimits plan.rate plan.channels }
 {
     if reel.stalls.count == 0 {
         return;
     }
-    say::number(b"skim: writes that stalled: ", reel.stalls.count);
-    say::text(b", the first at");
-    say_place(reel.stalls.first, plan);
+    say::number(rt, "skim: writes that stalled: ", reel.stalls.count);
+    say::text(rt, ", the first at");
+    say_place(rt, reel.stalls.first, plan);
     let state = reel.state;
     if is_fine(state) {
-        say::text(b"; a later write or the flush left the stall");
+        say::text(rt, "; a later write or the flush left the stall");
     }
-    say::text(b"\n");
+    say::text(rt, "\n");
 }
 
 // Where a run that ended stalled did so, and what came of the rest.
-pub(crate) fn say_stall(reel: Reel, at: u64, plan: Plan)
+pub(crate) fn say_stall(rt: &impl Eprint, reel: Reel, at: u64, plan: Plan)
     requires { InLimits plan.rate plan.channels }
 {
     let after = std::num::wrapping_sub_u64(reel.frames_in, at);
-    say::text(b"skim: stalled at");
-    say_place(at, plan);
-    say::text(b": the pitch period there gives no frame, and no later write left the stall\n");
+    say::text(rt, "skim: stalled at");
+    say_place(rt, at, plan);
+    say::text(
+        rt,
+        ": the pitch period there gives no frame, and no later write left the stall\n",
+    );
     if reel.flushed {
-        say::number(b"skim: the flush stalled too: of the last ", after);
-        say::text(b" frames not all came out\n");
+        say::number(rt, "skim: the flush stalled too: of the last ", after);
+        say::text(rt, " frames not all came out\n");
         return;
     }
-    say::number(b"skim: not skimmed: the ", after);
-    say::number(b" frames from there on, and ", reel.stream.tail.0 as u64);
-    say::text(b" stretched frames before them, in the tail\n");
+    say::number(rt, "skim: not skimmed: the ", after);
+    say::number(rt, " frames from there on, and ", reel.stream.tail.0 as u64);
+    say::text(rt, " stretched frames before them, in the tail\n");
 }
 
 // Where the flush of a run stalled whose writes had left every stall.
-pub(crate) fn say_flush_stall(reel: Reel, at: u64, plan: Plan)
+pub(crate) fn say_flush_stall(rt: &impl Eprint, reel: Reel, at: u64, plan: Plan)
     requires { InLimits plan.rate plan.channels }
 {
     let after = std::num::wrapping_sub_u64(reel.frames_in, at);
-    say::text(b"skim: the flush stalled at or after");
-    say_place(at, plan);
-    say::number(b": of the last ", after);
-    say::text(b" frames not all came out\n");
+    say::text(rt, "skim: the flush stalled at or after");
+    say_place(rt, at, plan);
+    say::number(rt, ": of the last ", after);
+    say::text(rt, " frames not all came out\n");
 }

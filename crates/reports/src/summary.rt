@@ -25,24 +25,24 @@ fn status(reel: Reel) -> u64
     if is_fine(state) { 0 } else { 1 }
 }
 
-fn say_frame(name: &[u8], told: bool, frame: u64) {
+fn say_frame(rt: &impl Eprint, name: &str, told: bool, frame: u64) {
     if told {
-        say::number(name, frame);
+        say::number(rt, name, frame);
     } else {
-        say::text(name);
-        say::text(b"none");
+        say::text(rt, name);
+        say::text(rt, "none");
     }
 }
 
 // Where the flush stalled.
-fn say_flush_stall(state: RunState) {
+fn say_flush_stall(rt: &impl Eprint, state: RunState) {
     match state {
-        RunState::Going => say_frame(b" flush_stalled_at=", false, 0),
-        RunState::Stalled(_) => say_frame(b" flush_stalled_at=", false, 0),
-        RunState::FlushStalled(at) => say_frame(b" flush_stalled_at=", true, at),
-        RunState::Refused(_) => say_frame(b" flush_stalled_at=", false, 0),
-        RunState::ReadFailed => say_frame(b" flush_stalled_at=", false, 0),
-        RunState::WriteFailed => say_frame(b" flush_stalled_at=", false, 0),
+        RunState::Going => say_frame(rt, " flush_stalled_at=", false, 0),
+        RunState::Stalled(_) => say_frame(rt, " flush_stalled_at=", false, 0),
+        RunState::FlushStalled(at) => say_frame(rt, " flush_stalled_at=", true, at),
+        RunState::Refused(_) => say_frame(rt, " flush_stalled_at=", false, 0),
+        RunState::ReadFailed => say_frame(rt, " flush_stalled_at=", false, 0),
+        RunState::WriteFailed => say_frame(rt, " flush_stalled_at=", false, 0),
     }
 }
 
@@ -64,29 +64,29 @@ fn refusal(reel: Reel) -> u32 {
     }
 }
 
-fn say_line(reel: Reel, status: u64) {
+fn say_line(rt: &impl Eprint, reel: Reel, status: u64) {
     let balance = reel.stream.balance;
     let stalls = reel.stalls;
     let state = reel.state;
-    say::number(b"skim: frames_in=", reel.frames_in);
-    say::number(b" frames_out=", reel.frames_out);
-    say::number(b" stalls=", stalls.count);
-    say_frame(b" stalled_at=", stalls.count > 0, stalls.first);
-    say_flush_stall(state);
-    say::number(b" refusal=", refusal(reel) as u64);
-    say::number(b" skipped=", balance.skipped);
-    say::number(b" inserted=", balance.inserted);
-    say::number(b" passed=", reel.passes.periods);
-    say::number(b" passed_frames=", reel.passes.frames);
-    say::number(b" status=", status);
-    say::text(b"\n");
+    say::number(rt, "skim: frames_in=", reel.frames_in);
+    say::number(rt, " frames_out=", reel.frames_out);
+    say::number(rt, " stalls=", stalls.count);
+    say_frame(rt, " stalled_at=", stalls.count > 0, stalls.first);
+    say_flush_stall(rt, state);
+    say::number(rt, " refusal=", refusal(reel) as u64);
+    say::number(rt, " skipped=", balance.skipped);
+    say::number(rt, " inserted=", balance.inserted);
+    say::number(rt, " passed=", reel.passes.periods);
+    say::number(rt, " passed_frames=", reel.passes.frames);
+    say::number(rt, " status=", status);
+    say::text(rt, "\n");
 }
 
 // Tells the line, and answers the status.
-pub(crate) fn told(reel: Reel) -> u64
+pub(crate) fn told(rt: &impl Eprint, reel: Reel) -> u64
     ensures { result ≡ status_of reel }
 {
     let status = status(reel);
-    say_line(reel, status);
+    say_line(rt, reel, status);
     status
 }
