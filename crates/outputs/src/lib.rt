@@ -10,11 +10,11 @@ ghost use Rattle.outputs.specs.Tracks.{track_bytes};
 
 use plans::Plan;
 use ports::{Outgoing, standing};
-use std::fs;
 use std::fs::{OpenFile, OpenOptions};
-use std::io::{IsTerminal, Seek, SeekFrom, Stdout, Write};
+use std::io::{Error, ErrorKind, IsTerminal, Seek, SeekFrom, Stdout, Write};
 use std::os::unix::fs::FileTypeExt;
 use std::rt::Files;
+use std::{fs, io};
 
 // The size that sox writes where it cannot know another, as to a pipe.
 const UNKNOWN: u32 = 0x7fff_f000;
@@ -22,12 +22,12 @@ const UNKNOWN: u32 = 0x7fff_f000;
 // What stands for the bytes of a track that is longer than a WAVE file can tell.
 const TOO_LONG: u32 = 0xffff_ffff;
 
-// What became of the sizes: they are set; they are not, since standard output cannot be sought; or the track is longer
-// than they can tell.
+// What became of the sizes: they are set; they are not, for what the system says, as that standard output cannot be
+// sought; or the track is longer than they can tell.
 #[derive(Clone, Copy)]
 pub enum Sizes {
     Set,
-    Unset,
+    Unset(Error),
     TooLong,
 }
 
@@ -77,19 +77,27 @@ fn length<F: OpenFile>(file: &F) -> u64 {
     file.metadata().map_or(0, |told| told.len())
 }
 
+// Writes a head at a place of a file.
+fn put_at<F: Write + Seek>(file: &mut F, head: &[u8], place: u64) -> io::Result<()> {
+    file.seek(SeekFrom::Start(place))?;
+    file.write_all(head)
+}
+
+// What stands for a file that cannot be sought.
+fn unsought() -> Sizes {
+    Sizes::Unset(Error::from(ErrorKind::NotSeekable))
+}
+
 // Sets the sizes in a head that was written at this place of a file. What is written to a file that appends goes to its
 // end: that is taken away again.
 fn set_sizes<F: Write + Seek + OpenFile>(file: &mut F, head: &[u8], place: u64) -> Sizes {
     let end = length(file);
-    if file.seek(SeekFrom::Start(place)).is_err() {
-        return Sizes::Unset;
-    }
-    if file.write_all(head).is_err() {
-        return Sizes::Unset;
+    if let Err(e) = put_at(file, head, place) {
+        return Sizes::Unset(e);
     }
     if length(file) != end {
         let _ = file.set_len(end);
-        return Sizes::Unset;
+        return unsought();
     }
     Sizes::Set
 }
@@ -98,7 +106,7 @@ fn set_sizes<F: Write + Seek + OpenFile>(file: &mut F, head: &[u8], place: u64) 
 fn set_standard_sizes(files: &impl Files, head: &[u8], place: u64) -> Sizes {
     match OpenOptions::new().write(true).open(files, standing::OUTPUT) {
         Ok(mut file) => set_sizes(&mut file, head, place),
-        Err(_) => Sizes::Unset,
+        Err(e) => Sizes::Unset(e),
     }
 }
 
@@ -117,13 +125,13 @@ pub fn end(
         return Sizes::TooLong;
     }
     let Some(at) = place else {
-        return Sizes::Unset;
+        return unsought();
     };
     let mut head = [0u8; chunks::HEAD_BYTES];
     chunks::put_head(&mut head, plan.rate as u32, plan.channels as u32, size);
     match output {
         Outgoing::Standard(_) => set_standard_sizes(files, &head, at),
         Outgoing::Named(file) => set_sizes(file, &head, at),
-        Outgoing::Closed => Sizes::Unset,
+        Outgoing::Closed => unsought(),
     }
 }
