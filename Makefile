@@ -11,10 +11,13 @@ LINK_STREAM := -L target/staticlib -l static=sonic_c
 ORIGINAL ?= ../shared/docs/src/src/lib.rs
 AT_HAND := $(wildcard $(ORIGINAL))
 
-# A command of rt, $(1): a line for each crate once it is proved, and where it fails all that it wrote. $(2) keeps that.
-told = set -o pipefail; $(1) 2>&1 | tee $(2) | sed -un '/unchanged since it was last proved/d; /^rt: /p' || { cat $(2); exit 1; }
+# A command of rt, $(1): the lines of rt itself, and where it fails all that it wrote. $(2) keeps that.
+told = set -o pipefail; { $(1); } 2>&1 | tee $(2) | sed -un '/^rt: /p' || { cat $(2); exit 1; }
 
-.PHONY: skim test test-long compare differential bites tool refusals refusals-from-nothing bench rust vectors picture program kernels stream
+# The same in the folder of the crate $(1).
+told_in = $(call told,(cd crates/$(1) && $(2)),target/$(1).log)
+
+.PHONY: skim test test-long compare differential bites tool refusals bench rust vectors picture program kernels stream
 .PHONY: install install-built uninstall
 .SILENT:
 .NOTPARALLEL:
@@ -26,15 +29,13 @@ skim: program
 	echo "the reel crates/skim/stdin is skimmed to target/reel.pcm (8,000 Hz, mono, 16-bit little-endian PCM); target/reel.map tells what was passed over"
 	echo "to skim your own: tools/skim.sh < in.pcm > out.pcm; tools/skim.sh --help tells more"
 
-# Layout; then every proof, must-fail edit and program from nothing; then the other wrong programs beside the comparisons. The last line
-# is that of `rt ci`, which starts RT_JOBS crates at a time and waits for all of them: more than there are cores, so that none is idle. A
-# crate takes up to 2 GB.
+# Every proof, must-fail edit and program, none of the edits bad; then the other wrong programs beside the comparisons. The last line is
+# that of `rt ci`.
 test:
-	rt fmt --check
 	log=$$(mktemp); trap 'rm -f "$$log"' EXIT; \
-	{ $(call told,RT_JOBS=$${RT_JOBS:-6} rt ci,"$$log"); } && { \
+	{ $(call told,rt ci,"$$log"); } && ! grep -E '^rt: ok.*, [0-9]+ bad' "$$log" && { \
 	tools/refusals.py & refusals=$$!; \
-	$(MAKE) --no-print-directory compare; compared=$$?; \
+	$(MAKE) --no-print-directory compare BUILT=yes; compared=$$?; \
 	wait $$refusals && test $$compared = 0; } && tail -n 1 "$$log"
 
 compare: target/tests/floats target/tests/narrowing target/tests/removal target/tests/wave target/tests/wave_file target/tests/header \
@@ -55,11 +56,9 @@ test-long: target/tests/floats target/tests/narrowing differential tool refusals
 	target/tests/narrowing 1000
 	target/tests/floats 200
 
-# Every wrong program and wrong definition, over the modules that the proofs left; or from nothing, each proving its whole crate again.
-refusals refusals-from-nothing:
-	mkdir -p target
-	$(call told,rt check,target/check.log)
-	tools/refusals.py --long --must-fail $(if $(findstring nothing,$@),--from-nothing)
+# Every wrong program and wrong definition.
+refusals:
+	tools/refusals.py --long --must-fail
 
 # The stream for C beside the original, call by call: fixed runs, or random ones with the seed of the day; and two reels.
 RUNS := fixed
@@ -123,20 +122,26 @@ bench: target/bench/kernels target/bench/jobs program
 rust: stream
 	cd bindings/rust && KELPLADDER_ORIGINAL=$(abspath $(ORIGINAL)) cargo test --offline --quiet
 
+# `rt run` proves, builds and runs: here it asks for the version. With BUILT the tool is that of `rt ci`.
 program:
-	echo "proving and building the skim tool; from nothing that takes some minutes"
 	mkdir -p target/tests
-	$(call told,rt check skim,target/skim.log)
+ifndef BUILT
+	echo "proving and building the skim tool; from nothing that takes some minutes"
+	$(call told_in,skim,rt run -- --version < /dev/null)
+endif
+	install -D crates/skim/out/skim target/bin/skim
 
 kernels:
 	echo "proving and building the entry points to inner functions"
 	mkdir -p target/tests target/bench
-	$(call told,rt staticlib kernels_c,target/kernels.log)
+	$(call told_in,kernels_c,rt lib)
+	install -D -m 644 crates/kernels_c/out/libkernels_c.a target/staticlib/libkernels_c.a
 
 stream:
 	echo "proving and building the library for C"
 	mkdir -p target/tests target/bench
-	$(call told,rt staticlib sonic_c,target/stream.log)
+	$(call told_in,kelpladder_c,rt lib)
+	install -D -m 644 crates/kelpladder_c/out/libkelpladder_c.a target/staticlib/libsonic_c.a
 
 target/tests/floats: tests/floats.rs kernels
 	$(RUSTC) $< -o $@ $(LINK_KERNELS)

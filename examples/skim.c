@@ -1,7 +1,7 @@
 /* The user's job in C: 8,000 Hz mono 16-bit PCM from standard input to standard output, at speed 20 and pitch 0.5, stepping over pitch
  * periods that give no frame, for a little-endian machine. Exit status: 0, or 2 if a call was refused or a file failed.
  *
- *   rt staticlib sonic_c
+ *   make stream
  *   cc -I include examples/skim.c target/staticlib/libsonic_c.a -o skim
  *
  * or, where it is installed: cc examples/skim.c $(pkg-config --cflags --libs kelpladder) -o skim */

@@ -27,13 +27,13 @@ fn named_folder() -> Option<PathBuf> {
     Some(folder)
 }
 
-/// Has `rt` prove the crate and write the library.
+/// Has `rt`, by make, prove the crate and write the library.
 fn make_library(repository: &Path) {
-    let help = "run `rt staticlib sonic_c` in the repository, or set KELPLADDER_LIB_DIR to the folder that has the library";
+    let help = "run `make stream` in the repository, or set KELPLADDER_LIB_DIR to the folder that has the library";
     assert!(repository.join("crates.txt").is_file(), "no {LIBRARY}, and {} is not the repository: {help}", repository.display());
-    match Command::new("rt").args(["staticlib", "sonic_c"]).current_dir(repository).status() {
-        Ok(status) => assert!(status.success(), "`rt staticlib sonic_c` failed ({status}): {help}"),
-        Err(error) => panic!("no {LIBRARY}, and `rt` cannot be run ({error}): {help}"),
+    match Command::new("make").arg("stream").current_dir(repository).status() {
+        Ok(status) => assert!(status.success(), "`make stream` failed ({status}): {help}"),
+        Err(error) => panic!("no {LIBRARY}, and `make` cannot be run ({error}): {help}"),
     }
 }
 
@@ -44,7 +44,7 @@ fn repository_folder() -> PathBuf {
     if !folder.join(LIBRARY).is_file() {
         make_library(&repository);
     }
-    assert!(folder.join(LIBRARY).is_file(), "`rt staticlib sonic_c` wrote no {LIBRARY} to {}", folder.display());
+    assert!(folder.join(LIBRARY).is_file(), "`make stream` wrote no {LIBRARY} to {}", folder.display());
     folder
 }
 
