@@ -12,14 +12,14 @@ use stream::SonicStream;
 const UNREAD: f32 = 0.5;
 
 // Prints the answer of a write or a flush.
-fn wrote(answer: Wrote) -> SonicStream {
+fn wrote(rt: &impl Print, answer: Wrote) -> SonicStream {
     match answer {
         Wrote::Refused(number, after) => {
-            print_refused(number);
+            print_refused(rt, number);
             after
         }
         Wrote::Done(told, after) => {
-            print_told(told);
+            print_told(rt, told);
             after
         }
     }
@@ -33,6 +33,7 @@ pub fn make(signal: Signal, count: usize, samples: &mut [f32]) {
 
 // Writes the first `count` of the samples, or all of them where there are fewer.
 pub fn write(
+    rt: &impl Print,
     stream: SonicStream,
     count: usize,
     samples: &[f32],
@@ -55,11 +56,12 @@ pub fn write(
         &mut output[..c],
         &mut scratch[..d],
     );
-    wrote(answer)
+    wrote(rt, answer)
 }
 
 // Flushes.
 pub fn flush(
+    rt: &impl Print,
     stream: SonicStream,
     lent: LentLengths,
     input: &mut [i16],
@@ -78,7 +80,7 @@ pub fn flush(
         &mut output[..c],
         &mut scratch[..d],
     );
-    wrote(answer)
+    wrote(rt, answer)
 }
 
 // Fills a slice with UNREAD.
@@ -91,14 +93,14 @@ fn clear(slice: &mut [f32]) {
 }
 
 // Prints the answer of a read.
-fn gave(answer: Gave) -> SonicStream {
+fn gave(rt: &impl Print, answer: Gave) -> SonicStream {
     match answer {
         Gave::Refused(number, after) => {
-            print_refused(number);
+            print_refused(rt, number);
             after
         }
         Gave::Done(n, after) => {
-            print_count(n.0 as u64);
+            print_count(rt, n.0 as u64);
             after
         }
     }
@@ -107,6 +109,7 @@ fn gave(answer: Gave) -> SonicStream {
 // Reads at most `most` frames into a slice of `count` samples, or of as many as there is room for, and prints the sum
 // over the whole slice.
 pub fn read(
+    rt: &impl Print,
     stream: SonicStream,
     most: usize,
     count: usize,
@@ -119,7 +122,7 @@ pub fn read(
     clear(slice);
     let c = of_area(lent.output, output);
     let answer = sonic::read_f32(stream, Frames(most), slice, &mut output[..c]);
-    let after = gave(answer);
-    print_word(slice_sum(slice));
+    let after = gave(rt, answer);
+    print_word(rt, slice_sum(slice));
     after
 }

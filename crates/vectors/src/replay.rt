@@ -52,6 +52,7 @@ fn is_call(letter: u8) -> bool {
 
 // Makes the call of a line.
 fn call(
+    rt: &impl Print,
     stream: SonicStream,
     line: Line,
     lent: LentLengths,
@@ -66,10 +67,13 @@ fn call(
         b'w' => {
             let count = line.e as usize;
             make(signal_of(line), count, samples);
-            write(stream, count, samples, lent, input, stage, output, scratch)
+            write(
+                rt, stream, count, samples, lent, input, stage, output, scratch,
+            )
         }
-        b'f' => flush(stream, lent, input, stage, output, scratch),
+        b'f' => flush(rt, stream, lent, input, stage, output, scratch),
         b'r' => read(
+            rt,
             stream,
             line.a as usize,
             line.b as usize,
@@ -77,12 +81,13 @@ fn call(
             samples,
             output,
         ),
-        _ => small_call(stream, line),
+        _ => small_call(rt, stream, line),
     }
 }
 
 // Makes the call of a line, if it is one, and prints its answer.
 fn follow(
+    rt: &impl Print,
     stream: SonicStream,
     line: Line,
     lent: LentLengths,
@@ -95,13 +100,16 @@ fn follow(
     if !is_call(line.letter) {
         return stream;
     }
-    let after = call(stream, line, lent, samples, input, stage, output, scratch);
-    print_stream(after, input, stage, output);
+    let after = call(
+        rt, stream, line, lent, samples, input, stage, output, scratch,
+    );
+    print_stream(rt, after, input, stage, output);
     after
 }
 
 // Prints and follows every line of a text.
 pub(crate) fn replay_all(
+    rt: &impl Print,
     text: &[u8],
     samples: &mut [f32],
     input: &mut [i16],
@@ -122,11 +130,13 @@ pub(crate) fn replay_all(
     while at < text.len() {
         let line = parse(text, at);
         let next = line.next;
-        print(&text[at..next]);
+        print(rt, &text[at..next]);
         session = noted(session, line);
         let stream = session.stream;
         let lent = session.lent;
-        let after = follow(stream, line, lent, samples, input, stage, output, scratch);
+        let after = follow(
+            rt, stream, line, lent, samples, input, stage, output, scratch,
+        );
         session.stream = after;
         at = next;
     }
