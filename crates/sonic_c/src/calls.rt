@@ -15,57 +15,49 @@ use crate::{Available, Changed, Gave, Opened, Wrote};
 use frames::Frames;
 use stream::{Setting, SonicStream};
 
-#[unsafe(no_mangle)]
-pub extern "C" fn kelpladder_open(rate: u32, channels: u32) -> Opened
+pub fn kelpladder_open(rate: u32, channels: u32) -> Opened
     ensures { result ≡ opened_of (open_call rate channels Smallest) }
 {
     opened_of(SonicStream::new(rate, channels))
 }
 
-#[unsafe(no_mangle)]
-pub extern "C" fn kelpladder_open_with_ties(rate: u32, channels: u32, ties: u32) -> Opened
+pub fn kelpladder_open_with_ties(rate: u32, channels: u32, ties: u32) -> Opened
     ensures { result ≡ opened_of (open_call rate channels (ties_of ties)) }
 {
     opened_of(SonicStream::with_ties(rate, channels, stream::ties_of(ties)))
 }
 
-#[unsafe(no_mangle)]
-pub extern "C" fn kelpladder_set_speed(stream: SonicStream, speed: f32) -> Changed
+pub fn kelpladder_set_speed(stream: SonicStream, speed: f32) -> Changed
     ensures { result ≡ changed_of (set_call stream (Speed speed)) }
 {
     changed_of(stream.set(Setting::Speed(speed)))
 }
 
-#[unsafe(no_mangle)]
-pub extern "C" fn kelpladder_set_pitch(stream: SonicStream, pitch: f32) -> Changed
+pub fn kelpladder_set_pitch(stream: SonicStream, pitch: f32) -> Changed
     ensures { result ≡ changed_of (set_call stream (Pitch pitch)) }
 {
     changed_of(stream.set(Setting::Pitch(pitch)))
 }
 
-#[unsafe(no_mangle)]
-pub extern "C" fn kelpladder_set_volume(stream: SonicStream, volume: f32) -> Changed
+pub fn kelpladder_set_volume(stream: SonicStream, volume: f32) -> Changed
     ensures { result ≡ changed_of (set_call stream (Volume volume)) }
 {
     changed_of(stream.set(Setting::Volume(volume)))
 }
 
-#[unsafe(no_mangle)]
-pub extern "C" fn kelpladder_set_step_over(stream: SonicStream, on: u32) -> Changed
+pub fn kelpladder_set_step_over(stream: SonicStream, on: u32) -> Changed
     ensures { result ≡ changed_of (set_call stream (StepOver (steps_over on))) }
 {
     changed_of(stream.set(Setting::StepOver(on > 0)))
 }
 
-#[unsafe(no_mangle)]
-pub extern "C" fn kelpladder_available_frames(stream: SonicStream) -> Available
+pub fn kelpladder_available_frames(stream: SonicStream) -> Available
     ensures { result ≡ available_of stream (available_call stream) }
 {
     available_of(stream, stream.available_frames())
 }
 
-#[unsafe(no_mangle)]
-pub extern "C" fn kelpladder_write_f32(
+pub fn kelpladder_write_f32(
     stream: SonicStream,
     samples: &[f32],
     input: &mut [i16],
@@ -81,8 +73,7 @@ pub extern "C" fn kelpladder_write_f32(
     wrote_of(sonic::write_f32(stream, samples, input, stage, output, scratch))
 }
 
-#[unsafe(no_mangle)]
-pub extern "C" fn kelpladder_read_f32(
+pub fn kelpladder_read_f32(
     stream: SonicStream,
     most: usize,
     slice: &mut [f32],
@@ -94,8 +85,7 @@ pub extern "C" fn kelpladder_read_f32(
     gave_of(sonic::read_f32(stream, Frames(most), slice, output))
 }
 
-#[unsafe(no_mangle)]
-pub extern "C" fn kelpladder_flush(
+pub fn kelpladder_flush(
     stream: SonicStream,
     input: &mut [i16],
     stage: &mut [i16],

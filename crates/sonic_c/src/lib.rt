@@ -1,10 +1,11 @@
-// The stream for C: each function calls `stream` or `sonic` and hands its answer over as a struct.
-// include/kelpladder.h has the declarations; `specs/Answers.antt` says what numbers stand for an answer. The stream
-// is `SonicStream` itself. `waves` has the calls for WAVE files.
+// The stream for C: each function calls `stream` or `sonic` and hands its answer over as a struct. The crate
+// `kelpladder_c` exports them, and include/kelpladder.h has the declarations; `specs/Answers.antt` says what numbers
+// stand for an answer. The stream is `SonicStream` itself. `waves` has the calls for WAVE files.
 #![tactic(auto)]
+
 mod answers;
-mod calls;
-mod waves;
+pub mod calls;
+pub mod waves;
 
 use frames::Frames;
 use stream::SonicStream;

@@ -68,15 +68,13 @@ fn written_of(answer: wave::WaveWritten) -> WaveWritten
     }
 }
 
-#[unsafe(no_mangle)]
-pub extern "C" fn kelpladder_wave_read(bytes: &[u8]) -> Wave
+pub fn kelpladder_wave_read(bytes: &[u8]) -> Wave
     ensures { result ≡ wave_of (read_wave bytes.now) }
 {
     wave_of(wave::read_wave(bytes))
 }
 
-#[unsafe(no_mangle)]
-pub extern "C" fn kelpladder_wave_write(
+pub fn kelpladder_wave_write(
     dest: &mut [u8],
     rate: u32,
     channels: u32,

@@ -1,0 +1,8 @@
+-- `sonic_c::calls::kelpladder_write_f32` meets its contract. Assumes nothing.
+use Rattle.sonic_c.proofs.Answering.{wrote-ensures}
+use Rattle.sonic_c.proofs.calls.kelpladder_write_f32.Goals as goal
+
+pub returns : goal.returns
+returns c =
+    let called = c.before.before.before.before.before in
+    wrote-ensures called.write_f32.result c.wrote_of.result c.wrote_of.ensures called.write_f32.ensures.call_ensures
