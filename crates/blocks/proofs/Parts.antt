@@ -17,7 +17,7 @@ use Rattle.reels.specs.declared.reel.Reel.{Reel}
 use Rattle.reels.specs.declared.state.RunState.{RunState}
 use Rattle.reels.specs.declared.state.Stalls.{Stalls}
 use Rattle.adding.specs.Calls.{stream_after}
-use Rattle.reels.specs.States.{sound, kept, state_in, count_stall}
+use Rattle.reels.specs.States.{sound, kept, count_stall}
 use Rattle.reels.specs.Serving.{OnlyTotals, Serving}
 use Rattle.reels.specs.Reels.{takes_more, first_held, passed_in, Answered, WrittenOut, Drained, BlockReadAs}
 use Rattle.maps.specs.Maps.{noted_write, MapWritten}

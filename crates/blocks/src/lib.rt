@@ -3,6 +3,7 @@
 // each write, and where the pitch period is s − 1 its last bit decides.
 // `specs/Blocks.antt` says what is promised.
 #![tactic(auto)]
+
 ghost use Rattle.std.specs.Prelude.{◌≡◌, ◌+◌, ◌-◌, ◌*◌, ◌/◌, ◌%◌, ◌^◌, ◌<◌, ◌≤◌, map, length};
 ghost use Rattle.frames.specs.Areas.{areas};
 ghost use Rattle.floats.specs.Write.{sample_out};
@@ -15,6 +16,7 @@ ghost use Rattle.blocks.specs.Blocks.{WriteAnswered, NoneWaits, BlockWritten, Tu
 
 use frames::{Frames, Samples};
 use plans::{BLOCK_SAMPLES, Plan};
+use ports::Ports;
 use reels::reading::read_block;
 use reels::reel::{Reel, first_held};
 use reels::state::{RunState, count_stall};
@@ -69,6 +71,7 @@ fn write(
 fn drain_full(
     reel: Reel,
     few: usize,
+    ports: &mut Ports,
     output: &mut [i16],
     values: &mut [f32],
     bytes: &mut [u8],
@@ -79,7 +82,7 @@ fn drain_full(
     if reel.stream.waiting.0 < few {
         return reel;
     }
-    reel.drain(few, output, values, bytes)
+    reel.drain(few, &mut ports.output, output, values, bytes)
 }
 
 // Writes a block to the stream, and writes out what that makes. Between its writes fewer frames wait than a block
@@ -88,6 +91,7 @@ fn write_block(
     mut reel: Reel,
     block: &[i16],
     plan: Plan,
+    ports: &mut Ports,
     input: &mut [i16],
     stage: &mut [i16],
     output: &mut [i16],
@@ -115,17 +119,18 @@ fn write_block(
             output,
             scratch,
         );
-        reel = maps::put_ended(reel, last, plan);
-        reel = drain_full(reel, few, output, values, bytes);
+        reel = maps::put_ended(reel, last, plan, ports);
+        reel = drain_full(reel, few, ports, output, values, bytes);
         at = end;
     }
-    reel.drain(1, output, values, bytes)
+    reel.drain(1, &mut ports.output, output, values, bytes)
 }
 
 // Reads a block, writes it to the stream, and writes out what that makes.
 pub fn turn(
     reel: Reel,
     plan: Plan,
+    ports: &mut Ports,
     input: &mut [i16],
     stage: &mut [i16],
     output: &mut [i16],
@@ -142,12 +147,13 @@ pub fn turn(
         × NoneWaits reel }
     ensures { Turned plan reel result }
 {
-    let read = read_block(reel, plan, block, bytes);
+    let read = read_block(&mut ports.input, reel, plan, block, bytes);
     let samples = read.samples;
     write_block(
         read.reel,
         &block[..samples],
         plan,
+        ports,
         input,
         stage,
         output,
