@@ -34,7 +34,7 @@ use Rattle.stream.specs.declared.SonicStream.{SonicStream}
 use Rattle.stream.specs.declared.Setting.TheVariants.{Speed}
 use Rattle.stream.specs.declared.Opened.{Opened}
 use Rattle.stream.specs.declared.Changed.{Changed}
-use Rattle.stream.specs.Balance.{none, booked, past}
+use Rattle.stream.specs.Balance.{booked, past}
 use Rattle.stream.specs.State.{State, with_settings, with_input, with_balance}
 use Rattle.stream.specs.Stream.{state_of, stream_of}
 use Rattle.stream.specs.Refusals.{rate_bad, channels_bad, limits_in_order, period_in_order, settings_in_order, prev_in_order, positions_in_order, is_in_order}

@@ -89,13 +89,14 @@ event-held h (read-went most a r b) p q = tt
 run-tracks : {m : Moment} {l : Ledger} → Tracks m l → (es : List Event) → Run m es → Tracks (end m es) (ledger_from l (map fed es))
 unfolding end ledger_from
 run-tracks h [] r = h
-run-tracks h (e ∷ es) r = run-tracks (event-tracks h e r.0) es r.1
+run-tracks {m = m} {l = l} h (e ∷ es) r = run-tracks {m = after m e} {l = posted l (fed e)} (event-tracks h e r.0) es r.1
 
 run-held : {m : Moment} {l : Ledger} → Tracks m l → (es : List Event) → Run m es → EachCall HeldCall l (accepted_in (map fed es))
 unfolding accepted_in
 run-held h [] r = tt
 run-held {m} {l} h (e ∷ es) r =
-    each-posted HeldCall l (fed e) (accepted_in (map fed es)) (event-held h e r.0) (run-held (event-tracks h e r.0) es r.1)
+    each-posted HeldCall l (fed e) (accepted_in (map fed es)) (event-held h e r.0)
+    (run-held {m = after m e} {l = posted l (fed e)} (event-tracks h e r.0) es r.1)
 
 total-is : {m : Moment} {l : Ledger} → Tracks m l → total m ≡ values l.made
 unfolding total stream_of
