@@ -9,7 +9,7 @@ use Rattle.adding.specs.Calls.{stream_after, OrderAfter}
 use Rattle.plans.specs.declared.Plan.{Plan}
 use Rattle.reels.specs.declared.reel.Reel.{Reel}
 use Rattle.reels.specs.declared.state.RunState.{RunState}
-use Rattle.reels.specs.States.{sound, fine, kept, flush_stall, state_in}
+use Rattle.reels.specs.States.{fine, kept, flush_stall, state_in}
 use Rattle.reels.specs.Serving.{OnlyTotals, Serving}
 use Rattle.reels.specs.Reels.{takes_more, first_held, Answered}
 use Rattle.maps.specs.Maps.{noted_flush}

@@ -1,6 +1,7 @@
 // A whole reel through the stream: its blocks are read and written to it, some at a time, and at the end it is flushed.
 // Once the stream takes no more, the input is only counted. `specs/Skimming.antt` says what is promised.
 #![tactic(auto)]
+
 ghost use Rattle.std.specs.Prelude.{◌≡◌, true, ◌*◌, ◌≤◌, length};
 ghost use Rattle.frames.specs.Areas.{areas};
 ghost use Rattle.adding.specs.Calls.{flush_call};
@@ -11,6 +12,7 @@ ghost use Rattle.skimming.specs.Skimming.{Flushed, Underway, Complete};
 
 use blocks::turn;
 use plans::Plan;
+use ports::Ports;
 use reels::reel::{Reel, first_held};
 use reels::state::{RunState, flush_stall};
 
@@ -53,6 +55,7 @@ fn flush(
 pub fn turns(
     mut reel: Reel,
     plan: Plan,
+    ports: &mut Ports,
     input: &mut [i16],
     stage: &mut [i16],
     output: &mut [i16],
@@ -70,7 +73,7 @@ pub fn turns(
     let mut turns = TURNS;
     while turns > 0 && reel.reads_more() {
         reel = turn(
-            reel, plan, input, stage, output, scratch, block, values, bytes,
+            reel, plan, ports, input, stage, output, scratch, block, values, bytes,
         );
         turns -= 1;
     }
@@ -92,6 +95,7 @@ fn closed(reel: Reel, plan: Plan) -> Reel
 pub fn finish(
     mut reel: Reel,
     plan: Plan,
+    ports: &mut Ports,
     input: &mut [i16],
     stage: &mut [i16],
     output: &mut [i16],
@@ -107,6 +111,6 @@ pub fn finish(
     reel = closed(reel, plan);
     let last = reel.passes.last;
     reel = flush(reel, plan, input, stage, output, scratch);
-    reel = reel.drain(1, output, values, bytes);
-    maps::end(reel, last, plan)
+    reel = reel.drain(1, &mut ports.output, output, values, bytes);
+    maps::end(reel, last, plan, ports)
 }
