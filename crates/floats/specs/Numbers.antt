@@ -1,4 +1,5 @@
--- Numbers as floats, and an f64 as an f32. IEEE 754 gives the meaning of each operation (std's `Float.Ieee`). Definitions only.
+-- Numbers as floats, and an f64 as an f32. IEEE 754 gives the meaning of each operation (std's `Float.Ieee`).
+-- Definitions only.
 use Rattle.std.specs.Prelude.{ℕ, ◌*◌, false, pos, negsuc, Float}
 use Rattle.std.specs.Float.{nan, inf, fin, binary32}
 use Rattle.std.specs.Float.Ieee.{up, down, round, of_int}

@@ -3,7 +3,8 @@ ghost use Rattle.std.specs.Prelude.{◌≡◌, ◌+◌, ◌<◌, ◌≤◌, ◌^
 ghost use Rattle.std.specs.Float.Ieee.{to_signed, to_unsigned};
 ghost use Rattle.floats.specs.Numbers.{narrow};
 ghost use Rattle.floats.specs.Settings.{clamped, sample_period};
-ghost use Rattle.floats.specs.Write.{sample_in, sample_out, play_time_grown, play_time_left, local_speed, speed_changes};
+ghost use Rattle.floats.specs.Write.{sample_in, sample_out, play_time_grown, play_time_left};
+ghost use Rattle.floats.specs.Write.{local_speed, speed_changes};
 ghost use Rattle.floats.specs.Steps.{copying_due, copy_count, skip_count, insert_count, error_copied, error_skipped};
 ghost use Rattle.floats.specs.Steps.{error_inserted};
 ghost use Rattle.floats.specs.Scales.{new_rate, gain};

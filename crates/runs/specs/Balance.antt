@@ -75,7 +75,8 @@ NotStalled Stalled = ⊥
 
 -- The totals of the stream are those of the ledger, which has no limit.
 abbrev pub TotalsClaim : Type 0
-TotalsClaim = (rate channels : ℕ) (ties : Ties) (a : RunOf rate channels ties) → totals_of a ≡ (ledger_of a).state.balance
+TotalsClaim =
+    (rate channels : ℕ) (ties : Ties) (a : RunOf rate channels ties) → totals_of a ≡ (ledger_of a).state.balance
 
 -- Over any list of calls from a fresh stream, none stalled, frames out of the stretch or copy before rate conversion,
 -- plus skipped, equals frames used plus inserted; out and used are added up from the steps, skipped and inserted are

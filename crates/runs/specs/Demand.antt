@@ -171,5 +171,6 @@ abbrev pub CountClaim : Type 0
 CountClaim = (rate channels : ℕ) (ties : Ties) (a : RunOf rate channels ties) → All CopiedOrEmpty (last a).outcomes
     → (before behind : List Call) (x : Float) → accepted_of a ≡ before ++ setting (Pitch x) ∷ behind
     → All NoWrite before → All NoPitch behind → eq (held_pitch x) one ≡ false → All NoFlush (accepted_of a)
-    → length (total (last a)) ≡ ceil_div ((frames_in channels (accepted_of a) - 12) * (rates_of rate (held_pitch x)).new)
+    → length (total (last a))
+    ≡ ceil_div ((frames_in channels (accepted_of a) - 12) * (rates_of rate (held_pitch x)).new)
     (rates_of rate (held_pitch x)).old

@@ -2,7 +2,8 @@
 -- D(q) of |x[i] − x[i+q]|, i < q. Answer: the smallest or, by choice, the largest q with least D(q)/q, the whole parts
 -- of the least and the greatest D(q)/q, and D(q). `proofs/SearchRule.antt` shows that the definition says this of every
 -- q of the range. Definitions only. Assumes nothing.
-use Rattle.std.specs.Prelude.{ℕ, zero, suc, ◌+◌, ◌-◌, ◌*◌, ◌/◌, ◌≤◌, Bool, cond, List, ltb, leb, ℤ, pos, ◌-ℤ◌, nat_abs, get_or}
+use Rattle.std.specs.Prelude.{ℕ, zero, suc, ◌+◌, ◌-◌, ◌*◌, ◌/◌, ◌≤◌, Bool, cond, List, ltb, leb}
+use Rattle.std.specs.Prelude.{ℤ, pos, ◌-ℤ◌, nat_abs, get_or}
 use Rattle.search.specs.declared.Ties.{Ties}
 use Rattle.search.specs.declared.Ties.TheVariants.{Smallest, Largest}
 use Rattle.search.specs.declared.Found.{Found}

@@ -10,7 +10,8 @@ use Rattle.fill.specs.declared.Told.{Told}
 use Rattle.fill.specs.declared.Outcome.TheVariants.{Stalled}
 use Rattle.read.specs.declared.Gave.{Gave}
 use Rattle.adding.specs.declared.Wrote.{Wrote}
-use Rattle.plans.specs.Plans.{input_area, stage_area, output_area, scratch_area, tail_frames, is_small, held_most, limit_of}
+use Rattle.plans.specs.Plans.{input_area, stage_area, output_area, scratch_area, tail_frames}
+use Rattle.plans.specs.Plans.{is_small, held_most, limit_of}
 use Rattle.plans.specs.Plans.{served}
 use Rattle.floats.proofs.Pace.{Paced}
 

@@ -1,6 +1,7 @@
 // Answers as the structs of C.
 ghost use Rattle.std.specs.Prelude.{◌≡◌};
-ghost use Rattle.sonic_c.specs.Answers.{opened_of, changed_of, available_of, wrote_of, gave_of, outcome_number, told_of};
+ghost use Rattle.sonic_c.specs.Answers.{opened_of, changed_of, available_of, wrote_of, gave_of};
+ghost use Rattle.sonic_c.specs.Answers.{outcome_number, told_of};
 
 use crate::{Available, Changed, Gave, Opened, Told, Wrote};
 use frames::Frames;
