@@ -16,6 +16,7 @@ all that is refused are proofs that name what it takes away. What each came to i
 import os
 import re
 import shutil
+import signal
 import subprocess
 import sys
 import tempfile
@@ -53,7 +54,7 @@ class Edit:
         if not told.startswith(REFUSED):
             return False, told
         place = place_of(self.crate, told.removeprefix(REFUSED))
-        if place in self.lines[0]:
+        if re.search(re.escape(place) + r"\b", self.lines[0]):
             return True, f"refused at {place}"
         return False, f"refused at {place}, NOT WHERE ITS FIRST LINE SAYS"
 
@@ -133,6 +134,7 @@ def main():
         names = [line.split(":")[0].split()[0] for line in text if ":" in line.split("#")[0]]
     if not flags <= {option for _, _, option in FOLDERS.values() if option} or not set(chosen) <= set(names):
         sys.exit(__doc__)
+    signal.signal(signal.SIGTERM, lambda *_: sys.exit("refusals: stopped"))
     edits = [edit for name in names if name in (chosen or names) for edit in edits_of(name, flags)]
     told = try_all(names, edits) if edits else {}
     refused, failed = {PROGRAM: 0, DEFINITION: 0}, []
