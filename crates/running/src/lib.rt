@@ -1,6 +1,7 @@
 // A whole reel of the skim tool: the turns of `skimming`, a few at a time, since between them `progress` tells how
 // far the run is.
 #![tactic(auto)]
+
 ghost use Rattle.std.specs.Prelude.{◌≡◌, length};
 ghost use Rattle.plans.specs.Plans.{block_samples, block_bytes, Usable};
 ghost use Rattle.frames.specs.Areas.{areas};
@@ -8,6 +9,7 @@ ghost use Rattle.serving.specs.Steady.{AreasSized};
 ghost use Rattle.skimming.specs.Skimming.{Underway, Complete};
 
 use plans::Plan;
+use ports::Ports;
 use reels::reel::Reel;
 
 // Does a job in areas that are lent. A proved loop has to end, and nothing says that the input does: a run that uses up
@@ -15,6 +17,7 @@ use reels::reel::Reel;
 pub fn run(
     mut reel: Reel,
     plan: Plan,
+    ports: &mut Ports,
     input: &mut [i16],
     stage: &mut [i16],
     output: &mut [i16],
@@ -33,10 +36,12 @@ pub fn run(
     while rounds > 0 && reel.reads_more() {
         let before = reel.frames_in;
         reel = skimming::turns(
-            reel, plan, input, stage, output, scratch, block, values, bytes,
+            reel, plan, ports, input, stage, output, scratch, block, values, bytes,
         );
-        progress::show(reel, before, plan);
+        progress::show(ports, reel, before, plan);
         rounds -= 1;
     }
-    skimming::finish(reel, plan, input, stage, output, scratch, values, bytes)
+    skimming::finish(
+        reel, plan, ports, input, stage, output, scratch, values, bytes,
+    )
 }
