@@ -1,15 +1,17 @@
 // The areas of a small job of the skim tool, arrays on the stack, which a run is lent. A crate apart, since arrays of
 // this length take long to check.
 #![tactic(auto)]
+
 ghost use Rattle.std.specs.Prelude.{◌≡◌, true};
 ghost use Rattle.plans.specs.Plans.{Usable};
 ghost use Rattle.skimming.specs.Skimming.{Underway, Complete};
 
 use plans::{BLOCK_BYTES, BLOCK_SAMPLES, Plan};
+use ports::Ports;
 use reels::reel::Reel;
 
 // Does a small job.
-pub fn skim_small(reel: Reel, plan: Plan) -> Reel
+pub fn skim_small(reel: Reel, plan: Plan, ports: &mut Ports) -> Reel
     requires { Usable plan × Underway plan reel × (plan.small ≡ true) }
     ensures { Complete plan result }
 {
@@ -23,6 +25,7 @@ pub fn skim_small(reel: Reel, plan: Plan) -> Reel
     running::run(
         reel,
         plan,
+        ports,
         &mut input,
         &mut stage,
         &mut output,
