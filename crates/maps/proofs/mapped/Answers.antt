@@ -1,4 +1,3 @@
--- `maps::mapped` meets its contract. Assumes nothing.
 use mathlib.Core.Path.{◌≡◌, refl, sym, ap, ◌∙◌, subst}
 use mathlib.Core.Bool.{false}
 use Rattle.reels.specs.declared.state.RunState.{RunState}

@@ -1,18 +1,15 @@
--- `reels::reading::count` meets its contract. Assumes nothing.
 use Rattle.std.proofs.Common.{refl, ◌∙◌}
 use Rattle.reels.proofs.reading.count.Goals as goal
 
 pub returns-then-filled : goal.returns-then-filled
 returns-then-filled c =
-    let i = c.before in
-    let w = i.before.before.before.before.before.before in
     let k = c.stopped.ensures in
     record {
-      frames_is = k.input_kept.frames_same ∙ w.wrapping_add_u64.ensures.value;
-      source_is = k.input_kept.source_same ∙ i.after-next.ensures;
+      frames_is = k.input_kept.frames_same ∙ c.wrapping_add_u64.ensures.value;
+      source_is = k.input_kept.source_same ∙ c.after-next.ensures;
       partial_is = k.input_kept.partial_same;
       ended_is = k.input_kept.ended_same;
-      state_is = rw i.if-filled.true k.state_is;
+      state_is = rw c.if-filled.true k.state_is;
       stream_kept = k.stream_kept;
       written_kept = k.written_kept;
       out_kept = k.out_kept;
@@ -31,9 +28,8 @@ returns-then-filled c =
 
 pub returns : goal.returns
 returns c =
-    let w = c.before.before.before.before.before.before in
     record {
-      frames_is = w.wrapping_add_u64.ensures.value;
+      frames_is = c.wrapping_add_u64.ensures.value;
       source_is = c.after-next.ensures;
       partial_is = refl;
       ended_is = refl;

@@ -1,4 +1,3 @@
--- `reels::reel::write_values` is safe. Assumes nothing.
 use Rattle.std.proofs.Common.{arith, length-take}
 use Rattle.reels.proofs.reel.write_values.Goals as goal
 

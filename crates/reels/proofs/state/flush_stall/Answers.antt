@@ -1,4 +1,3 @@
--- `reels::state::flush_stall` meets its contract. Assumes nothing.
 use Rattle.reels.proofs.state.flush_stall.Goals as goal
 
 pub returns-in-Going : goal.returns-in-Going

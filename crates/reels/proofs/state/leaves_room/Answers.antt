@@ -1,4 +1,3 @@
--- `reels::state::leaves_room` meets its contract. Assumes nothing.
 use Rattle.std.proofs.Common.{◌≡◌, ℕ, ◌+◌, ◌-◌, ◌*◌, ◌≤◌, Bool, true, false, leb, sym, refl, arith, le-leb, leb-false, leb-true}
 use borrow.Author.Tests.{lt-leb}
 use Rattle.reels.proofs.state.leaves_room.Goals as goal

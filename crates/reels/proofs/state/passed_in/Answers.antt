@@ -1,4 +1,3 @@
--- `reels::state::passed_in` meets its contract. Assumes nothing.
 use Rattle.reels.proofs.state.passed_in.Goals as goal
 
 pub returns-in-Done : goal.returns-in-Done

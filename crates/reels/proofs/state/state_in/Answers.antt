@@ -1,4 +1,4 @@
--- `reels::state::state_in` meets its contract, by the cases of the answer. Assumes nothing.
+-- By the cases of the answer.
 use Rattle.std.proofs.Common.{sym, ◌∙◌}
 use Rattle.reels.proofs.state.state_in.Goals as goal
 

@@ -1,4 +1,3 @@
--- `reels::state::stream_after` meets its contract. Assumes nothing.
 use Rattle.reels.proofs.state.stream_after.Goals as goal
 
 pub returns-in-Refused : goal.returns-in-Refused

@@ -22,7 +22,9 @@ loop-turns-preserved g c =
     )
 
 pub returns-else-not-has_failed : goal.returns-else-not-has_failed
-returns-else-not-has_failed g c = record { out = c.loop-turns.invariant.5; fewer = λ e. let f : failed c.loop-turns.reel.state ≡ true = search rules in absurd (failed-once e (failed-unsound _ f)) }
+returns-else-not-has_failed g c =
+    let f : failed c.loop-turns.reel.state ≡ true = search rules in
+    record { out = c.loop-turns.invariant.5; fewer = λ e. absurd (failed-once e (failed-unsound _ f)) }
 
 pub returns-else-reel-few : goal.returns-else-reel-few
 returns-else-reel-few g c = record { out = c.loop-turns.invariant.5; fewer = λ e. omega arith }

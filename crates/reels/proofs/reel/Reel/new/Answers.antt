@@ -1,4 +1,3 @@
--- `reels::reel::Reel::new` meets its contract. Assumes nothing.
 use Rattle.std.proofs.Common.{refl}
 use Rattle.reels.specs.Reels.{fresh_reel}
 use Rattle.reels.proofs.reel.Reel.new.Goals as goal

@@ -1,4 +1,3 @@
--- `reels::reel::Reel::reads_more` meets its contract. Assumes nothing.
 use Rattle.reels.proofs.reel.Reel.reads_more.Goals as goal
 
 pub returns-then-self : goal.returns-then-self

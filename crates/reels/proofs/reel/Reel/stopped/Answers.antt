@@ -1,4 +1,3 @@
--- `reels::reel::Reel::stopped` meets its contract. Assumes nothing.
 use Rattle.std.proofs.Common.{◌∙◌}
 use Rattle.reels.proofs.reel.Reel.stopped.Goals as goal
 

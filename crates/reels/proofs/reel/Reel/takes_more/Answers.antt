@@ -1,4 +1,4 @@
--- `reels::reel::Reel::takes_more` meets its contract, by the states. Assumes nothing.
+-- By the states.
 use Rattle.reels.proofs.reel.Reel.takes_more.Goals as goal
 
 pub returns-in-Going : goal.returns-in-Going
