@@ -11,9 +11,12 @@ ghost use Rattle.skimming.specs.Skimming.{Underway};
 use outputs::names::Made;
 use outputs::{Sizes, names};
 use plans::Plan;
+use ports::kept::Kept;
+use ports::{Outgoing, Ports};
 use reels::reel::Reel;
 use reels::state::RunState;
 use reports::Files;
+use std::{io, process};
 use stream::refusals;
 
 // A run with its track ended, and whether the sizes of that could not be set.
@@ -23,34 +26,56 @@ struct Ending {
     unset: bool,
 }
 
-// Gives the file of a whole track this name; an empty name is that of none.
-fn kept(reel: Reel, name: &[u8]) -> Reel {
-    if name.len() > 0 && reports::is_whole(reel) && !names::keep(name) {
-        return reel.stopped(RunState::WriteFailed);
+// The number of this process.
+fn number(rt: &HostRuntime) -> u32 {
+    process::id(rt.process())
+}
+
+// Gives the file that is written this name.
+fn give_name(ports: &Ports, name: &str) -> io::Result<()> {
+    match ports.output.get_ref() {
+        Outgoing::Named(file) => names::keep(&ports.rt, number(&ports.rt), file, name),
+        Outgoing::Standard(_) => Ok(()),
+        Outgoing::Closed => Ok(()),
     }
-    reel
+}
+
+// Gives the file of a whole track this name; an empty name is that of none.
+fn kept(ports: &mut Ports, reel: Reel, name: &str) -> Reel {
+    if name.is_empty() || !reports::is_whole(reel) {
+        return reel;
+    }
+    match give_name(ports, name) {
+        Ok(()) => reel,
+        Err(e) => {
+            ports.output.keep(e);
+            reel.stopped(RunState::WriteFailed)
+        }
+    }
 }
 
 // Ends a track whose head was written at `start`: sets its sizes, and gives a named file its name.
-fn ended(reel: Reel, plan: Plan, name: &[u8], start: i64) -> Ending
+fn ended(ports: &mut Ports, reel: Reel, plan: Plan, name: &str, start: Option<u64>) -> Ending
     requires { InLimits plan.rate plan.channels }
 {
     if !reel.source.wave || reel.has_failed() {
         return Ending { reel, unset: false };
     }
-    match outputs::end(reel.frames_out, start, plan) {
+    let rt = ports.rt;
+    match outputs::end(&rt, ports.output.get_mut(), reel.frames_out, start, plan) {
         Sizes::Set => Ending {
-            reel: kept(reel, name),
+            reel: kept(ports, reel, name),
             unset: false,
         },
-        Sizes::Unset => {
-            if name.len() > 0 {
-                return Ending {
-                    reel: reel.stopped(RunState::WriteFailed),
-                    unset: false,
-                };
+        Sizes::Unset(error) => {
+            if name.is_empty() {
+                return Ending { reel, unset: true };
             }
-            Ending { reel, unset: true }
+            ports.output.keep(error);
+            Ending {
+                reel: reel.stopped(RunState::WriteFailed),
+                unset: false,
+            }
         }
         Sizes::TooLong => Ending {
             reel: reel.stopped(RunState::Refused(refusals::BAD_SIZE)),
@@ -60,87 +85,102 @@ fn ended(reel: Reel, plan: Plan, name: &[u8], start: i64) -> Ending
 }
 
 // Begins a track: the head of a WAVE file, if it is one. Answers whether that was taken.
-fn begun(reel: Reel, plan: Plan) -> bool
+fn begun(ports: &mut Ports, reel: Reel, plan: Plan) -> bool
     requires { InLimits plan.rate plan.channels }
 {
     if !reel.source.wave {
         return true;
     }
-    outputs::write_head(plan)
+    outputs::write_head(&mut ports.output, plan)
 }
 
 // Ends the track of a run, and tells of it. Answers the status.
-fn told(reel: Reel, plan: Plan, name: &[u8], start: i64, map: u32) -> u64
+fn told(
+    ports: &mut Ports,
+    reel: Reel,
+    plan: Plan,
+    name: &str,
+    start: Option<u64>,
+    map: u32,
+) -> u64
     requires { InLimits plan.rate plan.channels }
 {
-    let done = ended(reel, plan, name, start);
+    let done = ended(ports, reel, plan, name, start);
     let used = Files {
         map,
-        named: name.len() > 0,
+        named: !name.is_empty(),
         unset: done.unset,
     };
-    reports::run(done.reel, plan, used)
+    reports::run(ports, done.reel, plan, used)
 }
 
 // Does a job whose output is open, in the file of this name, if it is not empty. Answers the status. The map is begun
 // behind the last call that may fail and is not told. A caller chooses between this and `written_small`: the pages of
 // a function's areas are all touched when it is entered, and behind one choice both would come to be of one function.
-fn written(reel: Reel, plan: Plan, name: &[u8]) -> u64
+fn written(ports: &mut Ports, reel: Reel, plan: Plan, name: &str) -> u64
     requires { Usable plan × Underway plan reel × (plan.small ≡ false) }
 {
-    let start = outputs::place();
-    if !begun(reel, plan) {
-        return files::failed_output(name.len() > 0);
+    let rt = ports.rt;
+    let start = outputs::place(&rt, ports.output.get_mut());
+    if !begun(ports, reel, plan) {
+        return files::failed_output(ports, !name.is_empty());
     }
-    let whole = lending::skim(maps::begin(reel), plan);
-    told(whole, plan, name, start, reel.map)
+    let ready = maps::begin(reel, ports);
+    let whole = lending::skim(ready, plan, ports);
+    told(ports, whole, plan, name, start, reel.map)
 }
 
 // The same of a small job.
-fn written_small(reel: Reel, plan: Plan, name: &[u8]) -> u64
+fn written_small(ports: &mut Ports, reel: Reel, plan: Plan, name: &str) -> u64
     requires { Usable plan × Underway plan reel × (plan.small ≡ true) }
 {
-    let start = outputs::place();
-    if !begun(reel, plan) {
-        return files::failed_output(name.len() > 0);
+    let rt = ports.rt;
+    let start = outputs::place(&rt, ports.output.get_mut());
+    if !begun(ports, reel, plan) {
+        return files::failed_output(ports, !name.is_empty());
     }
-    let whole = lending_small::skim_small(maps::begin(reel), plan);
-    told(whole, plan, name, start, reel.map)
+    let ready = maps::begin(reel, ports);
+    let whole = lending_small::skim_small(ready, plan, ports);
+    told(ports, whole, plan, name, start, reel.map)
 }
 
 // Does a job in the file of this name. Answers the status. A file that was not kept is removed.
-fn named(reel: Reel, plan: Plan, name: &[u8]) -> u64
+fn named(ports: &mut Ports, reel: Reel, plan: Plan, name: &str) -> u64
     requires { Usable plan × Underway plan reel }
 {
-    match names::open(name) {
-        Made::Done => {
+    let rt = ports.rt;
+    match names::open(&rt, number(&rt), name) {
+        Made::Done(file) => {
+            ports.output = Kept::new(Outgoing::Named(file));
             let status = if plan.small {
-                written_small(reel, plan, name)
+                written_small(ports, reel, plan, name)
             } else {
-                written(reel, plan, name)
+                written(ports, reel, plan, name)
             };
-            names::discard(name);
+            names::discard(&rt, number(&rt), name);
             status
         }
-        Made::Failed => files::failed_name(name),
-        Made::Special => files::special_file(),
+        Made::Failed(error) => files::failed_name(&rt, name, &error),
+        Made::Special => files::special_file(&rt),
     }
 }
 
-// Does a job, with its output's name at this place, if it is not 0. Answers the status.
-pub fn run(reel: Reel, plan: Plan, place: usize) -> u64
+// Does a job, in the file of this name if there is one; an empty name is none that is taken. Answers the status.
+pub fn run(ports: &mut Ports, reel: Reel, plan: Plan, output: Option<&str>) -> u64
     requires { Usable plan × Underway plan reel }
 {
-    if place == 0 {
-        if plan.small {
-            return written_small(reel, plan, b"");
+    match output {
+        None => {
+            if plan.small {
+                return written_small(ports, reel, plan, "");
+            }
+            written(ports, reel, plan, "")
         }
-        return written(reel, plan, b"");
+        Some(name) => {
+            if name.is_empty() {
+                return files::no_name(&ports.rt);
+            }
+            named(ports, reel, plan, name)
+        }
     }
-    let mut name = io::buffer();
-    let n = os::arg(place, &mut name);
-    if n == 0 {
-        return files::no_name();
-    }
-    named(reel, plan, &name[..n])
 }
