@@ -1,6 +1,7 @@
 // A run, and its output: the head of a WAVE file before it and the sizes at its end, and a named file, which gets its
 // name if the track is whole.
 #![tactic(auto)]
+
 pub mod files;
 
 ghost use Rattle.std.specs.Prelude.{◌≡◌, true, false};
@@ -95,14 +96,7 @@ fn begun(ports: &mut Ports, reel: Reel, plan: Plan) -> bool
 }
 
 // Ends the track of a run, and tells of it. Answers the status.
-fn told(
-    ports: &mut Ports,
-    reel: Reel,
-    plan: Plan,
-    name: &str,
-    start: Option<u64>,
-    map: u32,
-) -> u64
+fn told(ports: &mut Ports, reel: Reel, plan: Plan, name: &str, start: Option<u64>, map: u32) -> u64
     requires { InLimits plan.rate plan.channels }
 {
     let done = ended(ports, reel, plan, name, start);
