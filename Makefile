@@ -11,8 +11,8 @@ LINK_STREAM := -L target/staticlib -l static=sonic_c
 ORIGINAL ?= ../shared/docs/src/src/lib.rs
 AT_HAND := $(wildcard $(ORIGINAL))
 
-# A command of rt, $(1): the lines of rt itself, and where it fails all that it wrote. $(2) keeps that.
-told = set -o pipefail; { $(1); } 2>&1 | tee $(2) | sed -un '/^rt: /p' || { cat $(2); exit 1; }
+# A command of rt, $(1): the lines of rt itself (but what it begins with), and where it fails all that it wrote. $(2) keeps that.
+told = set -o pipefail; { $(1); } 2>&1 | tee $(2) | sed -un '/ begins with /d; /^rt: /p' || { cat $(2); exit 1; }
 
 # The same in the folder of the crate $(1).
 told_in = $(call told,(cd crates/$(1) && $(2)),target/$(1).log)
