@@ -80,10 +80,11 @@ pub fn turns(
     reel
 }
 
-// A run whose input has not ended has failed to read it.
+// A run whose input has not ended has failed to read it. Another is as it was.
 fn closed(reel: Reel, plan: Plan) -> Reel
     requires { Underway plan reel }
-    ensures { Underway plan result × (takes_more plan result ≡ true → result.ended ≡ true) }
+    ensures { Underway plan result × (takes_more plan result ≡ true → result.ended ≡ true)
+        × (reel.ended ≡ true → result ≡ reel) }
 {
     if !reel.ended {
         return reel.stopped(RunState::ReadFailed);
