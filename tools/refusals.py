@@ -67,7 +67,11 @@ def place_of(crate, refusal):
         return f"`{found['goal']}` of {os.path.basename(folder)}" if is_answer else f"`{found['goal']}` in {file}"
     if found := GOAL.match(refusal):
         with open(os.path.join("crates", crate, found["path"]), encoding="utf-8") as text:
-            above = [FUNCTION.match(line) for line in text.readlines()[: int(found["line"])]]
+            lines, end = text.readlines(), int(found["line"])
+        # the line may be that of an attribute
+        while lines[end - 1].startswith("#["):
+            end += 1
+        above = [FUNCTION.match(line) for line in lines[:end]]
         return f"`{found['goal']}` of {[name[1] for name in above if name][-1]}"
     return f"a place that has no name ({refusal})"
 
