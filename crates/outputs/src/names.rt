@@ -1,6 +1,6 @@
 // A file that is named: it is written beside its name, and gets it when it is whole. `process` is the number of this
 // process.
-ghost use Rattle.std.specs.Prelude.{◌≤◌, length};
+ghost use Rattle.std.specs.Prelude.{◌≤◌, length, IfOk};
 
 use std::fs::{OpenFile, OpenOptions};
 use std::io::{Error, ErrorKind, Result};
@@ -78,7 +78,9 @@ fn free(files: &impl Files, name: &str) -> Result<bool> {
 }
 
 // The name that is used meanwhile.
-fn part_of<'a>(name: &str, process: u32, part: &'a mut [u8]) -> Result<&'a str> {
+fn part_of<'a>(name: &str, process: u32, part: &'a mut [u8]) -> Result<&'a str>
+    ensures { IfOk result (λ text. length text.now ≤ length part.old) }
+{
     let end = append(part, 0, name.as_bytes());
     let n = append_part(part, end, process);
     if n == part.len() {
