@@ -1,12 +1,11 @@
 -- `jobs::arguments::checked` meets its contract. Assumes nothing.
-use Rattle.std.proofs.Common.{◌≡◌, ℕ, ◌≤◌, false, cond, sym, ◌∙◌, lt-ltb, le-ltb}
+use Rattle.std.proofs.Common.{◌≡◌, ℕ, ◌≤◌, false, cond, sym, ◌∙◌, ⊎_elim, arith, lt-ltb, le-ltb}
 use Rattle.floats.specs.Settings.{min_speed, max_speed, min_pitch, max_pitch, min_volume, max_volume}
 use Rattle.stream.specs.Refusals.{rate_bad, channels_bad, within}
 use Rattle.jobs.specs.declared.Job.{Job}
 use Rattle.jobs.specs.declared.Asked.{Asked}
 use Rattle.jobs.specs.Arguments.{asked_of}
 use Rattle.jobs.proofs.arguments.checked.Goals as goal
-use Rattle.jobs.proofs.arguments.checked.Goals.{then-job-lt-MIN_RATE-via-then-job-lt-MIN_RATE, then-job-lt-MIN_RATE-via-else-job-lt-MIN_RATE+then-job-gt-MAX_RATE, then-job-lt-MIN_CHANNELS-via-then-job-lt-MIN_CHANNELS, then-job-lt-MIN_CHANNELS-via-else-job-lt-MIN_CHANNELS+then-job-gt-MAX_CHANNELS}
 
 rate_good : (n : ℕ) → 1000 ≤ n → n ≤ 500000 → rate_bad n ≡ false
 unfolding rate_bad
@@ -29,42 +28,36 @@ by-settings j rate channels = simp (rate, channels)
 pub returns-then-job-lt-MIN_RATE : goal.returns-then-job-lt-MIN_RATE
 unfolding asked_of rate_bad
 returns-then-job-lt-MIN_RATE c =
-    elim c.then-job-lt-MIN_RATE.branch [
-      | then-job-lt-MIN_RATE-via-then-job-lt-MIN_RATE w ↦ simp (lt-ltb _ _ w.if-job-lt-MIN_RATE.true)
-      | then-job-lt-MIN_RATE-via-else-job-lt-MIN_RATE+then-job-gt-MAX_RATE w ↦
-          simp (le-ltb _ _ w.if-job-lt-MIN_RATE.false, lt-ltb _ _ w.if-job-gt-MAX_RATE.true)
-    ]
+    let n = c.args.job.rate in
+    ⊎_elim (λ w. simp (lt-ltb n 1000 w)) (λ w. simp (le-ltb n 1000 w.0, lt-ltb 500000 n w.1)) c.then-job-lt-MIN_RATE.either
 
 pub returns-then-job-lt-MIN_CHANNELS : goal.returns-then-job-lt-MIN_CHANNELS
 unfolding asked_of channels_bad
 returns-then-job-lt-MIN_CHANNELS c =
-    let rate = rate_good c.args.job.rate c.if-job-lt-MIN_RATE.false c.if-job-gt-MAX_RATE.false in
-    elim c.then-job-lt-MIN_CHANNELS.branch [
-      | then-job-lt-MIN_CHANNELS-via-then-job-lt-MIN_CHANNELS w ↦ simp (rate, lt-ltb _ _ w.if-job-lt-MIN_CHANNELS.true)
-      | then-job-lt-MIN_CHANNELS-via-else-job-lt-MIN_CHANNELS+then-job-gt-MAX_CHANNELS w ↦
-          simp (rate, le-ltb _ _ w.if-job-lt-MIN_CHANNELS.false, lt-ltb _ _ w.if-job-gt-MAX_CHANNELS.true)
-    ]
+    let n = c.args.job.channels in
+    let rate = rate_good c.args.job.rate (omega arith) (omega arith) in
+    ⊎_elim (λ w. simp (rate, lt-ltb n 1 w)) (λ w. simp (rate, le-ltb n 1 w.0, lt-ltb 32 n w.1)) c.then-job-lt-MIN_CHANNELS.either
 
 pub returns-then-not-is_within : goal.returns-then-not-is_within
 returns-then-not-is_within c =
     let j = c.args.job in
-    let rate = rate_good j.rate c.if-job-lt-MIN_RATE.false c.if-job-gt-MAX_RATE.false in
-    let channels = channels_good j.channels c.if-job-lt-MIN_CHANNELS.false c.if-job-gt-MAX_CHANNELS.false in
+    let rate = rate_good j.rate (omega arith) (omega arith) in
+    let channels = channels_good j.channels (omega arith) (omega arith) in
     simp (by-settings j rate channels, sym c.is_within.ensures ∙ c.if-not-is_within.true)
 
 pub returns-then-not-is_within-2 : goal.returns-then-not-is_within-2
 returns-then-not-is_within-2 c =
     let j = c.args.job in
-    let rate = rate_good j.rate c.if-job-lt-MIN_RATE.false c.if-job-gt-MAX_RATE.false in
-    let channels = channels_good j.channels c.if-job-lt-MIN_CHANNELS.false c.if-job-gt-MAX_CHANNELS.false in
+    let rate = rate_good j.rate (omega arith) (omega arith) in
+    let channels = channels_good j.channels (omega arith) (omega arith) in
     let speed = sym c.is_within.ensures ∙ c.if-not-is_within.false in
     simp (by-settings j rate channels, speed, sym c.is_within-2.ensures ∙ c.if-not-is_within-2.true)
 
 pub returns-then-not-is_within-3 : goal.returns-then-not-is_within-3
 returns-then-not-is_within-3 c =
     let j = c.args.job in
-    let rate = rate_good j.rate c.if-job-lt-MIN_RATE.false c.if-job-gt-MAX_RATE.false in
-    let channels = channels_good j.channels c.if-job-lt-MIN_CHANNELS.false c.if-job-gt-MAX_CHANNELS.false in
+    let rate = rate_good j.rate (omega arith) (omega arith) in
+    let channels = channels_good j.channels (omega arith) (omega arith) in
     let speed = sym c.is_within.ensures ∙ c.if-not-is_within.false in
     let pitch = sym c.is_within-2.ensures ∙ c.if-not-is_within-2.false in
     simp (by-settings j rate channels, speed, pitch, sym c.is_within-3.ensures ∙ c.if-not-is_within-3.true)
@@ -72,8 +65,8 @@ returns-then-not-is_within-3 c =
 pub returns : goal.returns
 returns c =
     let j = c.args.job in
-    let rate = rate_good j.rate c.if-job-lt-MIN_RATE.false c.if-job-gt-MAX_RATE.false in
-    let channels = channels_good j.channels c.if-job-lt-MIN_CHANNELS.false c.if-job-gt-MAX_CHANNELS.false in
+    let rate = rate_good j.rate (omega arith) (omega arith) in
+    let channels = channels_good j.channels (omega arith) (omega arith) in
     let speed = sym c.is_within.ensures ∙ c.if-not-is_within.false in
     let pitch = sym c.is_within-2.ensures ∙ c.if-not-is_within-2.false in
     simp (by-settings j rate channels, speed, pitch, sym c.is_within-3.ensures ∙ c.if-not-is_within-3.false)
