@@ -1,11 +1,11 @@
 // skim: changes speed, pitch and volume of 16-bit little-endian PCM or of a WAVE file, from standard input to standard
 // output, or from one named file to another. A thin program: `jobs` reads what is asked for, `heads` what the input is,
-// `plans` finds the room for it, `running` does it in the areas of `lending`, and `tracks` sees to the output, with what
-// `ports` hands them. `progress` tells how far the run is, `reports` what became of the frames, `usage` of the
+// `plans` finds the room for it, `running` does it in the areas of `lending`, and `tracks` sees to the output, with
+// what `ports` hands them. `progress` tells how far the run is, `reports` what became of the frames, `usage` of the
 // arguments, all by `say`.
 //
-// It ends with the status in which the last line on standard error ends. With `--status` that is written to descriptor 3
-// too, from which tools/skim.sh takes it.
+// It ends with the status in which the last line on standard error ends. With `--status` that is written to
+// descriptor 3 too, from which tools/skim.sh takes it.
 #![tactic(auto)]
 
 ghost use Rattle.std.specs.Prelude.{ℕ};
