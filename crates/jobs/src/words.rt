@@ -44,14 +44,14 @@ pub(crate) fn count(env: &impl Env) -> usize {
 pub const NAME: usize = 4096;
 
 // The system's number of a name that is too long.
-const TOO_LONG: i32 = 36;
+const NAME_TOO_LONG: i32 = 36;
 
 // An argument that is the name of a file: empty if there is none. A name is text.
 pub fn name<'a>(env: &impl Env, place: usize, text: &'a mut [u8]) -> Result<&'a str> {
     let n = match env.arg(place, text) {
         Ok(n) => n,
         Err(FillError::NotPresent) => 0,
-        Err(FillError::TooLong) => return Err(Error::from_raw_os_error(TOO_LONG)),
+        Err(FillError::TooLong) => return Err(Error::from_raw_os_error(NAME_TOO_LONG)),
     };
     match str::from_utf8(&text[..n]) {
         Ok(name) => Ok(name),

@@ -22,8 +22,8 @@ const UNKNOWN: u32 = 0x7fff_f000;
 // What stands for the bytes of a track that is longer than a WAVE file can tell.
 const TOO_LONG: u32 = 0xffff_ffff;
 
-// What became of the sizes: they are set; they are not, for what the system says, as that standard output cannot be
-// sought; or the track is longer than they can tell.
+// What became of the sizes: they are set; they are not, for what the system says, `NotSeekable` of a pipe and of a file
+// that appends; or the track is longer than they can tell.
 #[derive(Clone, Copy)]
 pub enum Sizes {
     Set,
@@ -43,23 +43,30 @@ fn track_bytes(frames: u64, plan: Plan) -> u32
     (frames * frame) as u32
 }
 
+// What is said of a file that cannot be sought.
+fn unsought() -> Error {
+    Error::from(ErrorKind::NotSeekable)
+}
+
 // Where standard output stands, if it is of a kind that can be sought, and does not append.
-fn standard_place(files: &impl Files, stdout: &Stdout) -> Option<u64> {
-    let kind = fs::metadata(files, standing::OUTPUT).ok()?.file_type();
+fn standard_place(files: &impl Files, stdout: &Stdout) -> io::Result<u64> {
+    let kind = fs::metadata(files, standing::OUTPUT)?.file_type();
     let is_device = kind.is_char_device() && !stdout.is_terminal();
     if !kind.is_file() && !is_device {
-        return None;
+        return Err(unsought());
     }
-    let place = standing::of_output(files)?;
-    if place.appends { None } else { Some(place.at) }
+    match standing::of_output(files) {
+        Some(place) if !place.appends => Ok(place.at),
+        _ => Err(unsought()),
+    }
 }
 
 // Where the output stands, if it can be sought.
-pub fn place(files: &impl Files, output: &mut Outgoing) -> Option<u64> {
+pub fn place(files: &impl Files, output: &mut Outgoing) -> io::Result<u64> {
     match output {
         Outgoing::Standard(stdout) => standard_place(files, stdout),
-        Outgoing::Named(file) => file.seek(SeekFrom::Current(0)).ok(),
-        Outgoing::Closed => None,
+        Outgoing::Named(file) => file.seek(SeekFrom::Current(0)),
+        Outgoing::Closed => Err(unsought()),
     }
 }
 
@@ -83,11 +90,6 @@ fn put_at<F: Write + Seek>(file: &mut F, head: &[u8], place: u64) -> io::Result<
     file.write_all(head)
 }
 
-// What stands for a file that cannot be sought.
-fn unsought() -> Sizes {
-    Sizes::Unset(Error::from(ErrorKind::NotSeekable))
-}
-
 // Sets the sizes in a head that was written at this place of a file. What is written to a file that appends goes to its
 // end: that is taken away again.
 fn set_sizes<F: Write + Seek + OpenFile>(file: &mut F, head: &[u8], place: u64) -> Sizes {
@@ -97,7 +99,7 @@ fn set_sizes<F: Write + Seek + OpenFile>(file: &mut F, head: &[u8], place: u64) 
     }
     if length(file) != end {
         let _ = file.set_len(end);
-        return unsought();
+        return Sizes::Unset(unsought());
     }
     Sizes::Set
 }
@@ -115,7 +117,7 @@ pub fn end(
     files: &impl Files,
     output: &mut Outgoing,
     frames: u64,
-    place: Option<u64>,
+    place: io::Result<u64>,
     plan: Plan,
 ) -> Sizes
     requires { InLimits plan.rate plan.channels }
@@ -124,14 +126,15 @@ pub fn end(
     if size > chunks::MOST_BYTES {
         return Sizes::TooLong;
     }
-    let Some(at) = place else {
-        return unsought();
+    let at = match place {
+        Ok(at) => at,
+        Err(e) => return Sizes::Unset(e),
     };
     let mut head = [0u8; chunks::HEAD_BYTES];
     chunks::put_head(&mut head, plan.rate as u32, plan.channels as u32, size);
     match output {
         Outgoing::Standard(_) => set_standard_sizes(files, &head, at),
         Outgoing::Named(file) => set_sizes(file, &head, at),
-        Outgoing::Closed => unsought(),
+        Outgoing::Closed => Sizes::Unset(unsought()),
     }
 }

@@ -19,7 +19,7 @@ pub enum Made<F> {
 const NAME: usize = 4096;
 
 // The system's number of a name that is too long.
-const TOO_LONG: i32 = 36;
+const NAME_TOO_LONG: i32 = 36;
 
 // Puts a text behind the first `end` bytes of a name, and answers where that ends: where the buffer does, if the text
 // does not fit, and so long a name is refused.
@@ -84,7 +84,7 @@ fn part_of<'a>(name: &str, process: u32, part: &'a mut [u8]) -> Result<&'a str>
     let end = append(part, 0, name.as_bytes());
     let n = append_part(part, end, process);
     if n == part.len() {
-        return Err(Error::from_raw_os_error(TOO_LONG));
+        return Err(Error::from_raw_os_error(NAME_TOO_LONG));
     }
     match str::from_utf8(&part[..n]) {
         Ok(text) => Ok(text),
@@ -97,11 +97,17 @@ fn part_of<'a>(name: &str, process: u32, part: &'a mut [u8]) -> Result<&'a str>
 fn create<R: Files>(files: &R, process: u32, name: &str) -> Result<R::File> {
     let mut part = [0u8; NAME];
     let text = part_of(name, process, &mut part)?;
-    OpenOptions::new()
+    let made = OpenOptions::new()
         .write(true)
         .create_new(true)
-        .open(files, text)?
-        .try_clone()
+        .open(files, text)?;
+    match made.try_clone() {
+        Ok(file) => Ok(file),
+        Err(e) => {
+            let _ = fs::remove_file(files, text);
+            Err(e)
+        }
+    }
 }
 
 // Makes the file of this name.

@@ -1,5 +1,5 @@
 // What a run of the skim tool reads from, writes to and tells by. `kept` has readers and writers that keep the last
-// error they met, and `standing` tells where a standard stream stands in its file.
+// error they met, and `standing` tells where a stream stands in its file.
 #![tactic(auto)]
 
 pub mod kept;

@@ -1,5 +1,5 @@
-// Where a standard stream stands in its file, which std does not say: /proc/self/fdinfo tells it, in a text that begins
-// with a line of the position, in decimal, and a line of flags, in octal.
+// Where a stream stands in its file, and how that was opened, which std does not say: /proc/self/fdinfo tells it, in a
+// text that begins with a line of the position, in decimal, and a line of flags, in octal.
 use std::io::Read;
 use std::rt::Files;
 use std::{fs, str};
@@ -7,12 +7,16 @@ use std::{fs, str};
 // The bytes that are looked at.
 const LOOKED_AT: usize = 128;
 
+// The flags below this tell the access: 0 to read, 1 to write, 2 both.
+const ACCESS: u64 = 4;
+
 // The flag of a file that appends.
 const APPENDS: u64 = 0o2000;
 
 #[derive(Clone, Copy)]
 pub struct Place {
     pub at: u64,
+    pub writes: bool,
     pub appends: bool,
 }
 
@@ -34,16 +38,20 @@ fn told_in(files: &impl Files, path: &str) -> Option<Place> {
     let text = str::from_utf8(&bytes[..n]).ok()?;
     let at = behind(text, "pos:")?.parse::<u64>().ok()?;
     let flags = u64::from_str_radix(behind(text, "flags:")?, 8).ok()?;
+    let access = flags % ACCESS;
     Some(Place {
         at,
+        writes: access == 1 || access == 2,
         appends: flags / APPENDS % 2 == 1,
     })
 }
 
-// The name of standard input, or of standard output, which opens its file anew.
+// The name of standard input, of standard output, or of the descriptor of the status, which opens its file anew.
 pub const INPUT: &str = "/proc/self/fd/0";
 
 pub const OUTPUT: &str = "/proc/self/fd/1";
+
+pub const STATUS: &str = "/proc/self/fd/3";
 
 // Where standard input stands, if that is known.
 pub fn of_input(files: &impl Files) -> Option<Place> {
@@ -53,4 +61,9 @@ pub fn of_input(files: &impl Files) -> Option<Place> {
 // Where standard output stands, if that is known.
 pub fn of_output(files: &impl Files) -> Option<Place> {
     told_in(files, "/proc/self/fdinfo/1")
+}
+
+// Where the descriptor of the status stands, if that is known.
+pub fn of_status(files: &impl Files) -> Option<Place> {
+    told_in(files, "/proc/self/fdinfo/3")
 }

@@ -162,12 +162,12 @@ fn say_end(rt: &impl Eprint, reel: Reel, plan: Plan)
 }
 
 // The files of a run: the descriptor of the map that was wanted, whether input and output are files that were named,
-// and whether the output is a WAVE file whose sizes could not be set.
+// and why the sizes of a WAVE file on standard output could not be set, if they could not.
 #[derive(Clone, Copy)]
 pub struct Files {
     pub map: u32,
     pub named: bool,
-    pub unset: bool,
+    pub unset: Option<Error>,
 }
 
 // Tells what failed on a standard stream, or on the file that takes its place.
@@ -200,8 +200,8 @@ pub fn run(ports: &Ports, reel: Reel, plan: Plan, files: Files) -> u64
     if summary::is_cut(reel) {
         waves::say_cut(rt, reel.source.size, reel.source.left);
     }
-    if files.unset {
-        waves::say_unset(rt);
+    if let Some(error) = files.unset {
+        waves::say_unset(rt, &error);
     }
     say_partial(rt, reel.partial as u64);
     stalls::say_stalls(rt, reel, plan);

@@ -1,6 +1,7 @@
 // What is told of WAVE files.
-use crate::{number, refused, text};
+use crate::{failure, number, refused, text};
 use chunks::Format;
+use std::io::{Error, ErrorKind};
 use stream::refusals;
 
 // The least size that programs write to a pipe, since they cannot know the right one: 0x7ffff000 by sox, 2^32 − 1 by
@@ -110,10 +111,17 @@ pub fn say_too_long(rt: &impl Eprint) {
     );
 }
 
-// A head whose sizes were not set.
-pub fn say_unset(rt: &impl Eprint) {
-    text(
-        rt,
-        "skim: standard output cannot be sought: the sizes in the WAVE head are those of a pipe, not the track's\n",
-    );
+// A head on standard output whose sizes were not set, and why: it cannot be sought, or what the system says.
+pub fn say_unset(rt: &impl Eprint, error: &Error) {
+    match error.kind() {
+        ErrorKind::NotSeekable => text(
+            rt,
+            "skim: standard output cannot be sought: the sizes in the WAVE head are those of a pipe, not the track's\n",
+        ),
+        _ => failure(
+            rt,
+            "skim: the sizes in the WAVE head are those of a pipe, not the track's: standard output as /proc/self/fd/1",
+            error,
+        ),
+    }
 }

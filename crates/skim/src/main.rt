@@ -18,11 +18,11 @@ use inputs::Source;
 use jobs::{Asked, Job};
 use plans::{Plan, Service};
 use ports::kept::Kept;
-use ports::{Incoming, Outgoing, Ports};
+use ports::{Incoming, Outgoing, Ports, standing};
 use reels::reel::Reel;
 use say::waves;
 use std::fs::{File, OpenOptions};
-use std::io::{IsTerminal, Write};
+use std::io::{IsTerminal, Seek, SeekFrom, Write};
 use std::os::fd::AsRawFd;
 use std::process::ExitCode;
 use std::rt::Files;
@@ -30,29 +30,31 @@ use std::{fs, io};
 use stream::{Opened, SonicStream};
 use tracks::files;
 
-// Where the status goes if it is asked for.
-const STATUS: &str = "/dev/fd/3";
-
 // The descriptor of standard error, the last of the standard streams.
 const STDERR_FILENO: i32 = 2;
 
 // What `open_map` answers of a map that is wanted and cannot be written.
 const BAD_MAP: u32 = 1;
 
-// Opens the file of the map, whose name is the argument at this place, to write it anew.
-fn create_map(rt: &HostRuntime, place: usize) -> io::Result<File> {
+// Opens the file of the map to write it anew. Where the input is named standard input may be closed: then the file is
+// opened once more, while its first descriptor stands at 0.
+fn create_map(rt: &HostRuntime, job: Job) -> io::Result<File> {
     let mut text = [0u8; jobs::NAME];
-    let name = jobs::name(rt, place, &mut text)?;
-    fs::create(rt, name)
+    let name = jobs::name(rt, job.map, &mut text)?;
+    let file = fs::create(rt, name)?;
+    if job.input > 0 && file.as_raw_fd() == 0 {
+        return fs::create(rt, name);
+    }
+    Ok(file)
 }
 
 // The descriptor of the map, `NO_MAP` if none is wanted, or `BAD_MAP`, and then it is told why. A descriptor of 0 to 2
 // would be that of a standard stream that was closed: what is told would go into the map.
-fn open_map(ports: &mut Ports, place: usize) -> u32 {
-    if place == 0 {
+fn open_map(ports: &mut Ports, job: Job) -> u32 {
+    if job.map == 0 {
         return Reel::NO_MAP;
     }
-    match create_map(&ports.rt, place) {
+    match create_map(&ports.rt, job) {
         Ok(file) => {
             let fd = file.as_raw_fd();
             if fd <= STDERR_FILENO {
@@ -70,7 +72,8 @@ fn open_map(ports: &mut Ports, place: usize) -> u32 {
     }
 }
 
-// Does a job in a stream that has its settings, with the map, and tells of it. Answers the status.
+// Does a job in a stream that has its settings, with the map, and tells of it. Answers the status. A name that
+// is too long is taken for none.
 fn written(ports: &mut Ports, job: Job, reel: Reel, plan: Plan) -> u64
     requires { Usable plan × Underway plan reel }
 {
@@ -80,6 +83,9 @@ fn written(ports: &mut Ports, job: Job, reel: Reel, plan: Plan) -> u64
     let mut text = [0u8; jobs::NAME];
     match jobs::name(&ports.rt, job.output, &mut text) {
         Ok(name) => tracks::run(ports, reel, plan, Some(name)),
+        Err(error) if error.raw_os_error().is_none() => {
+            files::failed_name(&ports.rt, "OUT.wav", &error)
+        }
         Err(_) => tracks::run(ports, reel, plan, Some("")),
     }
 }
@@ -88,7 +94,7 @@ fn written(ports: &mut Ports, job: Job, reel: Reel, plan: Plan) -> u64
 fn mapped(ports: &mut Ports, job: Job, stream: SonicStream, source: Source, plan: Plan) -> u64
     requires { Usable plan × ((map : ℕ) → Underway plan (fresh_reel stream source map)) }
 {
-    let map = open_map(ports, job.map);
+    let map = open_map(ports, job);
     if map == BAD_MAP {
         return files::bad_usage(&ports.rt);
     }
@@ -197,9 +203,18 @@ fn answer(rt: &HostRuntime, asked: Asked) -> u64 {
     }
 }
 
-// Writes the status to its descriptor.
+// Writes the status to its descriptor, if that may be written: where it stands, or at the end if it appends.
 fn tell_status(files: &impl Files, status: u64) {
-    if let Ok(mut file) = OpenOptions::new().write(true).open(files, STATUS) {
+    let Some(place) = standing::of_status(files) else {
+        return;
+    };
+    if !place.writes {
+        return;
+    }
+    let mut options = OpenOptions::new();
+    options.write(true).append(place.appends);
+    if let Ok(mut file) = options.open(files, standing::STATUS) {
+        let _ = file.seek(SeekFrom::Start(place.at));
         let _ = write!(file, "{status}");
     }
 }

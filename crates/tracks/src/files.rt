@@ -8,7 +8,7 @@ pub fn bad_usage(rt: &impl Eprint) -> u64 {
     2
 }
 
-// A name that is empty or too long, or no text. Answers the status.
+// A name that is empty or too long. Answers the status.
 pub(crate) fn no_name(rt: &impl Eprint) -> u64 {
     say::text(rt, "skim: OUT.wav needs a name of 1 to 4095 bytes\n");
     bad_usage(rt)

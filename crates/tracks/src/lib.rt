@@ -17,14 +17,15 @@ use ports::{Outgoing, Ports};
 use reels::reel::Reel;
 use reels::state::RunState;
 use reports::Files;
+use std::io::Error;
 use std::{io, process};
 use stream::refusals;
 
-// A run with its track ended, and whether the sizes of that could not be set.
+// A run with its track ended, and why the sizes of that could not be set, if they could not.
 #[derive(Clone, Copy)]
 struct Ending {
     reel: Reel,
-    unset: bool,
+    unset: Option<Error>,
 }
 
 // The number of this process.
@@ -56,31 +57,34 @@ fn kept(ports: &mut Ports, reel: Reel, name: &str) -> Reel {
 }
 
 // Ends a track whose head was written at `start`: sets its sizes, and gives a named file its name.
-fn ended(ports: &mut Ports, reel: Reel, plan: Plan, name: &str, start: Option<u64>) -> Ending
+fn ended(ports: &mut Ports, reel: Reel, plan: Plan, name: &str, start: io::Result<u64>) -> Ending
     requires { InLimits plan.rate plan.channels }
 {
     if !reel.source.wave || reel.has_failed() {
-        return Ending { reel, unset: false };
+        return Ending { reel, unset: None };
     }
     let rt = ports.rt;
     match outputs::end(&rt, ports.output.get_mut(), reel.frames_out, start, plan) {
         Sizes::Set => Ending {
             reel: kept(ports, reel, name),
-            unset: false,
+            unset: None,
         },
         Sizes::Unset(error) => {
             if name.is_empty() {
-                return Ending { reel, unset: true };
+                return Ending {
+                    reel,
+                    unset: Some(error),
+                };
             }
             ports.output.keep(error);
             Ending {
                 reel: reel.stopped(RunState::WriteFailed),
-                unset: false,
+                unset: None,
             }
         }
         Sizes::TooLong => Ending {
             reel: reel.stopped(RunState::Refused(refusals::BAD_SIZE)),
-            unset: false,
+            unset: None,
         },
     }
 }
@@ -96,7 +100,14 @@ fn begun(ports: &mut Ports, reel: Reel, plan: Plan) -> bool
 }
 
 // Ends the track of a run, and tells of it. Answers the status.
-fn told(ports: &mut Ports, reel: Reel, plan: Plan, name: &str, start: Option<u64>, map: u32) -> u64
+fn told(
+    ports: &mut Ports,
+    reel: Reel,
+    plan: Plan,
+    name: &str,
+    start: io::Result<u64>,
+    map: u32,
+) -> u64
     requires { InLimits plan.rate plan.channels }
 {
     let done = ended(ports, reel, plan, name, start);
