@@ -140,6 +140,7 @@ def main():
         sys.exit(__doc__)
     signal.signal(signal.SIGTERM, lambda *_: sys.exit("refusals: stopped"))
     edits = [edit for name in names if name in (chosen or names) for edit in edits_of(name, flags)]
+    print(f"refusals: {len(edits)} edits are tried, and then told", flush=True)
     told = try_all(names, edits) if edits else {}
     refused, failed = {PROGRAM: 0, DEFINITION: 0}, []
     for edit in edits:
