@@ -45,7 +45,7 @@ def cited_headings():
     """Each heading that a file cites, with the file. A citation may name two: "A" and "B"."""
     for folder in ["crates", "tests", "tools", "docs", "include", "bindings/rust/src"]:
         for path in sorted((ROOT / folder).rglob("*")):
-            if path.suffix in SOURCES and path.name != "rules.py" and "target" not in path.parts:
+            if path.suffix in SOURCES and path.name != "rules.py" and not {"target", "out"} & set(path.parts):
                 text = re.sub(r"\s*\n\s*(--|//!?|///|\*)? ?", " ", path.read_text())
                 for cited in re.findall(r'docs/RULES\.md, ("[^"]+"(?:(?:,| and) "[^"]+")*)', text):
                     for heading in re.findall(r'"([^"]+)"', cited):
