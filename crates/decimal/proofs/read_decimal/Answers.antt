@@ -4,12 +4,6 @@ use Rattle.decimal.specs.Decimal.{places_from}
 use Rattle.decimal.proofs.Reading.{find-point, behind-point, decimal-whole, decimal-behind, decimal-refused}
 use Rattle.decimal.proofs.read_decimal.Goals as goal
 
-pub slice_bounds-read_whole-end : goal.slice_bounds-read_whole-end
-slice_bounds-read_whole-end c =
-    let l = c.args.text.now in
-    let first = find-point l c.unwrap_or-point.result c.find.result c.find.ensures c.unwrap_or-point.ensures in
-    simp length-take (omega (arith, first.1))
-
 pub returns-then-point-text : goal.returns-then-point-text
 returns-then-point-text c =
     let l = c.args.text.now in
@@ -34,3 +28,9 @@ returns-else-point-text c =
     let rest : c.read_places.result ≡ places_from n (take (length l - (p + 1)) (drop (p + 1) l)) = c.read_places.ensures in
     rest ∙ ap (places_from n) (behind-point l p)
     ∙ sym (decimal-behind l p first.0 n inside (sym c.read_whole.ensures ∙ c.in-Number.is))
+
+pub slice_bounds-read_whole-end : goal.slice_bounds-read_whole-end
+slice_bounds-read_whole-end c =
+    let l = c.args.text.now in
+    let first = find-point l c.unwrap_or-point.result c.find.result c.find.ensures c.unwrap_or-point.ensures in
+    simp length-take (omega (arith, first.1))

@@ -3,6 +3,7 @@ use borrow.Author.Tests.{lt-ltb, le-ltb}
 use mathlib.Core.Bool.{true, false, ◌||◌}
 use mathlib.Core.List.{List}
 use mathlib.Core.Path.{◌≡◌, sym, ap, ◌∙◌}
+use native.Mathlib.Omega.{arith}
 use Prim.Native.Nat.{ℕ, ◌+◌, ◌*◌, ◌/◌, ◌≤◌}
 use lib.Dec.{ltb}
 use lib.ListN.{length, take}
@@ -65,7 +66,7 @@ returns-then-count-gt-MAX_AREA c =
     elim c.then-count-gt-MAX_AREA.branch [
       | then-count-gt-MAX_AREA-via-then-count-gt-MAX_AREA w ↦ simp (lt-ltb _ _ w.if-count-gt-MAX_AREA.true)
       | then-count-gt-MAX_AREA-via-else-count-gt-MAX_AREA+then-dest-count w ↦
-          simp (le-ltb _ _ w.if-count-gt-MAX_AREA.false, lt-ltb _ _ w.if-dest-count.true)
+          simp (le-ltb _ _ w.if-count-gt-MAX_AREA.false, lt-ltb (length a.dest.now) (44 + 2 * count) (omega (arith, w.if-dest-count.true)))
     ] in
     let bad = size_is a.rate a.channels a.samples.now a.dest.now count is ∙ big in
     let e = sym (size-refused a.rate a.channels a.samples.now a.dest.now rate channels bad) in
