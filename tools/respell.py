@@ -18,7 +18,7 @@ WORD = r"[\w'-]"
 LETTERS = re.compile(r"^[A-Z](-|$)")
 # Names whose plain spelling a field or a lemma beside them has, or that begin with a word that is another now.
 OTHERWISE = {"inOrder": "is_in_order", "nearOf": "nearby_of", "getD-framesOf": "get_or-frames_of",
-             "getD-interpolateFrame": "get_or-interpolate_frame", "getD-tabulate": "get_or-tabulate"}
+             "getD-interpolateFrame": "get_or-interpolate_frame", "getD_tabulate": "get_or-tabulate"}
 PAGES = ["README.md", "docs/CLAIMS.md", "docs/CRATES.md", "docs/DECISIONS.md", "docs/DIFFERENCES.md", "docs/RULES.md", "docs/SKIMMING.md",
          "docs/VECTORS.md"]
 
