@@ -94,7 +94,7 @@ INSTALLED := bin/skim libexec/kelpladder/skim lib/libkelpladder.a include/kelpla
 
 install: program stream install-built
 
-# Puts what is built, and proves nothing: for another user than the one who builds.
+# Puts what is built, and proves nothing: for another user than the one who builds, by `make program stream`.
 install-built:
 	case "$(PREFIX)" in /*) ;; *) echo "install: PREFIX is $(PREFIX), and must begin with /"; exit 1; esac
 	install -D tools/skim.sh "$(PLACE)/bin/skim"
@@ -122,25 +122,28 @@ bench: target/bench/kernels target/bench/jobs program
 rust: stream
 	cd bindings/rust && KELPLADDER_ORIGINAL=$(abspath $(ORIGINAL)) cargo test --offline --quiet
 
-# `rt run` proves, builds and runs: here it asks for the version. With BUILT the tool is that of `rt ci`.
+# Built for every x86-64, where rt's own choice is x86-64-v2: a static library does not check the processor that it runs on.
+CPU := --cpu=x86-64
+
+# `rt run` proves, builds and runs: here it asks for the version. With BUILT the tool is that of `rt ci`, for x86-64-v2.
 program:
 	mkdir -p target/tests
 ifndef BUILT
 	echo "proving and building the skim tool; from nothing that takes some minutes"
-	$(call told_in,skim,rt run -- --version < /dev/null)
+	$(call told_in,skim,rt run $(CPU) -- --version < /dev/null)
 endif
 	install -D crates/skim/out/skim target/bin/skim
 
 kernels:
 	echo "proving and building the entry points to inner functions"
 	mkdir -p target/tests target/bench
-	$(call told_in,kernels_c,rt lib)
+	$(call told_in,kernels_c,rt lib $(CPU))
 	install -D -m 644 crates/kernels_c/out/libkernels_c.a target/staticlib/libkernels_c.a
 
 stream:
 	echo "proving and building the library for C"
 	mkdir -p target/tests target/bench
-	$(call told_in,kelpladder_c,rt lib)
+	$(call told_in,kelpladder_c,rt lib $(CPU))
 	install -D -m 644 crates/kelpladder_c/out/libkelpladder_c.a target/staticlib/libsonic_c.a
 
 target/tests/floats: tests/floats.rs kernels
