@@ -13,7 +13,7 @@ use crate::destination::{Destination, destination_of};
 use crate::{Fill, Filled, Outcome, Told, balance_of, removed};
 use frames::{Frames, Samples};
 use period::PeriodRecord;
-use stream::{Balance, SonicStream};
+use stream::{Balance, SonicStream, Ties};
 use stretch::{Stretch, StretchCall, Stretched};
 
 // What the steps of a stretch gave; a stall removes no input and counts no step.
@@ -120,7 +120,7 @@ pub(crate) fn stretch_input(
         input_play_time: stream.input_play_time,
         held,
         step_over: stream.step_over > 0,
-        ties: search::ties_of(stream.ties),
+        ties: Ties::from(stream.ties),
     };
     let count = held.samples(channels).0;
     let to = destination_of(stream, Samples(stage.len()), Samples(output.len()));

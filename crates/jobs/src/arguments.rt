@@ -9,7 +9,7 @@ use crate::words::{count, read_word};
 use crate::{Asked, Job};
 use decimal::{Digits, Value};
 use std::env::Env;
-use stream::SonicStream;
+use stream::{SonicStream, Ties};
 
 // The most bytes of an argument.
 const TEXT: usize = 32;
@@ -135,7 +135,7 @@ fn job(env: &impl Env, options: Options, numbers: Numbers) -> Job
             1.0
         },
         step_over: !options.as_original,
-        ties: stream::ties_of(options.longest_period as u32),
+        ties: Ties::from(options.longest_period as u32),
         map: options.map,
         input: numbers.names,
         output: if numbers.names > 0 { numbers.before } else { 0 },

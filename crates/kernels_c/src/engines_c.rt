@@ -63,7 +63,7 @@ pub extern "C" fn kernel_find_pitch_period_in_range(
         × (result.max_diff ≡ (find_pitch_period_in_range (ties_of ties) samples.now low high).max_diff)
         × (result.sum ≡ (find_pitch_period_in_range (ties_of ties) samples.now low high).sum) }
 {
-    let found = search::find_pitch_period_in_range(samples, low, high, search::ties_of(ties));
+    let found = search::find_pitch_period_in_range(samples, low, high, search::Ties::from(ties));
     Search {
         period: found.period,
         min_diff: found.min_diff,
@@ -84,7 +84,7 @@ pub extern "C" fn kernel_best_in_range(
     ensures { (result.period ≡ (best (ties_of ties) samples.now low high).period)
         × (result.sum ≡ (best (ties_of ties) samples.now low high).diff) }
 {
-    let found = search::best_in_range(samples, low, high, near, search::ties_of(ties));
+    let found = search::best_in_range(samples, low, high, near, search::Ties::from(ties));
     Best {
         period: found.period,
         sum: found.diff,

@@ -1,29 +1,48 @@
 // The search over a range of periods: D(q) of a period, and the period with the least D(q)/q. `specs/Search.antt` says
-// what each function gives; `choice` has the choice of ties as a number, `outward` the search for one candidate from a
-// period nearby outward.
+// what each function gives; `outward` has the search for one candidate from a period nearby outward.
 #![tactic(auto)]
 
-mod choice;
 mod outward;
 
 ghost use Rattle.std.specs.Prelude.{◌≡◌, ◌+◌, ◌*◌, ◌≤◌, nat_abs, ◌-ℤ◌, length};
-ghost use Rattle.search.specs.Ties.{ties_of};
+ghost use Rattle.search.specs.Ties.{ties_of, ties_number};
 ghost use Rattle.search.specs.Search.{diffs, candidate, lesser, greater, found_of, find_pitch_period_in_range};
 ghost use Rattle.search.specs.Search.{widest_gap, Searchable, Bounded};
 
-pub use choice::{ties_number, ties_of};
 pub use outward::{Wanted, best_in_range, candidate_in_range};
 
 // Of several periods with the same least mean difference, the one that a search finds.
-#[derive(Clone, Copy)]
+#[derive(Clone, Copy, Debug, PartialEq, Eq)]
 pub enum Ties {
-    Smallest,
-    Largest,
+    Smallest = 0,
+    Largest = 1,
+}
+
+// The choice that a number says, as streams and callers of C have it.
+impl From<u32> for Ties {
+    ghost from_gives = { λ number ties. ties ≡ ties_of number };
+
+    fn from(number: u32) -> Ties {
+        if number > 0 {
+            Ties::Largest
+        } else {
+            Ties::Smallest
+        }
+    }
+}
+
+// The number of a choice.
+impl From<Ties> for u32 {
+    ghost from_gives = { λ ties number. number ≡ ties_number ties };
+
+    fn from(ties: Ties) -> u32 {
+        ties as u32
+    }
 }
 
 // A search's answer: the period with the least mean difference, the whole parts of the least and the greatest mean, and
 // the sum of differences of the period.
-#[derive(Clone, Copy)]
+#[derive(Clone, Copy, Debug, PartialEq, Eq)]
 pub struct Found {
     pub period: usize,
     pub min_diff: usize,
@@ -32,14 +51,14 @@ pub struct Found {
 }
 
 // A period q and its D(q).
-#[derive(Clone, Copy)]
+#[derive(Clone, Copy, Debug, PartialEq, Eq)]
 pub struct Candidate {
     pub period: usize,
     pub diff: usize,
 }
 
 // Two candidates of neighbouring periods.
-#[derive(Clone, Copy)]
+#[derive(Clone, Copy, Debug, PartialEq, Eq)]
 pub struct Neighbours {
     pub this: Candidate,
     pub next: Candidate,
@@ -165,7 +184,7 @@ pub fn find_pitch_period_in_range(
     ensures { (result ≡ find_pitch_period_in_range ties samples.now min_period max_period)
         × (result.min_diff ≤ widest_gap) }
 {
-    let at_tie = ties_number(ties) as usize;
+    let at_tie = u32::from(ties) as usize;
     let first = candidate_at(samples, min_period);
     let mut best = first;
     let mut worst = first;

@@ -5,7 +5,6 @@ ghost use Rattle.search.specs.Ties.{ties_of};
 ghost use Rattle.search.specs.Search.{candidate, lesser, best, worst, Searchable, Bounded};
 ghost use Rattle.search.specs.Outward.{wanted_in};
 
-use crate::choice::ties_number;
 use crate::{Candidate, Ties, candidate_at, gaps_from, greater, lesser};
 
 // The differences that a sum takes before it is compared again.
@@ -13,7 +12,7 @@ const BLOCK: usize = 16;
 
 // What a search is to find: the least D(q)/q, of several by the choice of ties, looked for from a period nearby
 // outward; or the greatest.
-#[derive(Clone, Copy)]
+#[derive(Clone, Copy, Debug, PartialEq, Eq)]
 pub enum Wanted {
     Least(Ties, usize),
     Greatest,
@@ -72,7 +71,7 @@ pub fn best_in_range(samples: &[i16], low: usize, high: usize, near: usize, ties
     requires { Searchable (length samples.now) low high }
     ensures { (result ≡ best ties samples.now low high) × Bounded result }
 {
-    let at_tie = ties_number(ties) as usize;
+    let at_tie = u32::from(ties) as usize;
     let mut period = held(near, low, high);
     let mut best = upward(samples, at_tie, period, high);
     while low < period {

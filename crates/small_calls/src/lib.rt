@@ -8,7 +8,7 @@ pub use edits::with_field;
 use printing::{print_count, print_refused};
 use scripts::sums::{float, word};
 use scripts::text::Line;
-use stream::{Available, Changed, Opened, Setting, SonicStream};
+use stream::{Available, Changed, Opened, Setting, SonicStream, Ties};
 
 // The stream before the first opening: that of a refused one.
 pub fn unopened() -> SonicStream {
@@ -24,7 +24,7 @@ pub fn unopened() -> SonicStream {
 
 // Opens a stream. A refusal carries the number given.
 fn open(rt: &impl Print, rate: u32, channels: u32, ties: u32) -> SonicStream {
-    match SonicStream::with_ties(rate, channels, stream::ties_of(ties)) {
+    match SonicStream::with_ties(rate, channels, Ties::from(ties)) {
         Opened::Refused {
             number,
             given,

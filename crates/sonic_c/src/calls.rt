@@ -13,7 +13,7 @@ ghost use Rattle.sonic_c.specs.Answers.{opened_of, changed_of, available_of, Wro
 use crate::answers::{available_of, changed_of, gave_of, opened_of, wrote_of};
 use crate::{Available, Changed, Gave, Opened, Wrote};
 use frames::Frames;
-use stream::{Setting, SonicStream};
+use stream::{Setting, SonicStream, Ties};
 
 pub fn kelpladder_open(rate: u32, channels: u32) -> Opened
     ensures { result ≡ opened_of (open_call rate channels Smallest) }
@@ -24,7 +24,7 @@ pub fn kelpladder_open(rate: u32, channels: u32) -> Opened
 pub fn kelpladder_open_with_ties(rate: u32, channels: u32, ties: u32) -> Opened
     ensures { result ≡ opened_of (open_call rate channels (ties_of ties)) }
 {
-    opened_of(SonicStream::with_ties(rate, channels, stream::ties_of(ties)))
+    opened_of(SonicStream::with_ties(rate, channels, Ties::from(ties)))
 }
 
 pub fn kelpladder_set_speed(stream: SonicStream, speed: f32) -> Changed

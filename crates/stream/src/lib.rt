@@ -17,7 +17,7 @@ ghost use Rattle.search.specs.declared.Ties.TheVariants.{Smallest};
 pub use balance::{Balance, Booked};
 use frames::Frames;
 pub use order::Order;
-pub use search::{Ties, ties_of};
+pub use search::Ties;
 
 // The stream's value, as C has it too. Its samples are in the areas that each call is lent.
 #[repr(C)]
@@ -171,7 +171,7 @@ impl SonicStream {
         stream.pitch = SonicStream::FRESH_SETTING;
         stream.volume = SonicStream::FRESH_SETTING;
         stream.sample_period = floats::settings::sample_period(rate);
-        stream.ties = search::ties_number(ties);
+        stream.ties = u32::from(ties);
         Opened::Done(stream)
     }
 }

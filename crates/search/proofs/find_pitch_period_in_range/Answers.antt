@@ -9,19 +9,19 @@ use Rattle.search.specs.Ties.{ties_of}
 use Rattle.search.specs.Search.{lesser, greater, best, worst, found_of, find_pitch_period_in_range}
 use Rattle.search.proofs.Candidates.{searchable-within, ties-back, sweep-first, sweep-one, sweep-two}
 use Rattle.search.proofs.find_pitch_period_in_range.Goals as goal
-use Rattle.search.proofs.find_pitch_period_in_range.Goals.{After-candidate_at-last, After-found_of, After-greater, After-neighbours_from-two, After-next-1, After-ties_number-at_tie, At-loop-period, Else-period-max_period, Start}
+use Rattle.search.proofs.find_pitch_period_in_range.Goals.{After-candidate_at-last, After-found_of, After-greater, After-neighbours_from-two, After-next-1, After-from-at_tie, At-loop-period, Else-period-max_period, Start}
 
 -- ---- places, and what is known there
 
 -- the number of the choice
-abbrev numbered : At-loop-period → After-ties_number-at_tie
+abbrev numbered : At-loop-period → After-from-at_tie
 numbered c = c.before.before
 
 abbrev start : At-loop-period → Start
 start c = (numbered c).before
 
-number_is : (c : After-ties_number-at_tie) → (c.ties_number-at_tie.result ≤ 1) × (ties_of c.ties_number-at_tie.result ≡ c.args.ties)
-number_is c = ties-back c.args.ties c.ties_number-at_tie.ensures
+number_is : (c : After-from-at_tie) → (c.from-at_tie.result ≤ 1) × (ties_of c.from-at_tie.result ≡ c.args.ties)
+number_is c = ties-back c.args.ties c.from-at_tie.ensures
 
 -- a turn: the candidates of the next two periods, and the loop
 module _ (c : After-next-1) where
@@ -53,7 +53,7 @@ pub loop-period-init : goal.loop-period-init
 loop-period-init c =
     let a = c.args in
     let r = c.candidate_at-first.ensures in
-    let b = sweep-first (lesser (ties_of c.ties_number-at_tie.result)) a.samples.now a.min_period r.0 in
+    let b = sweep-first (lesser (ties_of c.from-at_tie.result)) a.samples.now a.min_period r.0 in
     (omega arith, omega (arith, c.requires.order), b, sweep-first greater a.samples.now a.min_period r.0, r.1, r.1)
 
 pub overflow_add-period : goal.overflow_add-period
@@ -95,7 +95,7 @@ loop-period-preserved c =
     let low = m.lesser.ensures.0 in
     let high = c.greater.ensures.0 in
     let x = a.samples.now in
-    let ties = ties_of (numbered d).ties_number-at_tie.result in (
+    let ties = ties_of (numbered d).from-at_tie.result in (
       omega (arith, l.invariant.0),
       omega (arith, n.loop-period-test),
       sweep-two (lesser ties) x a.min_period l.period l.invariant.0 l.invariant.2 two.0 two.2 low m.lesser-best.ensures.0,
@@ -126,7 +126,7 @@ returns-then-period-max_period c =
     let a = (start d).args in
     let last = (last-period c).candidate_at-last.ensures.0 in
     let e : l.period + 1 ≡ a.max_period = omega arith in
-    let ties = ties_of (numbered d).ties_number-at_tie.result in
+    let ties = ties_of (numbered d).from-at_tie.result in
     let b = sweep-one (lesser ties) a.samples.now a.min_period l.period l.invariant.0 l.invariant.2 e last c.lesser-then-period-max_period.ensures.0 in
     let w = sweep-one greater a.samples.now a.min_period l.period l.invariant.0 l.invariant.3 e last c.greater-then-period-max_period.ensures.0 in
     let chosen = ap (λ (t : Ties). best t a.samples.now a.min_period a.max_period) (number_is (numbered d)).1 in
@@ -142,7 +142,7 @@ returns c =
     let l = d.loop-period in
     let a = (start d).args in
     let e : l.period ≡ a.max_period = omega arith in
-    let reached = ap (best (ties_of (numbered d).ties_number-at_tie.result) a.samples.now a.min_period) e in
+    let reached = ap (best (ties_of (numbered d).from-at_tie.result) a.samples.now a.min_period) e in
     let chosen = ap (λ (t : Ties). best t a.samples.now a.min_period a.max_period) (number_is (numbered d)).1 in
     let b = l.invariant.2 ∙ reached ∙ chosen in
     let w = l.invariant.3 ∙ ap (worst a.samples.now a.min_period) e in

@@ -10,16 +10,16 @@ use Rattle.search.specs.Search.{candidate, lesser, best}
 use Rattle.search.proofs.Candidates.{searchable-within, ties-back}
 use Rattle.search.proofs.Downward.{other-is, best-less}
 use Rattle.search.proofs.outward.best_in_range.Goals as goal
-use Rattle.search.proofs.outward.best_in_range.Goals.{After-ties_number-at_tie, At-loop-period}
+use Rattle.search.proofs.outward.best_in_range.Goals.{After-from-at_tie, At-loop-period}
 
 -- ---- places, and what is known there
 
 -- the number of the choice
-abbrev numbered : At-loop-period → After-ties_number-at_tie
+abbrev numbered : At-loop-period → After-from-at_tie
 numbered c = c.before.before.before
 
-number_is : (c : After-ties_number-at_tie) → (c.ties_number-at_tie.result ≤ 1) × (ties_of c.ties_number-at_tie.result ≡ c.args.ties)
-number_is c = ties-back c.args.ties c.ties_number-at_tie.ensures
+number_is : (c : After-from-at_tie) → (c.from-at_tie.result ≤ 1) × (ties_of c.from-at_tie.result ≡ c.args.ties)
+number_is c = ties-back c.args.ties c.from-at_tie.ensures
 
 pub upward-best-requires : goal.upward-best-requires
 upward-best-requires c =
@@ -36,9 +36,9 @@ loop-period-preserved c =
     let n = numbered d in
     let a = n.args in
     let i = d.loop-period.invariant in
-    let ties = ties_of n.ties_number-at_tie.result in
+    let ties = ties_of n.from-at_tie.result in
     let new = candidate a.samples.now (d.loop-period.period - 1) in
-    let turned = ap (λ (t : Ties). lesser t d.loop-period.best new) (other-is a.ties n.ties_number-at_tie.ensures) in
+    let turned = ap (λ (t : Ties). lesser t d.loop-period.best new) (other-is a.ties n.from-at_tie.ensures) in
     let r = c.contest-best.ensures in
     (search rules, search rules, best-less ties a.samples.now (omega (arith, n.requires.some)) (omega arith) i.1 i.2 (r.0 ∙ turned), r.1)
 
@@ -48,6 +48,6 @@ returns c =
     let n = numbered d in
     let a = n.args in
     let e : d.loop-period.period ≡ a.low = omega arith in
-    let reached = ap (λ (q : ℕ). best (ties_of n.ties_number-at_tie.result) a.samples.now q a.high) e in
+    let reached = ap (λ (q : ℕ). best (ties_of n.from-at_tie.result) a.samples.now q a.high) e in
     let chosen = ap (λ (t : Ties). best t a.samples.now a.low a.high) (number_is n).1 in
     (d.loop-period.invariant.2 ∙ reached ∙ chosen, d.loop-period.invariant.3)

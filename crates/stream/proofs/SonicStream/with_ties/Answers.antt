@@ -39,7 +39,7 @@ returns c =
     simp (
       c.zero-stream.ensures,
       c.sample_period.ensures,
-      c.ties_number.ensures,
+      c.from.ensures,
       le-ltb _ _ c.if-rate-lt-MIN_RATE.false,
       le-ltb _ _ c.if-rate-gt-MAX_RATE.false,
       le-ltb _ _ c.if-channels-lt-MIN_CHANNELS.false,
