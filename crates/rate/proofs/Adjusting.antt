@@ -2,6 +2,7 @@
 use mathlib.Core.Path.{◌≡◌, refl, sym, ap, ◌∙◌, subst}
 use mathlib.Core.Bool.{false}
 use mathlib.Core.List.{List, [], ◌∷◌, ◌++◌}
+use Rattle.std.specs.Prelude.{Option, Some}
 use Prim.Native.Nat.{ℕ, ◌+◌, ◌*◌, ◌≤◌, ◌<◌}
 use native.Mathlib.Nat.{zero-mul}
 use native.Mathlib.Omega.{arith}
@@ -13,7 +14,7 @@ use Rattle.frames.specs.Framing.{Frame, frames_of}
 use Rattle.frames.proofs.Framing.{frames_of-add, length-frames_of}
 use Rattle.frames.proofs.Behind.{behind-none}
 use Rattle.rate.specs.declared.Position.{Position}
-use Rattle.rate.specs.declared.Adjustment.{Adjustment}
+use Rattle.rate.specs.declared.Adjusted.{Adjusted}
 use Rattle.rate.specs.Halving.{rates_of}
 use Rattle.rate.specs.Conversion.{Conversion, convert, join_tail, adjust_rate}
 use Rattle.rate.specs.Adjusting.{AdjustedBy, new_frames, ScanEnsures, AdjustEnsures}
@@ -24,7 +25,7 @@ stays ch tail stage = ap (λ (i : ℕ). frames_of ch tail (drop i stage)) (zero-
 
 -- ---- by the number of new frames
 
-module _ (ch rate : ℕ) (pitch : Float) (at : Position) (tail new w : ℕ) (stage entry exit : List ℤ) (a : Adjustment) where
+module _ (ch rate : ℕ) (pitch : Float) (at : Position) (tail new w : ℕ) (stage entry exit : List ℤ) (a : Option Adjusted) where
   join-some : (fs : List Frame) → length fs ≡ new → 0 < new
       → join_tail (rates_of rate pitch) at (frames_of ch tail stage) fs ≡ convert (rates_of rate pitch) at (frames_of ch tail stage ++ fs)
   unfolding join_tail
@@ -48,7 +49,7 @@ module _ (ch rate : ℕ) (pitch : Float) (at : Position) (tail new w : ℕ) (sta
 -- nothing new
 pub none-new : (ch rate : ℕ) (pitch : Float) (at : Position) (tail new w : ℕ) (stage entry : List ℤ) → eq pitch one ≡ false → new ≡ 0
     → w * ch ≤ length entry → AdjustEnsures ch rate pitch at tail new w stage entry entry
-    (Adjustment.Done (record { made = record { 0 = 0 }; from = record { 0 = 0 }; left = record { 0 = tail }; at = at }))
+    (Some (record { made = record { 0 = 0 }; from = record { 0 = 0 }; left = record { 0 = tail }; at = at }))
 unfolding adjust_rate join_tail frames_of
 none-new ch rate pitch at tail new w stage entry e z h =
     rw (z, e) (record { behind = behind-none ch w entry h; rest = stays ch tail stage; at = refl; within = omega arith })

@@ -1,6 +1,7 @@
 -- The two loops of the scan: what holds at each, their starts, turns and ends. Assumes nothing.
 use mathlib.Core.Path.{◌≡◌, refl, sym, ap, ◌∙◌, subst}
 use mathlib.Core.List.{List, [], ◌∷◌, ◌++◌, append_assoc, append-nil}
+use Rattle.std.specs.Prelude.{Some}
 use Prim.Native.Nat.{ℕ, suc, ◌+◌, ◌-◌, ◌*◌, ◌≤◌, ◌<◌}
 use native.Mathlib.Omega.{arith}
 use native.Mathlib.Nat.{mul-le-mul_right}
@@ -15,7 +16,6 @@ use Rattle.frames.proofs.Behind.{behind-length, behind-none}
 use Rattle.sinc.specs.Sinc.{sinc_filter_points}
 use Rattle.rate.specs.declared.Rates.{Rates}
 use Rattle.rate.specs.declared.Position.{Position}
-use Rattle.rate.specs.declared.Adjustment.{Adjustment}
 use Rattle.rate.specs.Tail.{due, next, steps, interpolated, emit, scan, consumable}
 use Rattle.rate.specs.Conversion.{convert}
 use Rattle.rate.specs.Adjusting.{ScanEnsures}
@@ -142,7 +142,7 @@ module _ {ch w : ℕ} {r : Rates} {s t : Position} {l x : List Frame} {entry out
 module _ {ch w : ℕ} {r : Rates} {s t : Position} {entry out : List ℤ} {j m : ℕ} (tail : ℕ) (stage : List ℤ) where
   pub scan-done : Scanning ch w r s (frames_of ch tail stage) entry out j m t → j ≡ tail - sinc_filter_points
       → ScanEnsures ch r tail w s stage entry out
-      (Adjustment.Done (record { made = record { 0 = m }; from = record { 0 = j }; left = record { 0 = tail - j }; at = t }))
+      (Some (record { made = record { 0 = m }; from = record { 0 = j }; left = record { 0 = tail - j }; at = t }))
   unfolding convert
   scan-done a e =
       let l : List Frame = frames_of ch tail stage in

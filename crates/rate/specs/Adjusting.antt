@@ -1,12 +1,11 @@
 -- What the functions require and ensure of their areas: ch channels, w frames waiting in the output. Definitions only.
-use Rattle.std.specs.Prelude.{◌≡◌, false, List, ℕ, ◌+◌, ◌*◌, ◌^◌, ◌≤◌, ℤ, Float, length, drop}
+use Rattle.std.specs.Prelude.{◌≡◌, false, Option, None, Some, List, ℕ, ◌+◌, ◌*◌, ◌^◌, ◌≤◌, ℤ, Float, length, drop}
 use Rattle.std.specs.Float.Ieee.{eq}
 use Rattle.floats.specs.Numbers.{one}
 use Rattle.frames.specs.Framing.{Frame, frames_of, Behind, NoRoom}
 use Rattle.rate.specs.declared.Rates.{Rates}
 use Rattle.rate.specs.declared.Position.{Position}
 use Rattle.rate.specs.declared.Adjusted.{Adjusted}
-use Rattle.rate.specs.declared.Adjustment.{Adjustment}
 use Rattle.rate.specs.Halving.{max_halved_rate, rates_of}
 use Rattle.rate.specs.Tail.{PositionInOrder}
 use Rattle.rate.specs.Conversion.{Conversion, convert, adjust_rate}
@@ -44,21 +43,21 @@ pub record AdjustedAs (ch w staged : ℕ) (c : Conversion) (stage entry exit : L
   pub at : a.at ≡ c.at
   pub within : a.from.0 + a.left.0 ≤ staged
 
--- done, or its frames do not fit
-abbrev pub AdjustedBy : ℕ → ℕ → ℕ → Conversion → List ℤ → List ℤ → List ℤ → Adjustment → Type 0
-AdjustedBy ch w staged c stage entry exit Adjustment.Full = NoRoom ch w entry exit c.made
-AdjustedBy ch w staged c stage entry exit (Adjustment.Done a) = AdjustedAs ch w staged c stage entry exit a
+-- done, or none: its frames do not fit
+abbrev pub AdjustedBy : ℕ → ℕ → ℕ → Conversion → List ℤ → List ℤ → List ℤ → Option Adjusted → Type 0
+AdjustedBy ch w staged c stage entry exit None = NoRoom ch w entry exit c.made
+AdjustedBy ch w staged c stage entry exit (Some a) = AdjustedAs ch w staged c stage entry exit a
 
 -- the new frames, which stand behind the tail
 abbrev pub new_frames : ℕ → ℕ → ℕ → List ℤ → List Frame
 new_frames ch tail new stage = frames_of ch new (drop (tail * ch) stage)
 
 -- what each function ensures: the tail was scanned, or, if there are no new frames, nothing was done
-abbrev pub ScanEnsures : ℕ → Rates → ℕ → ℕ → Position → List ℤ → List ℤ → List ℤ → Adjustment → Type 0
+abbrev pub ScanEnsures : ℕ → Rates → ℕ → ℕ → Position → List ℤ → List ℤ → List ℤ → Option Adjusted → Type 0
 ScanEnsures ch r tail w at stage entry exit a =
     AdjustedBy ch w tail (convert r at (frames_of ch tail stage)) stage entry exit a
 
-abbrev pub AdjustEnsures : ℕ → ℕ → Float → Position → ℕ → ℕ → ℕ → List ℤ → List ℤ → List ℤ → Adjustment → Type 0
+abbrev pub AdjustEnsures : ℕ → ℕ → Float → Position → ℕ → ℕ → ℕ → List ℤ → List ℤ → List ℤ → Option Adjusted → Type 0
 AdjustEnsures ch rate pitch at tail new w stage entry exit a =
     AdjustedBy ch w (tail + new) (adjust_rate rate pitch at (frames_of ch tail stage) (new_frames ch tail new stage))
     stage entry exit a

@@ -14,14 +14,14 @@ use frames::Frames;
 const MAX_HALVED_RATE: usize = 16384;
 
 // N and O: the new rate and the old one.
-#[derive(Clone, Copy)]
+#[derive(Clone, Copy, Debug, PartialEq, Eq)]
 pub struct Rates {
     pub new: usize,
     pub old: usize,
 }
 
 // p and n: the positions in old frames and in new ones.
-#[derive(Clone, Copy)]
+#[derive(Clone, Copy, Debug, PartialEq, Eq)]
 pub struct Position {
     pub old: usize,
     pub new: usize,
@@ -34,13 +34,6 @@ pub struct Adjusted {
     pub from: Frames,
     pub left: Frames,
     pub at: Position,
-}
-
-// Full: the frames do not fit behind those that wait.
-#[derive(Clone, Copy)]
-pub enum Adjustment {
-    Full,
-    Done(Adjusted),
 }
 
 // N and O of a rate in Hz and a pitch.
@@ -58,7 +51,7 @@ pub fn rates_of(rate: u32, pitch: f32) -> Rates
 }
 
 // The new frames of the stage, which stand behind its tail, at another pitch than 1.0: behind the frames waiting in the
-// output.
+// output. None if they do not fit there.
 pub fn adjust_rate(
     stage: &[i16],
     tail: Frames,
@@ -69,7 +62,7 @@ pub fn adjust_rate(
     at: Position,
     output: &mut [i16],
     waiting: Frames,
-) -> Adjustment
+) -> Option<Adjusted>
     requires { AdjustReady channels rate pitch at tail.0 new.0 waiting.0 stage.now output.old }
     ensures { AdjustEnsures channels rate pitch at tail.0 new.0 waiting.0 stage.now
         output.old output.new result }
@@ -77,7 +70,7 @@ pub fn adjust_rate(
     let t = tail.0;
     let n = new.0;
     if n == 0 {
-        return Adjustment::Done(Adjusted {
+        return Some(Adjusted {
             made: Frames(0),
             from: Frames(0),
             left: tail,

@@ -9,7 +9,7 @@ ghost use Rattle.rate.specs.Adjusting.{AreasHold, Placed, ScanEnsures};
 ghost use Rattle.rate.specs.Phases.{CycleOf, Kept, PhaseReady};
 
 use crate::phases::{Cycle, cycle_of};
-use crate::{Adjusted, Adjustment, Position, Rates};
+use crate::{Adjusted, Position, Rates};
 use frames::{Frames, Samples};
 use sinc::SINC_FILTER_POINTS;
 use sinc::phases::{KEPT_COEFFICIENTS, keep_phases};
@@ -58,7 +58,7 @@ fn scan_tail(
     at: Position,
     output: &mut [i16],
     waiting: Frames,
-) -> Adjustment
+) -> Option<Adjusted>
     requires { (table.now ≡ sinc_table) × AreasHold channels tail.0 waiting.0 stage.now output.old
         × Placed rates at × CycleOf rates cycle × Kept cycle kept.now }
     ensures { ScanEnsures channels rates tail.0 waiting.0 at stage.now output.old
@@ -100,9 +100,9 @@ fn scan_tail(
         j += 1;
     }
     if j + SINC_FILTER_POINTS < t {
-        return Adjustment::Full;
+        return None;
     }
-    Adjustment::Done(Adjusted {
+    Some(Adjusted {
         made: Frames(made),
         from: Frames(j),
         left: Frames(t - j),
@@ -120,7 +120,7 @@ pub(crate) fn convert_tail(
     at: Position,
     output: &mut [i16],
     waiting: Frames,
-) -> Adjustment
+) -> Option<Adjusted>
     requires { (table.now ≡ sinc_table) × AreasHold channels tail.0 waiting.0 stage.now output.old
         × Placed rates at }
     ensures { ScanEnsures channels rates tail.0 waiting.0 at stage.now output.old
