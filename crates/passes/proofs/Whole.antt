@@ -37,13 +37,11 @@ below : (n : ℕ) → n % 2 ^ 64 < 2 ^ 64
 below n = mod-lt n {m = 2 ^ 64} (omega arith)
 
 frames-from : (p : Passes) (xs : List Piece) → p.frames < 2 ^ 64 → (all p xs).frames ≡ (p.frames + frames_of xs) % 2 ^ 64
-unfolding noted
 frames-from p [] h = summed-none p.frames h
 frames-from p (x ∷ xs) h =
     frames-from (noted p x.periods x.span) xs (below (p.frames + x.span.frames)) ∙ summed-more p.frames x.span.frames (frames_of xs)
 
 periods-from : (p : Passes) (xs : List Piece) → p.periods < 2 ^ 64 → (all p xs).periods ≡ (p.periods + periods_of xs) % 2 ^ 64
-unfolding noted
 periods-from p [] h = summed-none p.periods h
 periods-from p (x ∷ xs) h =
     periods-from (noted p x.periods x.span) xs (below (p.periods + x.periods)) ∙ summed-more p.periods x.periods (periods_of xs)
@@ -57,7 +55,6 @@ periods-are xs = periods-from none xs (omega arith) ∙ ap (λ (n : ℕ). n % 2 
 -- ---- the longest stretch
 
 longer-both : (s t : Span) → (s.frames ≤ (longer s t).frames) × (t.frames ≤ (longer s t).frames)
-unfolding longer
 longer-both s t = go (ltb s.frames t.frames) refl
   where
     go : (b : Bool) → ltb s.frames t.frames ≡ b → (s.frames ≤ (cond b t s).frames) × (t.frames ≤ (cond b t s).frames)
@@ -66,13 +63,11 @@ longer-both s t = go (ltb s.frames t.frames) refl
 
 -- further pieces never make it shorter
 pub longest-kept : (p : Passes) (xs : List Piece) → p.longest.frames ≤ (all p xs).longest.frames
-unfolding noted
 longest-kept p [] = omega arith
 longest-kept p (x ∷ xs) =
     le_trans (longer-both p.longest (joined p.last x.span)).0 (longest-kept (noted p x.periods x.span) xs)
 
 last_most : (p : Passes) (xs : List Piece) → p.last.frames ≤ p.longest.frames → (all p xs).last.frames ≤ (all p xs).longest.frames
-unfolding noted
 last_most p [] h = h
 last_most p (x ∷ xs) h = last_most (noted p x.periods x.span) xs (longer-both p.longest (joined p.last x.span)).1
 

@@ -15,18 +15,18 @@ none =
     }
 
 -- a stretch s with a piece p behind it: the two joined if p begins where s ends, else p alone
-unfoldable pub joined : Span → Span → Span
+abbrev pub joined : Span → Span → Span
 joined s p =
     cond (p.first == (s.first + s.frames) % 2 ^ 64)
     (record { first = s.first; frames = (s.frames + p.frames) % 2 ^ 64 })
     p
 
 -- the longer of two, and the first if they are as long
-unfoldable pub longer : Span → Span → Span
+abbrev pub longer : Span → Span → Span
 longer s t = cond (nat_lt s.frames t.frames) t s
 
 -- one more piece, with so many periods that are counted
-unfoldable pub noted : Passes → ℕ → Span → Passes
+abbrev pub noted : Passes → ℕ → Span → Passes
 noted p periods piece =
     record {
       periods = (p.periods + periods) % 2 ^ 64;
