@@ -1,6 +1,6 @@
 -- What the tests of refusal 3 show, as facts on numbers. Here:
 --   Tests, tests-of, in-order-of             the five tests of a stream in order, from it and to it
---   limits-in, limits-range, limits_of       rate and channels
+--   limits-in, limits_range, limits_of       rate and channels
 --   within-range                             a setting in its range
 --   Ranges, ranges-of, settings-of, ranges-same      the three of them, from their test and to it, and of equal settings
 --   period_in, prev-order, position-order    the period record and the positions
@@ -9,12 +9,13 @@
 -- Passed on: both, neither, holds (`Testing`); AreasGood, areas-of, output-of, area-short, area-fits, over-same, room-same (`AreaTests`).
 -- Assumes nothing.
 use mathlib.Core.Path.{◌≡◌, refl}
-use mathlib.Core.Bool.{Bool, true, false, not, cond, ◌&&◌, ◌||◌, true≢false}
+use mathlib.Core.Bool.{Bool, true, false, not, cond, ◌&&◌, ◌||◌}
 use mathlib.Core.Logic.{◌⊎◌, inl, inr}
 use mathlib.Core.List.{List, []}
 use Prim.Native.Nat.{ℕ, ◌*◌}
 use borrow.Author.Tests.{leb-true, ltb-true, ltb-false, eqb-true, not-true}
 use lib.Dec.{T, leb, ltb, eqb}
+use Rattle.std.specs.Prelude.{Option, Some, None}
 use lib.IntN.{ℤ}
 use lib.Ieee.{Float, le}
 use Rattle.floats.specs.Settings.{sample_period, min_speed, max_speed, min_pitch, max_pitch, min_volume, max_volume}
@@ -25,7 +26,6 @@ use Rattle.rate.specs.declared.Rates.{Rates}
 use Rattle.rate.specs.Halving.{rates_of}
 use Rattle.rate.specs.Tail.{ceil_div, PositionInOrder}
 use Rattle.stream.specs.declared.SonicStream.{SonicStream}
-use Rattle.stream.specs.declared.order.Order.{Order}
 use Rattle.stream.specs.Stream.{state_of, unlent}
 use Rattle.stream.specs.Refusals.{
   rate_bad,
@@ -80,14 +80,14 @@ limits-in rate channels r c =
       channels_high = ltb-false 32 channels q.1;
     }
 
-pub limits-range : (s : SonicStream) → limits_in_order s ≡ true → InLimits s.rate s.channels
+pub limits_range : (s : SonicStream) → limits_in_order s ≡ true → InLimits s.rate s.channels
 unfolding limits_in_order
-limits-range s e =
+limits_range s e =
     let a = both (not (rate_bad s.rate)) (not (channels_bad s.channels)) e in
     limits-in s.rate s.channels (not-true (rate_bad s.rate) a.0) (not-true (channels_bad s.channels) a.1)
 
 pub limits_of : (s : SonicStream) → is_in_order s ≡ true → InLimits s.rate s.channels
-limits_of s e = limits-range s (tests-of s e).limits
+limits_of s e = limits_range s (tests-of s e).limits
 
 -- ---- settings
 
@@ -163,21 +163,21 @@ ready_of s e = state-ready s e [] []
 
 -- ---- what `ordered` answers
 
-abbrev order_by : SonicStream → Bool → Order
-order_by s b = cond b (Order.Good (sample_period s.rate)) Order.Bad
+abbrev order_by : SonicStream → Bool → Option Float
+order_by s b = cond b (Some (sample_period s.rate)) None
 
-pub good_of : (s : SonicStream) (period : Float) → order_of s ≡ Order.Good period → (is_in_order s ≡ true) × (period ≡ sample_period s.rate)
+pub good_of : (s : SonicStream) (period : Float) → order_of s ≡ Some period → (is_in_order s ≡ true) × (period ≡ sample_period s.rate)
 unfolding order_of
 good_of s period e = go (is_in_order s) refl e
   where
-    go : (b : Bool) → is_in_order s ≡ b → order_by s b ≡ Order.Good period → (is_in_order s ≡ true) × (period ≡ sample_period s.rate)
+    go : (b : Bool) → is_in_order s ≡ b → order_by s b ≡ Some period → (is_in_order s ≡ true) × (period ≡ sample_period s.rate)
     go true p h = (p, cc)
-    go false p h = let z : true ≡ false = cc in absurd (true≢false z)
+    go false p h = cc
 
-pub bad-of : (s : SonicStream) → order_of s ≡ Order.Bad → is_in_order s ≡ false
+pub bad-of : (s : SonicStream) → order_of s ≡ None → is_in_order s ≡ false
 unfolding order_of
 bad-of s e = go (is_in_order s) refl e
   where
-    go : (b : Bool) → is_in_order s ≡ b → order_by s b ≡ Order.Bad → is_in_order s ≡ false
-    go true p h = let z : true ≡ false = cc in absurd (true≢false z)
+    go : (b : Bool) → is_in_order s ≡ b → order_by s b ≡ None → is_in_order s ≡ false
+    go true p h = cc
     go false p h = p

@@ -9,7 +9,7 @@
 -- Before them: the five tests from the facts, of these period-same (T is equal to itself) and positions-of; clamped settings.
 -- Assumes nothing.
 use mathlib.Core.Path.{◌≡◌, refl, subst}
-use mathlib.Core.Bool.{Bool, true, false, not, cond, ◌&&◌, ◌||◌, or-true, true≢false}
+use mathlib.Core.Bool.{Bool, true, false, not, cond, ◌&&◌, ◌||◌, or-true}
 use mathlib.Core.Logic.{inl, ⊎_elim}
 use Prim.Native.Nat.{ℕ, ◌*◌, ◌≤◌}
 use native.Mathlib.Omega.{arith}
@@ -17,6 +17,7 @@ use borrow.Author.Tests.{le-leb, lt-ltb, le-ltb, eq-eqb}
 use lib.Dec.{T, leb, eqb}
 use lib.Ieee.Bits.{is_true}
 use lib.Ieee.{Float, nan, inf, fin, le, lt, eq, is_nan, of_bits, up, down}
+use Rattle.std.specs.Prelude.{Result, Ok, Err}
 use Rattle.floats.specs.Numbers.{one}
 use Rattle.floats.specs.Settings.{sample_period, clamped, min_speed, max_speed, min_pitch, max_pitch, min_volume, max_volume}
 use Rattle.floats.proofs.Signs.{le-no-nan}
@@ -35,15 +36,13 @@ use Rattle.rate.proofs.Positions.{start-order}
 use Rattle.stream.specs.declared.SonicStream.{SonicStream}
 use Rattle.stream.specs.declared.Setting.{Setting}
 use Rattle.stream.specs.declared.Setting.TheVariants.{Speed, Pitch, Volume, StepOver}
-use Rattle.stream.specs.declared.Opened.{Opened}
-use Rattle.stream.specs.declared.Changed.{Changed}
+use Rattle.stream.specs.declared.refusal.Refusal.TheVariants.{BadRate, BadChannels}
+use Rattle.stream.specs.declared.refusal.NotOpened.{NotOpened}
+use Rattle.stream.specs.declared.refusal.Refused.{Refused}
 use Rattle.stream.specs.declared.balance.Balance.{Balance}
 use Rattle.stream.specs.State.{State, with_settings, with_balance}
 use Rattle.stream.specs.Stream.{state_of, stream_of, unlent, zero_stream}
 use Rattle.stream.specs.Refusals.{
-  bad_rate,
-  bad_channels,
-  bad_stream,
   rate_bad,
   channels_bad,
   within,
@@ -55,7 +54,7 @@ use Rattle.stream.specs.Refusals.{
   is_in_order,
 }
 use Rattle.stream.specs.Order.{StateReady, StreamReady}
-use Rattle.stream.specs.Settings.{fresh, open_call, with_setting, set_call}
+use Rattle.stream.specs.Settings.{fresh, open_call, with_setting, not_in_order, set_call}
 use Rattle.stream.proofs.InOrder.{tests-of, in-order-of, limits-in, limits_of, within-range, Ranges, ranges-of, settings-of, ready_of}
 use Rattle.stream.proofs.Streams.{ready-stream}
 
@@ -165,18 +164,18 @@ fresh-in-order rate channels ties l =
     (record { limits = l; volume_low = v.0; volume_high = v.1; position = start-in rate one l.rate_low l.rate_high one-within.1; prev = none })
     (record { speed = one-within.0; pitch = one-within.1; volume = one-within.2 })
 
-pub open-in-order : (rate channels : ℕ) (ties : Ties) (s : SonicStream) → open_call rate channels ties ≡ Opened.Done s → is_in_order s ≡ true
+pub open-in-order : (rate channels : ℕ) (ties : Ties) (s : SonicStream) → open_call rate channels ties ≡ Ok s → is_in_order s ≡ true
 unfolding open_call
 open-in-order rate channels ties s e = go (rate_bad rate) (channels_bad channels) refl refl e
   where
-    answer : Bool → Bool → Opened
+    answer : Bool → Bool → Result SonicStream NotOpened
     answer a b =
-        cond a (Opened.Refused bad_rate rate zero_stream)
-        (cond b (Opened.Refused bad_channels channels zero_stream) (Opened.Done (stream_of (fresh rate channels ties) 0)))
+        cond a (Err (record { refusal = BadRate; given = rate; stream = zero_stream }))
+        (cond b (Err (record { refusal = BadChannels; given = channels; stream = zero_stream })) (Ok (stream_of (fresh rate channels ties) 0)))
 
-    go : (a b : Bool) → rate_bad rate ≡ a → channels_bad channels ≡ b → answer a b ≡ Opened.Done s → is_in_order s ≡ true
-    go true b p q h = let z : true ≡ false = cc in absurd (true≢false z)
-    go false true p q h = let z : true ≡ false = cc in absurd (true≢false z)
+    go : (a b : Bool) → rate_bad rate ≡ a → channels_bad channels ≡ b → answer a b ≡ Ok s → is_in_order s ≡ true
+    go true b p q h = cc
+    go false true p q h = cc
     go false false p q h =
         let same : stream_of (fresh rate channels ties) 0 ≡ s = cc in
         subst (λ (t : SonicStream). is_in_order t ≡ true) same (fresh-in-order rate channels ties (limits-in rate channels p q))
@@ -186,21 +185,20 @@ pub zero-not-in-order : is_in_order zero_stream ≡ false
 unfolding is_in_order limits_in_order rate_bad zero_stream
 zero-not-in-order = refl
 
-pub refused-not-in-order : (rate channels number given : ℕ) (ties : Ties) (s : SonicStream) → open_call rate channels ties ≡ Opened.Refused number given s
-    → is_in_order s ≡ false
+pub refused-not-in-order : (rate channels : ℕ) (ties : Ties) (r : NotOpened) → open_call rate channels ties ≡ Err r → is_in_order r.stream ≡ false
 unfolding open_call
-refused-not-in-order rate channels number given ties s = go (rate_bad rate) (channels_bad channels)
+refused-not-in-order rate channels ties r = go (rate_bad rate) (channels_bad channels)
   where
-    not-in-order : zero_stream ≡ s → is_in_order s ≡ false
+    not-in-order : zero_stream ≡ r.stream → is_in_order r.stream ≡ false
     not-in-order e = subst (λ (t : SonicStream). is_in_order t ≡ false) e zero-not-in-order
 
     go : (a b : Bool)
-        → cond a (Opened.Refused bad_rate rate zero_stream)
-        (cond b (Opened.Refused bad_channels channels zero_stream) (Opened.Done (stream_of (fresh rate channels ties) 0))) ≡ Opened.Refused number given s
-        → is_in_order s ≡ false
-    go true b h = let same : zero_stream ≡ s = cc in not-in-order same
-    go false true h = let same : zero_stream ≡ s = cc in not-in-order same
-    go false false h = let z : true ≡ false = cc in absurd (true≢false z)
+        → cond a (Err (record { refusal = BadRate; given = rate; stream = zero_stream }))
+        (cond b (Err (record { refusal = BadChannels; given = channels; stream = zero_stream })) (Ok (stream_of (fresh rate channels ties) 0))) ≡ Err r
+        → is_in_order r.stream ≡ false
+    go true b h = let same : zero_stream ≡ r.stream = cc in not-in-order same
+    go false true h = let same : zero_stream ≡ r.stream = cc in not-in-order same
+    go false false h = cc
 
 -- ---- a setting
 
@@ -239,18 +237,18 @@ module _ (s : SonicStream) (e : is_in_order s ≡ true) where
       with-settings s.speed s.pitch s.volume (cond on 1 0) (unlent s).at w
       (record { speed = r.speed; pitch = r.pitch; volume = r.volume }) (ready_of s e).position
 
-pub set-in-order : (s : SonicStream) (v : Setting) (t : SonicStream) → set_call s v ≡ Changed.Done t → is_in_order t ≡ true
+pub set-in-order : (s : SonicStream) (v : Setting) (t : SonicStream) → set_call s v ≡ Ok t → is_in_order t ≡ true
 unfolding set_call
 set-in-order s v t e = go (is_in_order s) refl e
   where
-    answer : Bool → Changed
-    answer b = cond b (Changed.Done (stream_of (with_setting v (unlent s)) s.waiting.0)) (Changed.Refused bad_stream s)
+    answer : Bool → Result SonicStream Refused
+    answer b = cond b (Ok (stream_of (with_setting v (unlent s)) s.waiting.0)) (Err (not_in_order s))
 
-    go : (b : Bool) → is_in_order s ≡ b → answer b ≡ Changed.Done t → is_in_order t ≡ true
+    go : (b : Bool) → is_in_order s ≡ b → answer b ≡ Ok t → is_in_order t ≡ true
     go true p h =
         let same : stream_of (with_setting v (unlent s)) s.waiting.0 ≡ t = cc in
         subst (λ (r : SonicStream). is_in_order r ≡ true) same (setting-in-order s p v s.waiting.0)
-    go false p h = let z : true ≡ false = cc in absurd (true≢false z)
+    go false p h = cc
 
 -- ---- totals
 

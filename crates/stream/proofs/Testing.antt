@@ -1,18 +1,19 @@
--- Tests: joined by `&&` and `||`; and what the code's tests of channels, settings and positions compute, the tests of `specs/Refusals.antt`.
+-- Tests: joined by `&&` and `||`; and what the code's test of positions computes, that of `specs/Refusals.antt`.
 -- Assumes nothing.
-use mathlib.Core.Path.{◌≡◌, refl, sym, subst, ◌∙◌}
-use mathlib.Core.Bool.{Bool, true, false, not, ◌&&◌, ◌||◌, true≢false, false≢true}
-use Prim.Native.Nat.{ℕ, ◌+◌, ◌-◌, ◌*◌, ◌/◌, ◌≤◌, ◌<◌}
+use mathlib.Core.Path.{◌≡◌, refl, sym, subst}
+use mathlib.Core.Bool.{Bool, true, false, ◌&&◌, ◌||◌, true≢false, false≢true}
+use Rattle.std.specs.Int.{div_ceil}
+use Rattle.std.proofs.lemmas.Grind.{div_ceil_times}
+use Prim.Native.Nat.{ℕ, zero, suc, ◌+◌, ◌*◌, ◌≤◌, ◌<◌}
 use native.Mathlib.Nat.{div-eq_of_lt}
 use native.Mathlib.Omega.{arith}
-use borrow.Author.Tests.{leb-true, leb-false, lt-ltb, le-ltb}
-use lib.Dec.{T, leb, ltb, eqb}
-use lib.Ieee.{le}
-use Rattle.floats.specs.Settings.{min_speed, max_speed, min_pitch, max_pitch, min_volume, max_volume}
+use borrow.Author.Tests.{lt-ltb, le-ltb}
+use lib.Dec.{T, eqb}
 use Rattle.rate.specs.declared.Rates.{Rates}
 use Rattle.rate.specs.Tail.{ceil_div}
+use Rattle.rate.proofs.Ceiling.{ceil_div-le, lt-ceil_div}
 use Rattle.stream.specs.declared.SonicStream.{SonicStream}
-use Rattle.stream.specs.Refusals.{within, settings_in_order, positions_in_order}
+use Rattle.stream.specs.Refusals.{positions_in_order}
 
 -- ---- joined
 
@@ -27,35 +28,15 @@ neither false b e = (refl, e)
 pub holds : {b : Bool} → b ≡ true → T b
 holds e = subst T (sym e) tt
 
--- ---- channels
-
-pub leb-is : (m n : ℕ) → leb m n ≡ not (ltb n m)
-leb-is m n = go (leb m n) refl
-  where
-    go : (b : Bool) → leb m n ≡ b → b ≡ not (ltb n m)
-    go true e = rw (le-ltb n m (leb-true m n e))
-    go false e = rw (lt-ltb n m (leb-false m n e))
-
--- ---- settings
-
--- the code's tests of speed and pitch are passed
-pub record Passed (s : SonicStream) : Type 0 where
-  pub speed_low : le min_speed s.speed ≡ true
-  pub speed_high : le s.speed max_speed ≡ true
-  pub pitch_low : le min_pitch s.pitch ≡ true
-  pub pitch_high : le s.pitch max_pitch ≡ true
-
-volume-left : (s : SonicStream) → Passed s → settings_in_order s ≡ within min_volume max_volume s.volume
-unfolding settings_in_order
-volume-left s p = rw (p.speed_low, p.speed_high, p.pitch_low, p.pitch_high)
-
-pub volume_high : (s : SonicStream) → Passed s → le min_volume s.volume ≡ true → le s.volume max_volume ≡ settings_in_order s
-volume_high s p e = sym (volume-left s p ∙ rw e)
-
-pub volume_low : (s : SonicStream) → Passed s → le min_volume s.volume ≡ false → le min_volume s.volume ≡ settings_in_order s
-volume_low s p e = sym (volume-left s p ∙ rw e)
-
 -- ---- positions
+
+-- the library's quotient rounded up
+div_ceil-same : (a b : ℕ) → 0 < b → div_ceil a b ≡ ceil_div a b
+div_ceil-same a b h = let t = div_ceil_times a b h in go (div_ceil a b) t.0 t.1
+  where
+    go : (m : ℕ) → a ≤ m * b → m * b < a + b → m ≡ ceil_div a b
+    go zero p q = omega (arith, ceil_div-le a b 0 h p)
+    go (suc j) p q = omega (arith, ceil_div-le a b (suc j) h p, lt-ceil_div a b j h (grind arith))
 
 -- p = 0
 none-due : (new old : ℕ) → 1 ≤ old → ceil_div (0 * new) old ≡ 0
@@ -74,6 +55,6 @@ unfolding positions_in_order
 position-over rates s r e h = rw (← e, le-ltb s.old_rate_position r.old h)
 
 pub position-is : (rates : Rates) (s : SonicStream) (r : Rates) → r ≡ rates → s.old_rate_position < r.old
-    → eqb s.new_rate_position ((s.old_rate_position * r.new + (r.old - 1)) / r.old) ≡ positions_in_order rates s
-unfolding positions_in_order ceil_div
-position-is rates s r e h = rw (← e, lt-ltb s.old_rate_position r.old h)
+    → eqb s.new_rate_position (div_ceil (s.old_rate_position * r.new) r.old) ≡ positions_in_order rates s
+unfolding positions_in_order
+position-is rates s r e h = rw (← e, lt-ltb s.old_rate_position r.old h, div_ceil-same (s.old_rate_position * r.new) r.old (omega arith))

@@ -1,7 +1,6 @@
 -- docs/RULES.md, "A balance of frames". Definitions only. Assumes nothing.
-use Rattle.std.specs.Prelude.{Bool, cond, ◌||◌, ℕ, ◌+◌, ◌-◌, ◌^◌, ltb}
+use Rattle.std.specs.Prelude.{Bool, cond, ◌||◌, ℕ, ◌+◌, ◌-◌, ◌^◌, ltb, Option, Some, None}
 use Rattle.stream.specs.declared.balance.Balance.{Balance}
-use Rattle.stream.specs.declared.balance.Booked.{Booked}
 
 -- fresh totals, and those of a call that skips and inserts nothing
 abbrev pub none : Balance
@@ -19,5 +18,6 @@ max_total = 2 ^ 64 - 1
 unfoldable pub past : Balance → Bool
 past b = ltb max_total b.skipped || ltb max_total b.inserted
 
-unfoldable pub book_of : Balance → Balance → Booked
-book_of b c = cond (past (booked b c)) Booked.Past (Booked.Within (booked b c))
+-- none past 64 bits
+unfoldable pub book_of : Balance → Balance → Option Balance
+book_of b c = cond (past (booked b c)) None (Some (booked b c))

@@ -1,6 +1,6 @@
 -- What `ordered` answers: with T, the sample period that the rate gives; and what the work
 -- on a stream in order goes by. Definitions only. Assumes nothing.
-use Rattle.std.specs.Prelude.{◌≡◌, cond, T}
+use Rattle.std.specs.Prelude.{◌≡◌, cond, T, Float, Option, Some, None}
 use Rattle.std.specs.Float.Ieee.{le}
 use Rattle.floats.specs.Settings.{sample_period, min_volume, max_volume}
 use Rattle.period.specs.Rates.{InLimits}
@@ -8,13 +8,12 @@ use Rattle.period.specs.Pitch.{PrevInOrder}
 use Rattle.rate.specs.Halving.{rates_of}
 use Rattle.rate.specs.Tail.{PositionInOrder}
 use Rattle.stream.specs.declared.SonicStream.{SonicStream}
-use Rattle.stream.specs.declared.order.Order.{Order}
 use Rattle.stream.specs.State.{State}
 use Rattle.stream.specs.Stream.{unlent}
 use Rattle.stream.specs.Refusals.{is_in_order}
 
-unfoldable pub order_of : SonicStream → Order
-order_of s = cond (is_in_order s) (Order.Good (sample_period s.rate)) Order.Bad
+unfoldable pub order_of : SonicStream → Option Float
+order_of s = cond (is_in_order s) (Some (sample_period s.rate)) None
 
 -- a state in order, by facts on its numbers
 pub record StateReady (s : State) : Type 0 where

@@ -1,6 +1,6 @@
 -- docs/RULES.md, "Areas and refusals": the table's tests, in its order. Definitions only.
 -- Assumes nothing.
-use Rattle.std.specs.Prelude.{Bool, not, cond, ◌&&◌, ◌||◌, List, ℕ, ◌+◌, ◌*◌, leb, ltb, eqb, ℤ, Float, length}
+use Rattle.std.specs.Prelude.{Bool, not, cond, ◌&&◌, ◌||◌, List, ℕ, ◌+◌, ◌*◌, leb, ltb, eqb, ℤ, Float, length, Option, Some, None}
 use Rattle.std.specs.Float.Ieee.{le, eq}
 use Rattle.frames.specs.Areas.{Areas}
 use Rattle.floats.specs.Numbers.{one}
@@ -12,45 +12,40 @@ use Rattle.rate.specs.Halving.{rates_of}
 use Rattle.rate.specs.Tail.{ceil_div}
 use Rattle.stream.specs.declared.SonicStream.{SonicStream}
 use Rattle.stream.specs.declared.balance.Balance.{Balance}
+use Rattle.stream.specs.declared.refusal.Refusal.{Refusal}
+use Rattle.stream.specs.declared.refusal.Refusal.TheVariants.{
+  BadRate,
+  BadChannels,
+  BadStream,
+  BadAreas,
+  InputFull,
+  StageFull,
+  OutputFull,
+  NotWave,
+  BadSize,
+  BadFormat,
+  TotalFull,
+}
 use Rattle.stream.specs.Balance.{past}
 
 -- ---- the numbers; 0: accepted
 
-abbrev pub accepted : ℕ
-accepted = 0
+abbrev pub number_of : Refusal → ℕ
+number_of BadRate = 1
+number_of BadChannels = 2
+number_of BadStream = 3
+number_of BadAreas = 4
+number_of InputFull = 5
+number_of StageFull = 6
+number_of OutputFull = 7
+number_of NotWave = 8
+number_of BadSize = 9
+number_of BadFormat = 10
+number_of TotalFull = 12
 
-abbrev pub bad_rate : ℕ
-bad_rate = 1
-
-abbrev pub bad_channels : ℕ
-bad_channels = 2
-
-abbrev pub bad_stream : ℕ
-bad_stream = 3
-
-abbrev pub bad_areas : ℕ
-bad_areas = 4
-
-abbrev pub input_full : ℕ
-input_full = 5
-
-abbrev pub stage_full : ℕ
-stage_full = 6
-
-abbrev pub output_full : ℕ
-output_full = 7
-
-abbrev pub not_wave : ℕ
-not_wave = 8
-
-abbrev pub bad_size : ℕ
-bad_size = 9
-
-abbrev pub bad_format : ℕ
-bad_format = 10
-
-abbrev pub total_full : ℕ
-total_full = 12
+abbrev pub number_in : Option Refusal → ℕ
+number_in None = 0
+number_in (Some refusal) = number_of refusal
 
 -- ---- 1 and 2, of an opening
 
@@ -139,17 +134,17 @@ output_bad s output = too_long output || too_short s.channels s.waiting.0 output
 unfoldable pub stage_needed : SonicStream → ℕ → ℕ
 stage_needed s staged = cond (eq s.pitch one) staged (s.tail.0 + staged)
 
--- the number of a write or a flush that adds, stages and makes so many frames, and would carry the totals to these;
--- 0: accepted
-unfoldable pub refusal : SonicStream → Areas → ℕ → ℕ → ℕ → Balance → ℕ
+-- that of a write or a flush that adds, stages and makes so many frames, and would carry the totals to these; none:
+-- accepted
+unfoldable pub refusal : SonicStream → Areas → ℕ → ℕ → ℕ → Balance → Option Refusal
 refusal s a added staged made balance =
-    cond (not (is_in_order s)) bad_stream
-    (cond (areas_bad s a) bad_areas
-    (cond (too_short s.channels (s.held.0 + added) a.input) input_full
-    (cond (too_short s.channels (stage_needed s staged) a.stage) stage_full
-    (cond (too_short s.channels (s.waiting.0 + made) a.output) output_full
-    (cond (past balance) total_full accepted)))))
+    cond (not (is_in_order s)) (Some BadStream)
+    (cond (areas_bad s a) (Some BadAreas)
+    (cond (too_short s.channels (s.held.0 + added) a.input) (Some InputFull)
+    (cond (too_short s.channels (stage_needed s staged) a.stage) (Some StageFull)
+    (cond (too_short s.channels (s.waiting.0 + made) a.output) (Some OutputFull)
+    (cond (past balance) (Some TotalFull) None)))))
 
 -- that of a read
-unfoldable pub read_refusal : SonicStream → List ℤ → ℕ
-read_refusal s output = cond (not (is_in_order s)) bad_stream (cond (output_bad s output) bad_areas accepted)
+unfoldable pub read_refusal : SonicStream → List ℤ → Option Refusal
+read_refusal s output = cond (not (is_in_order s)) (Some BadStream) (cond (output_bad s output) (Some BadAreas) None)

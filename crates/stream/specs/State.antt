@@ -30,80 +30,18 @@ steps_over field = ltb 0 field
 
 -- the state with other settings and positions
 abbrev pub with_settings : State → Float → Float → Float → ℕ → Position → State
-with_settings s speed pitch volume stepOver at =
-    record {
-      rate = s.rate;
-      channels = s.channels;
-      speed = speed;
-      pitch = pitch;
-      volume = volume;
-      step_over = stepOver;
-      input = s.input;
-      tail = s.tail;
-      at = at;
-      prev = s.prev;
-      input_play_time = s.input_play_time;
-      time_error = s.time_error;
-      balance = s.balance;
-      ties = s.ties;
-    }
+with_settings s speed pitch volume step_over at =
+    record s { speed = speed; pitch = pitch; volume = volume; step_over = step_over; at = at }
 
 -- the state with another input, period record, play time and time error
 abbrev pub with_input : State → List Frame → PeriodRecord → Float → Float → State
 with_input s input prev play error =
-    record {
-      rate = s.rate;
-      channels = s.channels;
-      speed = s.speed;
-      pitch = s.pitch;
-      volume = s.volume;
-      step_over = s.step_over;
-      input = input;
-      tail = s.tail;
-      at = s.at;
-      prev = prev;
-      input_play_time = play;
-      time_error = error;
-      balance = s.balance;
-      ties = s.ties;
-    }
+    record s { input = input; prev = prev; input_play_time = play; time_error = error }
 
 -- the state with another tail and other positions
 abbrev pub with_tail : State → List Frame → Position → State
-with_tail s tail at =
-    record {
-      rate = s.rate;
-      channels = s.channels;
-      speed = s.speed;
-      pitch = s.pitch;
-      volume = s.volume;
-      step_over = s.step_over;
-      input = s.input;
-      tail = tail;
-      at = at;
-      prev = s.prev;
-      input_play_time = s.input_play_time;
-      time_error = s.time_error;
-      balance = s.balance;
-      ties = s.ties;
-    }
+with_tail s tail at = record s { tail = tail; at = at }
 
 -- the state with other totals
 abbrev pub with_balance : State → Balance → State
-with_balance s balance =
-    record {
-      rate = s.rate;
-      channels = s.channels;
-      speed = s.speed;
-      pitch = s.pitch;
-      volume = s.volume;
-      step_over = s.step_over;
-      input = s.input;
-      tail = s.tail;
-      at = s.at;
-      prev = s.prev;
-      input_play_time = s.input_play_time;
-      time_error = s.time_error;
-      balance = balance;
-      ties = s.ties;
-    }
+with_balance s balance = record s { balance = balance }

@@ -10,13 +10,6 @@ pub struct Balance {
     pub inserted: u64,
 }
 
-// Totals with those of a call, or that one of them would pass 64 bits.
-#[derive(Clone, Copy)]
-pub enum Booked {
-    Past,
-    Within(Balance),
-}
-
 impl Balance {
     // Fresh totals, and those of a call that skips and inserts nothing.
     pub const NONE: Balance = Balance {
@@ -24,19 +17,14 @@ impl Balance {
         inserted: 0,
     };
 
-    // The totals with those of a call: refusal 12 if one would pass 64 bits.
-    pub fn book(self, call: Balance) -> Booked
+    // The totals with those of a call; None, refusal 12, if one would pass 64 bits.
+    #[tactic(auto, unfolding(crate::specs::Balance::book_of, crate::specs::Balance::past, crate::specs::Balance::booked))]
+    pub fn book(self, call: Balance) -> Option<Balance>
         ensures { result ≡ book_of self call }
     {
-        if call.skipped > u64::MAX - self.skipped {
-            return Booked::Past;
-        }
-        if call.inserted > u64::MAX - self.inserted {
-            return Booked::Past;
-        }
-        Booked::Within(Balance {
-            skipped: self.skipped + call.skipped,
-            inserted: self.inserted + call.inserted,
+        Some(Balance {
+            skipped: self.skipped.checked_add(call.skipped)?,
+            inserted: self.inserted.checked_add(call.inserted)?,
         })
     }
 }

@@ -6,7 +6,7 @@
 pub mod areas;
 mod balance;
 mod order;
-pub mod refusals;
+pub mod refusal;
 mod settings;
 
 ghost use Rattle.std.specs.Prelude.{◌≡◌};
@@ -14,9 +14,9 @@ ghost use Rattle.stream.specs.Stream.{zero_stream};
 ghost use Rattle.stream.specs.Settings.{open_call};
 ghost use Rattle.search.specs.declared.Ties.TheVariants.{Smallest};
 
-pub use balance::{Balance, Booked};
+pub use balance::Balance;
 use frames::Frames;
-pub use order::Order;
+pub use refusal::{NotOpened, Refusal, Refused};
 pub use search::Ties;
 
 // The stream's value, as C has it too. Its samples are in the areas that each call is lent.
@@ -54,32 +54,6 @@ pub enum Setting {
     StepOver(bool),
 }
 
-// An opening's answer: refused with its number, the rate or channels given, and a stream with every field 0; or the
-// stream.
-#[derive(Clone, Copy)]
-pub enum Opened {
-    Refused {
-        number: u32,
-        given: u32,
-        stream: SonicStream,
-    },
-    Done(SonicStream),
-}
-
-// A setting's answer. Each refusal carries its number and the entering stream.
-#[derive(Clone, Copy)]
-pub enum Changed {
-    Refused(u32, SonicStream),
-    Done(SonicStream),
-}
-
-// The answer of `available_frames`.
-#[derive(Clone, Copy)]
-pub enum Available {
-    Refused(u32, SonicStream),
-    Waiting(Frames),
-}
-
 impl SonicStream {
     // Rates, in Hz.
     pub const MIN_RATE: u32 = 1000;
@@ -114,64 +88,61 @@ impl SonicStream {
     pub const FRESH_POSITION: usize = 0;
 
     // Every field 0: the stream that a refused opening carries.
-    fn zero() -> SonicStream
-        ensures { result ≡ zero_stream }
-    {
-        SonicStream {
-            rate: 0,
-            channels: 0,
-            speed: 0.0,
-            pitch: 0.0,
-            volume: 0.0,
-            sample_period: 0.0,
-            input_play_time: 0.0,
-            time_error: 0.0,
-            old_rate_position: 0,
-            new_rate_position: 0,
-            prev_period: 0,
-            prev_min_diff: 0,
-            held: Frames(0),
-            tail: Frames(0),
-            waiting: Frames(0),
-            balance: Balance::NONE,
-            step_over: 0,
-            ties: 0,
-        }
-    }
+    const ZERO: SonicStream = SonicStream {
+        rate: 0,
+        channels: 0,
+        speed: 0.0,
+        pitch: 0.0,
+        volume: 0.0,
+        sample_period: 0.0,
+        input_play_time: 0.0,
+        time_error: 0.0,
+        old_rate_position: 0,
+        new_rate_position: 0,
+        prev_period: 0,
+        prev_min_diff: 0,
+        held: Frames(0),
+        tail: Frames(0),
+        waiting: Frames(0),
+        balance: Balance::NONE,
+        step_over: 0,
+        ties: 0,
+    };
 
     // Opens a stream that finds the smallest of several periods with the same mean: refusals 1 and 2.
-    pub fn new(rate: u32, channels: u32) -> Opened
+    pub fn new(rate: u32, channels: u32) -> Result<SonicStream, NotOpened>
         ensures { result ≡ open_call rate channels Smallest }
     {
         SonicStream::with_ties(rate, channels, Ties::Smallest)
     }
 
     // Opens a stream with a choice of ties: refusals 1 and 2.
-    pub fn with_ties(rate: u32, channels: u32, ties: Ties) -> Opened
+    pub fn with_ties(rate: u32, channels: u32, ties: Ties) -> Result<SonicStream, NotOpened>
         ensures { result ≡ open_call rate channels ties }
     {
-        let mut stream = SonicStream::zero();
-        if rate < SonicStream::MIN_RATE || rate > SonicStream::MAX_RATE {
-            return Opened::Refused {
-                number: refusals::BAD_RATE,
+        if !(SonicStream::MIN_RATE..=SonicStream::MAX_RATE).contains(&rate) {
+            return Err(NotOpened {
+                refusal: Refusal::BadRate,
                 given: rate,
-                stream,
-            };
+                stream: SonicStream::ZERO,
+            });
         }
-        if channels < SonicStream::MIN_CHANNELS || channels > SonicStream::MAX_CHANNELS {
-            return Opened::Refused {
-                number: refusals::BAD_CHANNELS,
+        if !(SonicStream::MIN_CHANNELS..=SonicStream::MAX_CHANNELS).contains(&channels) {
+            return Err(NotOpened {
+                refusal: Refusal::BadChannels,
                 given: channels,
-                stream,
-            };
+                stream: SonicStream::ZERO,
+            });
         }
-        stream.rate = rate;
-        stream.channels = channels;
-        stream.speed = SonicStream::FRESH_SETTING;
-        stream.pitch = SonicStream::FRESH_SETTING;
-        stream.volume = SonicStream::FRESH_SETTING;
-        stream.sample_period = floats::settings::sample_period(rate);
-        stream.ties = u32::from(ties);
-        Opened::Done(stream)
+        Ok(SonicStream {
+            rate,
+            channels,
+            speed: SonicStream::FRESH_SETTING,
+            pitch: SonicStream::FRESH_SETTING,
+            volume: SonicStream::FRESH_SETTING,
+            sample_period: floats::settings::sample_period(rate),
+            ties: u32::from(ties),
+            ..SonicStream::ZERO
+        })
     }
 }

@@ -6,55 +6,36 @@ ghost use Rattle.stream.specs.Refusals.{limits_in_order, settings_in_order, prev
 ghost use Rattle.stream.specs.Order.{order_of};
 
 use crate::SonicStream;
-
-// Not in order; or in order, with the sample period that the rate gives.
-#[derive(Clone, Copy)]
-pub enum Order {
-    Bad,
-    Good(f32),
-}
+use rate::Rates;
 
 // Whether rate and channels are in range.
+#[tactic(auto, unfolding(crate::specs::Refusals::limits_in_order, crate::specs::Refusals::rate_bad, crate::specs::Refusals::channels_bad))]
 fn limits_in_order(stream: SonicStream) -> bool
     ensures { result ≡ limits_in_order stream }
 {
-    if stream.rate < SonicStream::MIN_RATE || stream.rate > SonicStream::MAX_RATE {
-        return false;
-    }
-    if stream.channels < SonicStream::MIN_CHANNELS {
-        return false;
-    }
-    stream.channels <= SonicStream::MAX_CHANNELS
+    (SonicStream::MIN_RATE..=SonicStream::MAX_RATE).contains(&stream.rate)
+        && (SonicStream::MIN_CHANNELS..=SonicStream::MAX_CHANNELS).contains(&stream.channels)
 }
 
 // Whether speed, pitch and volume are in their ranges. A NaN is not.
+#[tactic(auto, unfolding(crate::specs::Refusals::settings_in_order))]
 fn settings_in_order(stream: SonicStream) -> bool
     ensures { result ≡ settings_in_order stream }
 {
-    if stream.speed >= SonicStream::MIN_SPEED && stream.speed <= SonicStream::MAX_SPEED {} else {
-        return false;
-    }
-    if stream.pitch >= SonicStream::MIN_PITCH && stream.pitch <= SonicStream::MAX_PITCH {} else {
-        return false;
-    }
-    stream.volume >= SonicStream::MIN_VOLUME && stream.volume <= SonicStream::MAX_VOLUME
+    (SonicStream::MIN_SPEED..=SonicStream::MAX_SPEED).contains(&stream.speed)
+        && (SonicStream::MIN_PITCH..=SonicStream::MAX_PITCH).contains(&stream.pitch)
+        && (SonicStream::MIN_VOLUME..=SonicStream::MAX_VOLUME).contains(&stream.volume)
 }
 
 // Whether the previous period is 0 or in the range of the rate, and the previous least mean one of 16-bit differences.
+#[tactic(auto, unfolding(crate::specs::Refusals::prev_in_order))]
 fn prev_in_order(stream: SonicStream) -> bool
     ensures { result ≡ prev_in_order stream }
 {
     let rate = stream.rate as usize;
     let period = stream.prev_period;
-    if period != 0 {
-        if period < period::min_period(rate) {
-            return false;
-        }
-        if period > period::max_period(rate) {
-            return false;
-        }
-    }
-    stream.prev_min_diff <= SonicStream::MAX_MIN_DIFF
+    (period == 0 || (period::min_period(rate)..=period::max_period(rate)).contains(&period))
+        && stream.prev_min_diff <= SonicStream::MAX_MIN_DIFF
 }
 
 // Whether p is below O and n the least whole number with n·O at least p·N: for p = 0, whether n is 0.
@@ -66,36 +47,24 @@ fn positions_in_order(stream: SonicStream) -> bool
     if position == 0 {
         return stream.new_rate_position == 0;
     }
-    let rates = rate::rates_of(stream.rate, stream.pitch);
-    let new = rates.new;
-    let old = rates.old;
-    if position >= old {
-        return false;
-    }
-    stream.new_rate_position == (position * new + (old - 1)) / old
+    let Rates { new, old } = rate::rates_of(stream.rate, stream.pitch);
+    position < old && stream.new_rate_position == (position * new).div_ceil(old)
 }
 
 impl SonicStream {
-    // Whether the stream is in order. A call computes T here and nowhere else.
-    pub fn ordered(self) -> Order
+    // The sample period that the rate gives, of a stream in order. A call computes T here and nowhere else.
+    #[tactic(auto, using(crate::proofs::InOrder::limits_range), unfolding(crate::specs::Order::order_of, crate::specs::Refusals::is_in_order, crate::specs::Refusals::period_in_order))]
+    pub fn ordered(self) -> Option<f32>
         ensures { result ≡ order_of self }
     {
         if !limits_in_order(self) {
-            return Order::Bad;
+            return None;
         }
         let period = floats::settings::sample_period(self.rate);
-        if self.sample_period == period {} else {
-            return Order::Bad;
-        }
-        if !settings_in_order(self) {
-            return Order::Bad;
-        }
-        if !prev_in_order(self) {
-            return Order::Bad;
-        }
-        if !positions_in_order(self) {
-            return Order::Bad;
-        }
-        Order::Good(period)
+        let in_order = self.sample_period == period
+            && settings_in_order(self)
+            && prev_in_order(self)
+            && positions_in_order(self);
+        in_order.then_some(period)
     }
 }

@@ -2,58 +2,57 @@
 ghost use Rattle.std.specs.Prelude.{◌≡◌};
 ghost use Rattle.stream.specs.Settings.{set_call, available_call};
 
-use crate::{Available, Changed, Order, Setting, SonicStream, refusals};
+use crate::{Refusal, Refused, Setting, SonicStream};
+use floats::settings::clamp;
+use frames::Frames;
 
 impl SonicStream {
     // Changes a setting: held to its range, a NaN to the lower end. A pitch, even the same, puts the positions to 0.
-    pub fn set(mut self, setting: Setting) -> Changed
+    pub fn set(self, setting: Setting) -> Result<SonicStream, Refused>
         ensures { result ≡ set_call self setting }
     {
-        let order = self.ordered();
-        let Order::Good(period) = order else {
-            return Changed::Refused(refusals::BAD_STREAM, self);
+        let Some(sample_period) = self.ordered() else {
+            return Err(Refused {
+                refusal: Refusal::BadStream,
+                stream: self,
+            });
         };
-        self.sample_period = period;
-        match setting {
-            Setting::Speed(x) => {
-                self.speed = floats::settings::clamp(
-                    x,
-                    SonicStream::MIN_SPEED,
-                    SonicStream::MAX_SPEED,
-                );
-            }
-            Setting::Pitch(x) => {
-                self.pitch = floats::settings::clamp(
-                    x,
-                    SonicStream::MIN_PITCH,
-                    SonicStream::MAX_PITCH,
-                );
-                self.old_rate_position = SonicStream::FRESH_POSITION;
-                self.new_rate_position = SonicStream::FRESH_POSITION;
-            }
-            Setting::Volume(x) => {
-                self.volume = floats::settings::clamp(
-                    x,
-                    SonicStream::MIN_VOLUME,
-                    SonicStream::MAX_VOLUME,
-                );
-            }
-            Setting::StepOver(on) => {
-                self.step_over = on as u32;
-            }
-        }
-        Changed::Done(self)
+        let stream = SonicStream {
+            sample_period,
+            ..self
+        };
+        Ok(match setting {
+            Setting::Speed(x) => SonicStream {
+                speed: clamp(x, SonicStream::MIN_SPEED, SonicStream::MAX_SPEED),
+                ..stream
+            },
+            Setting::Pitch(x) => SonicStream {
+                pitch: clamp(x, SonicStream::MIN_PITCH, SonicStream::MAX_PITCH),
+                old_rate_position: SonicStream::FRESH_POSITION,
+                new_rate_position: SonicStream::FRESH_POSITION,
+                ..stream
+            },
+            Setting::Volume(x) => SonicStream {
+                volume: clamp(x, SonicStream::MIN_VOLUME, SonicStream::MAX_VOLUME),
+                ..stream
+            },
+            Setting::StepOver(on) => SonicStream {
+                step_over: on as u32,
+                ..stream
+            },
+        })
     }
 
     // The frames ready to be read.
-    pub fn available_frames(self) -> Available
+    pub fn available_frames(self) -> Result<Frames, Refused>
         ensures { result ≡ available_call self }
     {
-        let order = self.ordered();
-        let Order::Good(_) = order else {
-            return Available::Refused(refusals::BAD_STREAM, self);
-        };
-        let waiting = self.waiting;
-        Available::Waiting(waiting)
+        match self.ordered() {
+            Some(_) => Ok(self.waiting),
+            None => Err(Refused {
+                refusal: Refusal::BadStream,
+                stream: self,
+            }),
+        }
     }
 }

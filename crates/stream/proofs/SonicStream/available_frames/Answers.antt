@@ -1,13 +1,13 @@
 -- `stream::SonicStream::available_frames` meets its contract. Assumes nothing.
-use mathlib.Core.Path.{sym, ◌∙◌}
+use Rattle.std.proofs.Common.{sym, ◌∙◌}
 use Rattle.stream.specs.Settings.{available_call}
 use Rattle.stream.proofs.InOrder.{good_of, bad-of}
 use Rattle.stream.proofs.SonicStream.available_frames.Goals as goal
 
-pub returns-in_default : goal.returns-in_default
+pub returns-in-Some : goal.returns-in-Some
 unfolding available_call
-returns-in_default c = simp (bad-of c.args.self (sym c.ordered-order.ensures ∙ c.in_default.is))
+returns-in-Some c = simp (good_of c.args.self _ (sym c.ordered.ensures ∙ c.in-Some.is)).0
 
-pub returns : goal.returns
+pub returns-in-None : goal.returns-in-None
 unfolding available_call
-returns c = simp (good_of c.args.self _ (sym c.ordered-order.ensures ∙ c.in-Good.is)).0
+returns-in-None c = simp (bad-of c.args.self (sym c.ordered.ensures ∙ c.in-None.is))
