@@ -69,7 +69,7 @@ def place_of(crate, refusal):
         with open(os.path.join("crates", crate, found["path"]), encoding="utf-8") as text:
             lines, end = text.readlines(), int(found["line"])
         # the line may be that of an attribute
-        while lines[end - 1].startswith("#["):
+        while lines[end - 1].lstrip().startswith("#["):
             end += 1
         above = [FUNCTION.match(line) for line in lines[:end]]
         return f"`{found['goal']}` of {[name[1] for name in above if name][-1]}"

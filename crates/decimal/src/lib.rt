@@ -1,7 +1,7 @@
 // Decimal numbers as ASCII text: digits, or digits, a point and digits. `specs/Decimal.antt` says what each text gives.
 #![tactic(auto)]
 
-ghost use Rattle.std.specs.Prelude.{◌≡◌, ◌==◌, ◌^◌, ◌≤◌};
+ghost use Rattle.std.specs.Prelude.{◌≡◌, ◌==◌, ◌≤◌, IfSome};
 ghost use Rattle.std.specs.List.{position};
 ghost use Rattle.decimal.specs.Decimal.{digits_from, whole_of, places_from, decimal_of, quotient, value_of};
 
@@ -11,76 +11,63 @@ const MOST_DIGITS: usize = 15;
 // Below this a number may take one digit more.
 const LIMIT: u64 = 100_000_000_000_000;
 
-// What a text of digits gives: its number.
-#[derive(Clone, Copy)]
-pub enum Digits {
-    Refused,
-    Number(u64),
+// A decimal number: its digits without the point, and how many of them stand behind the point.
+#[derive(Clone, Copy, Debug, PartialEq, Eq)]
+pub struct Decimal {
+    pub digits: u64,
+    pub places: usize,
 }
 
-// What a decimal number's text gives: its digits without the point, and how many of them stand behind the point.
-#[derive(Clone, Copy)]
-pub enum Decimal {
-    Refused,
-    Number(u64, usize),
-}
-
-// A decimal number as an f32.
-#[derive(Clone, Copy)]
-pub enum Value {
-    Refused,
-    Nearest(f32),
+impl Decimal {
+    // The digits over ten to the power of the places: the f64 nearest to it, and of that the nearest f32.
+    #[tactic(auto, unfolding(crate::specs::Decimal::quotient))]
+    fn divide(self) -> f32
+        requires { self.places ≤ 15 }
+        ensures { result ≡ quotient self.digits self.places }
+    {
+        let above = std::num::nearest_u64_to_f64(self.digits);
+        let below = std::num::nearest_u64_to_f64(10u64.pow(self.places as u32));
+        floats::casts::f64_to_f32(above / below)
+    }
 }
 
 // The number of the text's digits behind those of `before`.
-fn read_digits(before: u64, text: &[u8]) -> Digits
+fn read_digits(before: u64, text: &[u8]) -> Option<u64>
     ensures { result ≡ digits_from before text.now }
 {
     let mut n = before;
-    let mut i: usize = 0;
-    while i < text.len() {
-        let b = text[i];
-        if b < b'0' {
-            return Digits::Refused;
+    for &b in text {
+        if !b.is_ascii_digit() || n >= LIMIT {
+            return None;
         }
-        if b > b'9' {
-            return Digits::Refused;
-        }
-        if n >= LIMIT {
-            return Digits::Refused;
-        }
-        let d = b - b'0';
-        n = n * 10 + (d as u64);
-        i += 1;
+        n = n * 10 + (b - b'0') as u64;
     }
-    Digits::Number(n)
+    Some(n)
 }
 
 // A whole number: one digit or more.
-pub fn read_whole(text: &[u8]) -> Digits
+#[tactic(auto, unfolding(crate::specs::Decimal::whole_of))]
+pub fn read_whole(text: &[u8]) -> Option<u64>
     ensures { result ≡ whole_of text.now }
 {
-    if text.len() == 0 {
-        return Digits::Refused;
+    if text.is_empty() {
+        return None;
     }
     read_digits(0, text)
 }
 
 // The digits behind a point, and the number of all digits.
-fn read_places(whole: u64, text: &[u8]) -> Decimal
-    ensures { result ≡ places_from whole text.now }
+#[tactic(auto, unfolding(crate::specs::Decimal::places_from))]
+fn read_places(whole: u64, text: &[u8]) -> Option<Decimal>
+    ensures value { result ≡ places_from whole text.now }
+    ensures few_places { IfSome result (λ d. d.places ≤ 15) }
 {
     let places = text.len();
-    if places == 0 {
-        return Decimal::Refused;
+    if places == 0 || places > MOST_DIGITS {
+        return None;
     }
-    if places > MOST_DIGITS {
-        return Decimal::Refused;
-    }
-    match read_digits(whole, text) {
-        Digits::Refused => Decimal::Refused,
-        Digits::Number(n) => Decimal::Number(n, places),
-    }
+    let digits = read_digits(whole, text)?;
+    Some(Decimal { digits, places })
 }
 
 // The place of the first such byte.
@@ -91,52 +78,28 @@ fn find(text: &[u8], byte: u8) -> Option<usize>
 }
 
 // A decimal number.
-pub fn read_decimal(text: &[u8]) -> Decimal
-    ensures { result ≡ decimal_of text.now }
+#[tactic(auto, unfolding(crate::specs::Decimal::decimal_of))]
+pub fn read_decimal(text: &[u8]) -> Option<Decimal>
+    ensures value { result ≡ decimal_of text.now }
+    ensures few_places { IfSome result (λ d. d.places ≤ 15) }
 {
-    let point = find(text, b'.').unwrap_or(text.len());
-    match read_whole(&text[..point]) {
-        Digits::Refused => Decimal::Refused,
-        Digits::Number(whole) => {
-            if point == text.len() {
-                return Decimal::Number(whole, 0);
-            }
-            let from = point + 1;
-            read_places(whole, &text[from..])
+    match find(text, b'.') {
+        None => {
+            let digits = read_whole(text)?;
+            Some(Decimal { digits, places: 0 })
+        }
+        Some(point) => {
+            let whole = read_whole(&text[..point])?;
+            read_places(whole, &text[point + 1..])
         }
     }
 }
 
-// Ten to the power of k.
-fn power_of_ten(k: usize) -> u64
-    requires { k ≤ 15 }
-    ensures { result ≡ 10 ^ k }
-{
-    let mut p: u64 = 1;
-    let mut i: usize = 0;
-    while i < k {
-        p = p * 10;
-        i += 1;
-    }
-    p
-}
-
-// n over ten to the power of k: the f64 nearest to it, and of that the nearest f32.
-fn divide(n: u64, k: usize) -> f32
-    requires { k ≤ 15 }
-    ensures { result ≡ quotient n k }
-{
-    let above = std::num::nearest_u64_to_f64(n);
-    let below = std::num::nearest_u64_to_f64(power_of_ten(k));
-    floats::casts::f64_to_f32(above / below)
-}
-
 // A decimal number as an f32.
-pub fn read_value(text: &[u8]) -> Value
+#[tactic(auto, unfolding(crate::specs::Decimal::value_of))]
+pub fn read_value(text: &[u8]) -> Option<f32>
     ensures { result ≡ value_of text.now }
 {
-    match read_decimal(text) {
-        Decimal::Refused => Value::Refused,
-        Decimal::Number(n, k) => Value::Nearest(divide(n, k)),
-    }
+    let number = read_decimal(text)?;
+    Some(number.divide())
 }
