@@ -14,6 +14,7 @@ use lib.IntN.{ℤ}
 use lib.Ieee.{Float}
 use lib.ListN.{length, take, drop, length-map}
 use lib.Seq.{paste, drop-paste}
+use Rattle.std.specs.Prelude.{Ok, Err}
 use Rattle.frames.specs.Framing.{frames_of}
 use Rattle.frames.specs.Removal.{FrontRemoved}
 use Rattle.frames.proofs.Framing.{frames_of-cong, frames_of-map, take-frames_of}
@@ -23,10 +24,10 @@ use Rattle.frames.proofs.Room.{samples-le}
 use Rattle.floats.specs.Write.{sample_out}
 use Rattle.stream.specs.declared.SonicStream.{SonicStream}
 use Rattle.stream.specs.Stream.{stream_of, unlent}
-use Rattle.stream.specs.Refusals.{bad_stream, bad_areas, is_in_order, output_bad, read_refusal}
+use Rattle.stream.specs.declared.refusal.Refusal.TheVariants.{BadStream, BadAreas}
+use Rattle.stream.specs.Refusals.{is_in_order, output_bad, read_refusal}
 use Rattle.stream.proofs.InOrder.{limits_of}
 use Rattle.stream.proofs.AreaTests.{output-of}
-use Rattle.read.specs.declared.Gave.{Gave}
 use Rattle.read.specs.Reading.{read_count, read_call, ReadEnsures}
 
 -- n frames may be given
@@ -92,7 +93,7 @@ module _ {s : SonicStream} {n : ℕ} {slice : List Float} {output : List ℤ} (g
 pub given-ensures : (s t : SonicStream) (most n : ℕ) (slice exit : List Float) (output area : List ℤ) → is_in_order s ≡ true → output_bad s output ≡ false
     → n ≡ read_count s most slice → t ≡ stream_of (unlent s) (s.waiting.0 - n) → exit ≡ paste slice 0 (map sample_out output) (n * s.channels)
     → FrontRemoved (n * s.channels) ((s.waiting.0 - n) * s.channels) output area
-    → ReadEnsures s.channels (read_call s most slice output) (Gave.Done (record { 0 = n }) t) slice exit area
+    → ReadEnsures s.channels (read_call s most slice output) (Ok (record { frames = record { 0 = n }; stream = t })) slice exit area
 unfolding read_call read_refusal stream_of
 given-ensures s t most n slice exit output area o b e is slice_is moved =
     let g = givable s most n slice output o b e in
@@ -100,11 +101,11 @@ given-ensures s t most n slice exit output area o b e is slice_is moved =
 
 -- refused: nothing is given, nothing changes
 pub stream-refused : (s : SonicStream) (most : ℕ) (slice : List Float) (output : List ℤ) → is_in_order s ≡ false
-    → ReadEnsures s.channels (read_call s most slice output) (Gave.Refused bad_stream s) slice slice output
+    → ReadEnsures s.channels (read_call s most slice output) (Err (record { refusal = BadStream; stream = s })) slice slice output
 unfolding read_call read_refusal frames_of
 stream-refused s most slice output o = rw o (record { answer = refl; given = refl; rest = refl; output = refl })
 
 pub output-refused : (s : SonicStream) (most : ℕ) (slice : List Float) (output : List ℤ) → is_in_order s ≡ true → output_bad s output ≡ true
-    → ReadEnsures s.channels (read_call s most slice output) (Gave.Refused bad_areas s) slice slice output
+    → ReadEnsures s.channels (read_call s most slice output) (Err (record { refusal = BadAreas; stream = s })) slice slice output
 unfolding read_call read_refusal frames_of
 output-refused s most slice output o b = rw (o, b) (record { answer = refl; given = refl; rest = refl; output = refl })

@@ -8,25 +8,18 @@ ghost use Rattle.read.specs.Reading.{read_count, read_call, ReadEnsures};
 
 use frames::{Frames, Samples};
 use stream::areas::output_bad;
-use stream::{Order, SonicStream, refusals};
+use stream::{Refusal, Refused, SonicStream};
 
-// A read's answer: the frames given. A refusal carries its number and the entering stream.
+// An accepted read's answer: the frames given, and the stream without them.
 #[derive(Clone, Copy)]
-pub enum Gave {
-    Refused(u32, SonicStream),
-    Done(Frames, SonicStream),
-}
-
-// The smaller of two counts.
-fn fewest(a: Frames, b: Frames) -> Frames
-    ensures { result.0 ≡ min a.0 b.0 }
-{
-    if a.0 <= b.0 { a } else { b }
+pub struct Gave {
+    pub frames: Frames,
+    pub stream: SonicStream,
 }
 
 // Gives the first n frames waiting. The period is that of the rate.
 fn give(
-    mut stream: SonicStream,
+    stream: SonicStream,
     period: f32,
     most: Frames,
     n: Frames,
@@ -36,33 +29,47 @@ fn give(
     requires stream_value { (is_in_order stream ≡ true) × (period ≡ sample_period stream.rate) }
     requires output_value { (output_bad stream output.old ≡ false) × (n.0 ≡ read_count stream most.0 slice.old) }
     ensures { ReadEnsures stream.channels
-        (read_call stream most.0 slice.old output.old) result
+        (read_call stream most.0 slice.old output.old) (Ok result)
         slice.old slice.new output.new }
 {
     let channels = stream.channels as usize;
     let left = Frames(stream.waiting.0 - n.0);
     floats::samples::samples_out(output, n.samples(channels), slice);
     frames::remove_front(output, n.samples(channels), left.samples(channels));
-    stream.sample_period = period;
-    stream.waiting = left;
-    Gave::Done(n, stream)
+    Gave {
+        frames: n,
+        stream: SonicStream {
+            sample_period: period,
+            waiting: left,
+            ..stream
+        },
+    }
 }
 
 // Gives frames waiting, at most `most`, at the front of the slice.
-pub fn read_f32(stream: SonicStream, most: Frames, slice: &mut [f32], output: &mut [i16]) -> Gave
+pub fn read_f32(
+    stream: SonicStream,
+    most: Frames,
+    slice: &mut [f32],
+    output: &mut [i16],
+) -> Result<Gave, Refused>
     ensures { ReadEnsures stream.channels
         (read_call stream most.0 slice.old output.old) result
         slice.old slice.new output.new }
 {
-    let order = stream.ordered();
-    let Order::Good(period) = order else {
-        return Gave::Refused(refusals::BAD_STREAM, stream);
+    let Some(period) = stream.ordered() else {
+        return Err(Refused {
+            refusal: Refusal::BadStream,
+            stream,
+        });
     };
     if output_bad(stream, output) {
-        return Gave::Refused(refusals::BAD_AREAS, stream);
+        return Err(Refused {
+            refusal: Refusal::BadAreas,
+            stream,
+        });
     }
-    let waiting = stream.waiting;
     let whole = Samples(slice.len()).frames(stream.channels as usize);
-    let n = fewest(fewest(waiting, most), whole);
-    give(stream, period, most, n, slice, output)
+    let n = Frames(stream.waiting.0.min(most.0).min(whole.0));
+    Ok(give(stream, period, most, n, slice, output))
 }
