@@ -2,16 +2,14 @@
 --   period-most, shortest-least, shortest-most            the periods
 --   growth-least, fill-most                               the growth, and what a write fills the input up to
 --   block_within, rates-in, limit-most                    what the limit is made of
---   planned, unserved                                     the service by its test
---   usable-of                                             what a plan has shown
+--   every-usable                                          every plan is usable
 -- Assumes nothing.
-use mathlib.Core.Path.{◌≡◌, refl, subst}
+use mathlib.Core.Path.{◌≡◌}
 use mathlib.Core.Bool.{Bool, true, false, cond}
 use Prim.Native.Nat.{ℕ, ◌+◌, ◌-◌, ◌*◌, ◌/◌, ◌≤◌}
 use native.Mathlib.Nat.{le_trans, div-le_self, div-mul-le_self, div-lt_iff_lt-mul, le-div_iff_mul-le, min-le_left, min-le_right}
 use native.Mathlib.Omega.{arith}
 use lib.Dec.{leb}
-use borrow.Author.Tests.{leb-true}
 use lib.Ieee.{Float, binary32, div, to_unsigned}
 use Rattle.floats.specs.Settings.{min_pitch, max_pitch}
 use Rattle.period.specs.Rates.{min_period, max_period, max_required, InLimits}
@@ -22,9 +20,8 @@ use Rattle.stream.specs.declared.SonicStream.{SonicStream}
 use Rattle.stream.specs.Refusals.{is_in_order}
 use Rattle.stream.proofs.InOrder.{limits_of, tests-of, ranges-of, within-range}
 use Rattle.plans.specs.declared.Plan.{Plan}
-use Rattle.plans.specs.declared.Service.{Service}
 use Rattle.plans.specs.Plans.{input_area, block_samples}
-use Rattle.plans.specs.Plans.{growth_of, fill_to, held_most, limit_of, served, plan_of, service_of, Usable}
+use Rattle.plans.specs.Plans.{growth_of, fill_to, held_most, limit_of, Usable}
 
 -- ---- periods, growth, filling
 
@@ -41,7 +38,7 @@ growth-least speed pitch longest = omega arith
 pub shortest-most : (rate : ℕ) → min_period rate ≤ max_required rate
 shortest-most rate = omega arith
 
-fill-most : (speed pitch : Float) (shortest required : ℕ) → shortest ≤ required → fill_to speed pitch shortest required ≤ 3 * required
+pub fill-most : (speed pitch : Float) (shortest required : ℕ) → shortest ≤ required → fill_to speed pitch shortest required ≤ 3 * required
 unfolding fill_to
 fill-most speed pitch shortest required few = go (leb shortest s)
   where
@@ -73,32 +70,15 @@ unfolding limit_of
 limit-most s =
     le_trans (min-le_right (held_most s) _) (le_trans (min-le_left (input_area / s.channels) _) (div-le_self input_area s.channels))
 
--- ---- the service
+-- ---- plans
 
-module _ (s : SonicStream) where
-  pub planned : leb (3 * max_required s.rate) (limit_of s) ≡ true → Service.Planned (plan_of s) ≡ service_of s
-  unfolding service_of
-  planned e = rw e
-
-  pub unserved : leb (3 * max_required s.rate) (limit_of s) ≡ false → Service.None ≡ service_of s
-  unfolding service_of
-  unserved e = rw e
-
-  plan-usable : InLimits s.rate s.channels → served s ≡ true → Usable (plan_of s)
-  plan-usable l e =
-      record {
-        limits = l;
-        block_fits = div-mul-le_self block_samples s.channels;
-        required_some = omega (arith, l.rate_low);
-        full_fits = fill-most s.speed s.pitch (min_period s.rate) (max_required s.rate) (shortest-most s.rate);
-        calls_fit = leb-true (3 * max_required s.rate) (limit_of s) e;
-        limit_fits = limit-most s;
-      }
-
-  pub usable-of : (p : Plan) → InLimits s.rate s.channels → service_of s ≡ Service.Planned p → Usable p
-  unfolding service_of
-  usable-of p l = go (served s) refl
-    where
-      go : (b : Bool) → served s ≡ b → cond b (Service.Planned (plan_of s)) Service.None ≡ Service.Planned p → Usable p
-      go true t e = let same : plan_of s ≡ p = cc in subst Usable same (plan-usable l t)
-      go false t e = let z : ◌≡◌ {A = ℕ} 0 1 = cc in absurd (omega arith)
+pub every-usable : (p : Plan) → Usable p
+every-usable p =
+    record {
+      limits = p.limits;
+      block_fits = p.block_fits;
+      required_some = p.required_some;
+      full_fits = p.full_fits;
+      calls_fit = p.calls_fit;
+      limit_fits = p.limit_fits;
+    }

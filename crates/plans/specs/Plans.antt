@@ -1,5 +1,5 @@
 -- The areas' sizes, the jobs that they serve, and how these are done. Definitions only. Assumes nothing.
-use Rattle.std.specs.Prelude.{Bool, false, cond, ℕ, ◌+◌, ◌-◌, ◌*◌, ◌/◌, ◌≤◌, min, leb, pos, Float}
+use Rattle.std.specs.Prelude.{Bool, true, false, cond, ℕ, ◌+◌, ◌-◌, ◌*◌, ◌/◌, ◌≡◌, ◌≤◌, min, leb, pos, Float, Option, None, Some}
 use Rattle.std.specs.Float.{fin, binary32}
 use Rattle.std.specs.Float.Ieee.{mul, div, le, to_unsigned}
 use Rattle.floats.specs.Numbers.{half}
@@ -7,7 +7,6 @@ use Rattle.period.specs.Rates.{min_period, max_period, max_required, InLimits}
 use Rattle.rate.specs.Halving.{rates_of}
 use Rattle.stream.specs.declared.SonicStream.{SonicStream}
 use Rattle.plans.specs.declared.Plan.{Plan}
-use Rattle.plans.specs.declared.Service.{Service}
 
 -- ---- sizes: the constants of src/lib.rt
 
@@ -84,24 +83,22 @@ limit_of s =
 abbrev pub served : SonicStream → Bool
 served s = leb (3 * max_required s.rate) (limit_of s)
 
--- blocks of whole frames
-abbrev pub plan_of : SonicStream → Plan
-plan_of s =
-    record {
-      rate = s.rate;
-      channels = s.channels;
-      block = block_samples / s.channels * s.channels;
-      full = fill_to s.speed s.pitch (min_period s.rate) (max_required s.rate);
-      required = max_required s.rate;
-      limit = limit_of s;
-      small = is_small s;
-    }
+-- p is the plan of a job: blocks of whole frames
+pub record IsPlanOf (s : SonicStream) (p : Plan) : Type 0 where
+  pub rate_is : p.rate ≡ s.rate
+  pub channels_is : p.channels ≡ s.channels
+  pub block_is : p.block ≡ block_samples / s.channels * s.channels
+  pub full_is : p.full ≡ fill_to s.speed s.pitch (min_period s.rate) (max_required s.rate)
+  pub required_is : p.required ≡ max_required s.rate
+  pub limit_is : p.limit ≡ limit_of s
+  pub small_is : p.small ≡ is_small s
 
 -- the plan of a job that the areas serve
-unfoldable pub service_of : SonicStream → Service
-service_of s = cond (served s) (Service.Planned (plan_of s)) Service.None
+abbrev pub IsServiceOf : SonicStream → Option Plan → Type 0
+IsServiceOf s None = served s ≡ false
+IsServiceOf s (Some p) = (served s ≡ true) × IsPlanOf s p
 
--- what the stretching asks of a plan
+-- what the stretching asks of a plan: what every plan has (its ghost fields)
 pub record Usable (p : Plan) : Type 0 where
   pub limits : InLimits p.rate p.channels
   pub block_fits : p.block ≤ block_samples

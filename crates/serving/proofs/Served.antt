@@ -4,7 +4,7 @@
 --   work-fits                 refusals 3 to 7 are not met
 --   work-same, work-steady    the stream after it is of the same job, and steady
 -- Assumes nothing.
-use mathlib.Core.Path.{◌≡◌, refl, ap, ◌∙◌}
+use mathlib.Core.Path.{◌≡◌, refl, sym, ap, ◌∙◌}
 use mathlib.Core.Bool.{Bool, true, false, cond}
 use mathlib.Core.Logic.{◌⊎◌, inl, inr, ⊎_elim}
 use mathlib.Core.List.{List}
@@ -39,7 +39,8 @@ use Rattle.adding.specs.Calls.{refusal_of}
 use Rattle.adding.proofs.Adding.{work_of}
 use Rattle.adding.proofs.Room.{added-held}
 use Rattle.adding.proofs.Accepting.{areas-bad-of, total-alone}
-use Rattle.plans.specs.Plans.{input_area, stage_area, output_area, block_samples, tail_frames, is_small, growth_of, output_room, held_most, limit_of, plan_of}
+use Rattle.plans.specs.declared.Plan.{Plan}
+use Rattle.plans.specs.Plans.{input_area, stage_area, output_area, block_samples, tail_frames, is_small, growth_of, output_room, held_most, limit_of, IsPlanOf}
 use Rattle.plans.proofs.Sizes.{stage-most, output-least, output-most}
 use Rattle.serving.specs.Steady.{Steady, AreasSized, SameJob, WriteWent}
 use Rattle.serving.proofs.Room.{limit-input, limit-stage, limit-output, block-waits}
@@ -56,8 +57,17 @@ unfolding limit_of output_room
 limit-same s t j = rw (small_same s t j, j.rate, j.channels, j.speed, j.pitch)
 
 -- and one plan
-pub plan-same : (s t : SonicStream) → SameJob s t → plan_of t ≡ plan_of s
-plan-same s t j = rw (limit-same s t j, small_same s t j, j.rate, j.channels, j.speed, j.pitch)
+pub plan-same : (s t : SonicStream) → SameJob s t → (p : Plan) → IsPlanOf s p → IsPlanOf t p
+plan-same s t j p e =
+    record {
+      rate_is = e.rate_is ∙ sym j.rate;
+      channels_is = e.channels_is ∙ sym j.channels;
+      block_is = rw j.channels e.block_is;
+      full_is = rw (j.speed, j.pitch, j.rate) e.full_is;
+      required_is = rw j.rate e.required_is;
+      limit_is = e.limit_is ∙ sym (limit-same s t j);
+      small_is = e.small_is ∙ sym (small_same s t j);
+    }
 
 -- for which the growth is a bound
 limit-held : (s : SonicStream) → limit_of s ≤ held_most s
