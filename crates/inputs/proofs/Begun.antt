@@ -1,39 +1,51 @@
--- A block that begins with the bytes of a number: one byte more, a change or other bytes behind them; and how long a block is. Assumes nothing.
-use mathlib.Core.Path.{◌≡◌, sym, ap, ◌∙◌}
-use mathlib.Core.Bool.{Bool, true, false, cond}
-use mathlib.Core.List.{List, ◌++◌}
-use Prim.Native.Nat.{ℕ, ◌+◌, ◌/◌, ◌%◌, ◌^◌, ◌≤◌, ◌<◌, min}
-use native.Mathlib.Nat.{div-div-eq-div-mul, mul_comm, pow-succ', min-le_right, le_refl}
-use native.Mathlib.Numerals.{add-one}
-use native.Mathlib.Omega.{arith}
-use borrow.Author.Count.{below_more}
-use lib.ListN.{length, get_or, set, take, get_or-append}
-use lib.Seq.{get_or-set_same, get_or-set_other, get_or-take}
+-- A block that begins with the bytes of a number: what is put there, and other bytes behind them; and how long a block is. Assumes nothing.
+use Rattle.std.proofs.Common.{◌≡◌, refl, sym, ap, ◌∙◌, ⊎_elim, ℕ, zero, suc, ◌-◌, ◌+◌, ◌/◌, ◌%◌, ◌^◌, ◌≤◌, ◌<◌, min, List, ◌++◌, length, replicate, get_or, take, drop, arith, div-one}
+use Rattle.std.proofs.lemmas.Bool.{cases_lt}
+use Rattle.std.proofs.lemmas.List.{length-replicate, length-take, get_or-replicate, get_or-take, get_or-drop, get_or-append_right}
+use Rattle.std.proofs.Math.Nat.{div-eq_of_lt, pow-le-pow_right, min-le_right, le_refl}
+use Rattle.std.specs.Int.{to_le_bytes, w32}
+use lib.ListN.{get_or-append}
 use Rattle.inputs.specs.declared.Source.{Source}
+use Rattle.inputs.specs.declared.Source.TheVariants.{Raw, Wave}
 use Rattle.inputs.specs.Sources.{block_of, Begins}
 
-module _ (number n : ℕ) (block : List ℕ) where
-  pub begins-more : n < length block → Begins number n block → Begins number (n + 1) (set block n (number / 256 ^ n % 256))
-  begins-more h b =
-      let v = number / 256 ^ n % 256 in
-      record {
-        byte =
-            below_more (λ (k : ℕ). get_or (set block n v) k 0 ≡ number / 256 ^ k % 256) n
-            (λ k l. get_or-set_other block n k v 0 (λ e. omega arith) ∙ b.byte k l)
-            (get_or-set_same block n v 0 h);
-      }
+-- a byte of a number of 32 bits
+le-byte : (number i : ℕ) → i < 4 → get_or (to_le_bytes w32 number) i 0 ≡ number / 256 ^ i % 256
+le-byte number zero l = ap (λ (n : ℕ). n % 256) (sym (div-one number))
+le-byte number (suc zero) l = refl
+le-byte number (suc (suc zero)) l = refl
+le-byte number (suc (suc (suc zero))) l = refl
+le-byte number (suc (suc (suc (suc i)))) l = absurd (omega arith)
 
-  -- as long as the front stays
-  pub begins-kept : (a : ℕ) (after : List ℕ) → n ≤ a → take a after ≡ take a block → Begins number n block → Begins number n after
-  begins-kept a after h e b =
-      record {
-        byte =
-            λ i l. sym (get_or-take a after i 0 (omega arith)) ∙ ap (λ (x : List ℕ). get_or x i 0) e ∙ get_or-take a block i 0 (omega arith) ∙ b.byte i l;
-      }
+-- it has no fifth
+no-byte : (number i : ℕ) → number < 2 ^ 32 → 4 ≤ i → number / 256 ^ i % 256 ≡ 0
+no-byte number i h l =
+    let most : 256 ^ 4 ≤ 256 ^ i = pow-le-pow_right {n = 256} (omega arith) l in
+    let below : number < 256 ^ i = omega (arith, most) in
+    ap (λ (n : ℕ). n % 256) (div-eq_of_lt below)
 
-pub next-byte : (number n : ℕ) → number / 256 ^ n / 256 ≡ number / 256 ^ (n + 1)
-next-byte number n =
-    div-div-eq-div-mul number (256 ^ n) 256 ∙ ap (λ (k : ℕ). number / k) (mul_comm (256 ^ n) 256 ∙ sym (pow-succ' 256 n) ∙ ap (λ (k : ℕ). 256 ^ k) (sym (add-one n)))
+-- its first k bytes, and zeros behind them
+pub begins-bytes : (number n k m : ℕ) (bytes zeros rest : List ℕ) → number < 2 ^ 32 → k ≡ min n 4 → n ≤ m
+    → bytes ≡ take k (to_le_bytes w32 number) → zeros ≡ replicate m 0 → Begins number n (bytes ++ drop k (zeros ++ rest))
+begins-bytes number n k m bytes zeros rest h e enough first other = rw (first, other) (record { byte = at })
+  where
+    front : List ℕ
+    front = take k (to_le_bytes w32 number)
+
+    long : length front ≡ k
+    long = simp length-take (omega arith)
+
+    at : (i : ℕ) → i < n → get_or (front ++ drop k (replicate m 0 ++ rest)) i 0 ≡ number / 256 ^ i % 256
+    at i l =
+        ⊎_elim (λ (w : i < k).
+        get_or-append front _ 0 i (omega (arith, long)) ∙ get_or-take k (to_le_bytes w32 number) i 0 w ∙ le-byte number i (omega arith))
+        (λ (w : k ≤ i).
+        get_or-append_right front _ k i 0 long w
+        ∙ get_or-drop k (replicate m 0 ++ rest) (i - k) 0
+        ∙ get_or-append (replicate m 0) rest 0 (k + (i - k)) (omega (arith, length-replicate {A = ℕ} m 0))
+        ∙ get_or-replicate m (k + (i - k)) 0 0 (omega arith)
+        ∙ sym (no-byte number i h (omega arith)))
+        (cases_lt i k)
 
 -- what stands behind the block does not matter
 pub begins-front : (number n : ℕ) (block rest : List ℕ) → n ≤ length block → Begins number n block → Begins number n (block ++ rest)
@@ -42,8 +54,5 @@ begins-front number n block rest h b = record { byte = λ i l. get_or-append blo
 -- a block is as long as was asked for, at the most
 pub block-most : (s : Source) (most : ℕ) → block_of s most ≤ most
 unfolding block_of
-block-most s most = go s.wave
-  where
-    go : (b : Bool) → cond b (min s.left most) most ≤ most
-    go true = min-le_right s.left most
-    go false = le_refl most
+block-most (Raw first ready) most = le_refl most
+block-most (Wave size left) most = min-le_right left most

@@ -2,55 +2,82 @@
 #![tactic(auto)]
 
 ghost use Rattle.std.specs.Prelude.{◌≡◌, ◌+◌, ◌≤◌, min, length, take};
-ghost use Rattle.inputs.specs.Sources.{raw_source, wave_source, block_of, source_after, Begins};
+ghost use Rattle.inputs.specs.Sources.{raw_source, wave_source, is_wave, size_of, left_of, first_of, ready_of};
+ghost use Rattle.inputs.specs.Sources.{block_of, source_after, Begins};
 
 use std::io::Read;
 
-// What the input is: raw PCM, or a WAVE file. Of that `size` is the size of its data chunk, and `left` are the bytes of
-// it that were not read yet; of raw PCM both are 0. The first bytes of raw PCM, up to four, are read to see what it is:
-// `first` is their number, the lowest byte first, and `ready` how many stand before what is read next.
-#[derive(Clone, Copy)]
-pub struct Source {
-    pub wave: bool,
-    pub size: u64,
-    pub left: u64,
-    pub first: u32,
-    pub ready: usize,
+// What the input is. The first bytes of raw PCM, up to four, are read to see what it is: `first` is their number, the
+// lowest byte first, and `ready` how many stand before what is read next. Of a WAVE file `size` is the size of its data
+// chunk, and `left` are the bytes of it that were not read yet.
+#[derive(Clone, Copy, Debug, PartialEq, Eq)]
+pub enum Source {
+    Raw { first: u32, ready: usize },
+    Wave { size: u64, left: u64 },
 }
 
 impl Source {
     // Raw PCM of which nothing was read.
-    pub const RAW: Source = Source {
-        wave: false,
-        size: 0,
-        left: 0,
-        first: 0,
-        ready: 0,
-    };
+    pub const RAW: Source = Source::Raw { first: 0, ready: 0 };
 
     // Raw PCM of which these bytes were read.
     pub fn begun(first: u32, ready: usize) -> Source
         ensures { result ≡ raw_source first ready }
     {
-        Source {
-            wave: false,
-            size: 0,
-            left: 0,
-            first,
-            ready,
-        }
+        Source::Raw { first, ready }
     }
 
     // A WAVE file whose samples come next.
     pub fn of_wave(size: u64) -> Source
         ensures { result ≡ wave_source size }
     {
-        Source {
-            wave: true,
-            size,
-            left: size,
-            first: 0,
-            ready: 0,
+        Source::Wave { size, left: size }
+    }
+
+    // Whether it is a WAVE file.
+    pub fn is_wave(self) -> bool
+        ensures { result ≡ is_wave self }
+    {
+        matches!(self, Source::Wave { .. })
+    }
+
+    // The size of the data chunk of a WAVE file, 0 of raw PCM.
+    pub fn size(self) -> u64
+        ensures { result ≡ size_of self }
+    {
+        match self {
+            Source::Raw { .. } => 0,
+            Source::Wave { size, .. } => size,
+        }
+    }
+
+    // The bytes of that which were not read yet, 0 of raw PCM.
+    pub fn left(self) -> u64
+        ensures { result ≡ left_of self }
+    {
+        match self {
+            Source::Raw { .. } => 0,
+            Source::Wave { left, .. } => left,
+        }
+    }
+
+    // The number of the first bytes of raw PCM, 0 of a WAVE file.
+    pub fn first(self) -> u32
+        ensures { result ≡ first_of self }
+    {
+        match self {
+            Source::Raw { first, .. } => first,
+            Source::Wave { .. } => 0,
+        }
+    }
+
+    // How many of them stand before what is read next, 0 of a WAVE file.
+    pub fn ready(self) -> usize
+        ensures { result ≡ ready_of self }
+    {
+        match self {
+            Source::Raw { ready, .. } => ready,
+            Source::Wave { .. } => 0,
         }
     }
 
@@ -58,76 +85,45 @@ impl Source {
     pub fn block(self, most: usize) -> usize
         ensures { result ≡ block_of self most }
     {
-        if !self.wave {
-            return most;
+        match self {
+            Source::Raw { .. } => most,
+            Source::Wave { left, .. } => (left as usize).min(most),
         }
-        least(self.left as usize, most)
     }
 
     // After a block of so many bytes.
     pub fn after(self, bytes: usize) -> Source
         ensures { result ≡ source_after bytes self }
     {
-        let read = bytes as u64;
-        Source {
-            wave: self.wave,
-            size: self.size,
-            left: if read < self.left {
-                self.left - read
-            } else {
-                0
+        match self {
+            Source::Raw { first, .. } => Source::Raw { first, ready: 0 },
+            Source::Wave { size, left } => Source::Wave {
+                size,
+                left: left.saturating_sub(bytes as u64),
             },
-            first: self.first,
-            ready: 0,
         }
     }
 }
 
-fn least(a: usize, b: usize) -> usize
-    ensures { result ≡ min a b }
-{
-    if a < b { a } else { b }
-}
-
-// What a block was filled with, and whether a read failed.
-#[derive(Clone, Copy)]
+// What a block was filled with, and whether a read failed. No Result: the bytes that came before a read that failed are
+// told too, and counted.
+#[derive(Clone, Copy, Debug, PartialEq, Eq)]
 pub struct BlockBytes {
     pub bytes: usize,
     pub failed: bool,
 }
 
-// Puts the bytes that stand ready at the front of the block, and answers how many.
+// Puts the bytes that stand ready at the front of the block, and answers how many. Behind the fourth they are zeros.
 fn begin(block: &mut [u8], first: u32, ready: usize) -> usize
-    ensures { (result ≡ min ready (length block.old)) × Begins first result block.new }
+    ensures count { result ≡ min ready (length block.old) }
+    ensures begins { Begins first result block.new }
 {
-    let most = least(ready, block.len());
-    let mut rest = first;
-    let mut have: usize = 0;
-    while have < most {
-        block[have] = (rest % 256) as u8;
-        rest = rest / 256;
-        have += 1;
-    }
+    let most = ready.min(block.len());
+    let bytes = first.to_le_bytes();
+    let known = most.min(bytes.len());
+    block[..most].fill(0);
+    block[..known].copy_from_slice(&bytes[..known]);
     most
-}
-
-// One read behind the first `have` bytes of a block, which stay.
-fn read_behind<R: Read>(reader: &mut R, block: &mut [u8], have: usize) -> BlockBytes
-    requires { have ≤ length block.old }
-    ensures { (have + result.bytes ≤ length block.old)
-        × (take have block.new ≡ take have block.old) }
-{
-    let part = &mut block[have..];
-    match reader.read(part) {
-        Ok(bytes) => BlockBytes {
-            bytes,
-            failed: false,
-        },
-        Err(_) => BlockBytes {
-            bytes: 0,
-            failed: true,
-        },
-    }
 }
 
 // Puts the bytes that stand ready at the front of the block, and reads until it is full, the input ends or a read
@@ -138,14 +134,16 @@ pub fn fill<R: Read>(reader: &mut R, block: &mut [u8], first: u32, ready: usize)
 {
     let mut have = begin(block, first, ready);
     while have < block.len() {
-        let got = read_behind(reader, block, have);
-        if got.bytes == 0 {
-            return BlockBytes {
-                bytes: have,
-                failed: got.failed,
-            };
+        match reader.read(&mut block[have..]) {
+            Ok(0) => break,
+            Ok(bytes) => have += bytes,
+            Err(_) => {
+                return BlockBytes {
+                    bytes: have,
+                    failed: true,
+                };
+            }
         }
-        have += got.bytes;
     }
     BlockBytes {
         bytes: have,

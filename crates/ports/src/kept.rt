@@ -1,6 +1,4 @@
 // A reader or a writer that keeps the last error it met, so that it can be told at the end of a run.
-ghost use Rattle.std.specs.Prelude.{◌≡◌};
-
 use std::io;
 use std::io::{Error, Read, Write};
 
@@ -38,13 +36,8 @@ impl<T: Read> Read for Kept<T> {
     ghost remaining = { λ s. T.remaining s.inner };
 
     fn read(&mut self, buf: &mut [u8]) -> io::Result<usize> {
-        match self.inner.read(buf) {
-            Ok(n) => Ok(n),
-            Err(e) => {
-                self.error = Some(e);
-                Err(e)
-            }
-        }
+        let answer = self.inner.read(buf);
+        answer.inspect_err(|e| self.error = Some(*e))
     }
 }
 
@@ -52,22 +45,12 @@ impl<T: Write> Write for Kept<T> {
     ghost contents = { λ s. T.contents s.inner };
 
     fn write(&mut self, buf: &[u8]) -> io::Result<usize> {
-        match self.inner.write(buf) {
-            Ok(n) => Ok(n),
-            Err(e) => {
-                self.error = Some(e);
-                Err(e)
-            }
-        }
+        let answer = self.inner.write(buf);
+        answer.inspect_err(|e| self.error = Some(*e))
     }
 
     fn flush(&mut self) -> io::Result<()> {
-        match self.inner.flush() {
-            Ok(()) => Ok(()),
-            Err(e) => {
-                self.error = Some(e);
-                Err(e)
-            }
-        }
+        let answer = self.inner.flush();
+        answer.inspect_err(|e| self.error = Some(*e))
     }
 }

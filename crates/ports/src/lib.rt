@@ -1,8 +1,9 @@
 // What a run of the skim tool reads from, writes to and tells by. `kept` has readers and writers that keep the last
-// error they met, and `standing` tells where a stream stands in its file.
+// error they met, `standing` tells where a stream stands in its file, and `naming` how long the name of a file may be.
 #![tactic(auto)]
 
 pub mod kept;
+pub mod naming;
 pub mod standing;
 
 use kept::Kept;

@@ -13,11 +13,19 @@ const ACCESS: u64 = 4;
 // The flag of a file that appends.
 const APPENDS: u64 = 0o2000;
 
-#[derive(Clone, Copy)]
+#[derive(Clone, Copy, Debug, PartialEq, Eq)]
 pub struct Place {
     pub at: u64,
     pub writes: bool,
     pub appends: bool,
+}
+
+// Standard input, standard output, or the descriptor of the status.
+#[derive(Clone, Copy, Debug, PartialEq, Eq)]
+pub enum Stream {
+    Input,
+    Output,
+    Status,
 }
 
 // What stands behind a word in one of the lines.
@@ -46,24 +54,23 @@ fn told_in(files: &impl Files, path: &str) -> Option<Place> {
     })
 }
 
-// The name of standard input, of standard output, or of the descriptor of the status, which opens its file anew.
-pub const INPUT: &str = "/proc/self/fd/0";
+impl Stream {
+    // Its name, which opens its file anew.
+    pub fn name(self) -> &'static str {
+        match self {
+            Stream::Input => "/proc/self/fd/0",
+            Stream::Output => "/proc/self/fd/1",
+            Stream::Status => "/proc/self/fd/3",
+        }
+    }
 
-pub const OUTPUT: &str = "/proc/self/fd/1";
-
-pub const STATUS: &str = "/proc/self/fd/3";
-
-// Where standard input stands, if that is known.
-pub fn of_input(files: &impl Files) -> Option<Place> {
-    told_in(files, "/proc/self/fdinfo/0")
-}
-
-// Where standard output stands, if that is known.
-pub fn of_output(files: &impl Files) -> Option<Place> {
-    told_in(files, "/proc/self/fdinfo/1")
-}
-
-// Where the descriptor of the status stands, if that is known.
-pub fn of_status(files: &impl Files) -> Option<Place> {
-    told_in(files, "/proc/self/fdinfo/3")
+    // Where it stands, if that is known.
+    pub fn place(self, files: &impl Files) -> Option<Place> {
+        let told = match self {
+            Stream::Input => "/proc/self/fdinfo/0",
+            Stream::Output => "/proc/self/fdinfo/1",
+            Stream::Status => "/proc/self/fdinfo/3",
+        };
+        told_in(files, told)
+    }
 }

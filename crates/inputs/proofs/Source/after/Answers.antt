@@ -1,14 +1,11 @@
-use Rattle.std.proofs.Common.{◌≡◌, ℕ, ◌-◌, refl, ap, arith}
+use Rattle.std.proofs.Common.{rules}
 use Rattle.inputs.specs.Sources.{source_after}
 use Rattle.inputs.proofs.Source.after.Goals as goal
 
-pub returns-then-read-self : goal.returns-then-read-self
+pub returns-in-Raw : goal.returns-in-Raw
 unfolding source_after
-returns-then-read-self c = refl
+returns-in-Raw c = search rules
 
-pub returns-else-read-self : goal.returns-else-read-self
+pub returns-in-Wave : goal.returns-in-Wave
 unfolding source_after
-returns-else-read-self c =
-    let a = c.args in
-    let none : 0 ≡ a.self.left - a.bytes = omega arith in
-    ap (λ (n : ℕ). record { wave = a.self.wave; size = a.self.size; left = n; first = a.self.first; ready = 0 }) none
+returns-in-Wave c = search rules

@@ -1,11 +1,11 @@
-use borrow.Author.Tests.{not-true, not-false}
+use Rattle.std.proofs.Common.{rules}
 use Rattle.inputs.specs.Sources.{block_of}
 use Rattle.inputs.proofs.Source.block.Goals as goal
 
-pub returns-then-not-self : goal.returns-then-not-self
+pub returns-in-Raw : goal.returns-in-Raw
 unfolding block_of
-returns-then-not-self c = rw (not-true c.args.self.wave c.if-not-self.true)
+returns-in-Raw c = search rules
 
-pub returns : goal.returns
+pub returns-in-Wave : goal.returns-in-Wave
 unfolding block_of
-returns c = rw (not-false c.args.self.wave c.if-not-self.false) c.least.ensures
+returns-in-Wave c = search rules
