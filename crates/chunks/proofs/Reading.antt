@@ -4,6 +4,7 @@
 -- Assumes nothing.
 use mathlib.Core.Path.{◌≡◌}
 use mathlib.Core.Bool.{true, false}
+use Rattle.std.specs.Prelude.{Some, None, Ok}
 use mathlib.Core.List.{List, ◌++◌}
 use Prim.Native.Nat.{ℕ, ◌+◌, ◌-◌, ◌/◌, ◌^◌, ◌≤◌, ◌<◌}
 use native.Mathlib.Nat.{mod-eq_of_lt}
@@ -16,7 +17,7 @@ use Rattle.stream.specs.Refusals.{rate_bad, channels_bad}
 use Rattle.chunks.specs.declared.Format.{Format}
 use Rattle.chunks.specs.declared.Chunk.{Chunk}
 use Rattle.chunks.specs.Numbers.{two_bytes, four_bytes, u16_at, u32_at}
-use Rattle.chunks.specs.Chunks.{is_wave, no_format, format_after, is_read, sized_chunk, chunk_of}
+use Rattle.chunks.specs.Chunks.{is_wave, format_after, is_read, data_of, sized_chunk, chunk_of}
 use Rattle.chunks.specs.Head.{head_of}
 
 -- ---- numbers
@@ -35,7 +36,7 @@ four-read n h =
 -- ---- the head
 
 abbrev pub head_format : ℕ → ℕ → Format
-head_format rate channels = record { found = true; tag = 1; channels = channels; rate = rate; bits = 16 }
+head_format rate channels = record { tag = 1; channels = channels; rate = rate; bits = 16 }
 
 -- whatever stands behind it
 module _ (rate channels size : ℕ) (tail : List ℕ) where
@@ -47,18 +48,18 @@ module _ (rate channels size : ℕ) (tail : List ℕ) where
   head-wave = rw (le-leb 12 (length headed) (omega arith))
 
   pub head-format : (left : ℕ) → 24 ≤ left → channels < 65536 → rate < 2 ^ 32
-      → chunk_of (drop 12 headed) left no_format ≡ Chunk.Other 24 (head_format rate channels)
+      → chunk_of (drop 12 headed) left None ≡ Ok (Chunk.Other 24 (Some (head_format rate channels)))
   unfolding chunk_of sized_chunk format_after head_of
   head-format left h k r =
       let there : eqb left 0 ≡ false = ne_eqb left 0 (λ e. omega arith) in
       let long : ltb left 8 ≡ false = le-ltb left 8 (omega arith) in
       let inside : ltb (left - 8) 16 ≡ false = le-ltb (left - 8) 16 (omega arith) in
       rw (there, long, inside)
-      (λ i. Chunk.Other 24 (record { found = true; tag = 1; channels = two-read channels k i; rate = four-read rate r i; bits = 16 }))
+      (λ i. Ok (Chunk.Other 24 (Some (record { tag = 1; channels = two-read channels k i; rate = four-read rate r i; bits = 16 }))))
 
   pub head-data : (left : ℕ) → 8 + size ≤ left → size < 2 ^ 32 → rate_bad rate ≡ false → channels_bad channels ≡ false
-      → chunk_of (drop 36 headed) left (head_format rate channels) ≡ Chunk.Data size
-  unfolding chunk_of sized_chunk is_read head_of
+      → chunk_of (drop 36 headed) left (Some (head_format rate channels)) ≡ Ok (Chunk.Data size (head_format rate channels))
+  unfolding chunk_of sized_chunk data_of is_read head_of
   head-data left h s r k =
       let there : eqb left 0 ≡ false = ne_eqb left 0 (λ e. omega arith) in
       let long : ltb left 8 ≡ false = le-ltb left 8 (omega arith) in

@@ -5,7 +5,6 @@ ghost use Rattle.chunks.specs.Chunks.{format_in, format_after, is_read};
 use crate::Format;
 use crate::ids::FMT;
 use crate::numbers::{u16_at, u32_at};
-use stream::SonicStream;
 
 // The least size of a fmt chunk that is used, the tag of PCM, and the bits of a sample that are read.
 const LEAST_SIZE: usize = 16;
@@ -20,7 +19,6 @@ fn format_in(chunk: &[u8]) -> Format
     ensures { result ≡ format_in chunk.now }
 {
     Format {
-        found: true,
         tag: u16_at(chunk, 8),
         channels: u16_at(chunk, 10),
         rate: u32_at(chunk, 12),
@@ -29,34 +27,25 @@ fn format_in(chunk: &[u8]) -> Format
 }
 
 // The format known behind a chunk of this size.
-pub(crate) fn format_after(chunk: &[u8], size: usize, format: Format) -> Format
+#[tactic(auto, unfolding(crate::specs::Chunks::format_after))]
+pub(crate) fn format_after(chunk: &[u8], size: usize, format: Option<Format>) -> Option<Format>
     requires { (8 ≤ length chunk.now) × (16 ≤ size → 24 ≤ length chunk.now) }
     ensures { result ≡ format_after chunk.now size format }
 {
-    if format.found {
-        return format;
+    if format.is_none() && u32_at(chunk, 0) == FMT && size >= LEAST_SIZE {
+        Some(format_in(chunk))
+    } else {
+        format
     }
-    if u32_at(chunk, 0) != FMT {
-        return format;
-    }
-    if size < LEAST_SIZE {
-        return format;
-    }
-    format_in(chunk)
 }
 
 // Whether samples of this format are read.
+#[tactic(auto, unfolding(crate::specs::Chunks::is_read))]
 pub fn is_read(format: Format) -> bool
     ensures { result ≡ is_read format }
 {
-    if !format.found {
-        return false;
-    }
-    if format.tag != PCM || format.bits != BITS {
-        return false;
-    }
-    if format.rate < SonicStream::MIN_RATE || format.rate > SonicStream::MAX_RATE {
-        return false;
-    }
-    format.channels >= SonicStream::MIN_CHANNELS && format.channels <= SonicStream::MAX_CHANNELS
+    format.tag == PCM
+        && format.bits == BITS
+        && !stream::rate_bad(format.rate)
+        && !stream::channels_bad(format.channels)
 }

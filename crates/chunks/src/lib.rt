@@ -16,40 +16,28 @@ pub use head::{HEAD_BYTES, MOST_BYTES, put_head};
 pub use ids::RIFF;
 use ids::{DATA, WAVE};
 pub use numbers::{put_u16, u32_at};
-use stream::refusals;
+use stream::Refusal;
 
 // The bytes of a file's head, and those of a chunk that are looked at: its head, and 16 of a fmt chunk.
 pub const FILE_HEAD: usize = 12;
 
 pub const LOOKED_AT: usize = 24;
 
-// What the first fmt chunk of 16 bytes or more says of the samples, if it was found; otherwise every number is 0.
-#[derive(Clone, Copy)]
+// What a fmt chunk says of the samples. The first one of 16 bytes or more is the one used.
+#[derive(Clone, Copy, Debug, PartialEq, Eq)]
 pub struct Format {
-    pub found: bool,
     pub tag: u32,
     pub channels: u32,
     pub rate: u32,
     pub bits: u32,
 }
 
-impl Format {
-    pub const NONE: Format = Format {
-        found: false,
-        tag: 0,
-        channels: 0,
-        rate: 0,
-        bits: 0,
-    };
-}
-
-// What follows at the rest of a file: it is refused with this number; another chunk, with the bytes that it takes and
-// the format known behind it; or the head of the data chunk, with the bytes of the samples behind it.
-#[derive(Clone, Copy)]
+// What follows at the rest of a file: another chunk, with the bytes that it takes and the format known behind it; or
+// the head of the data chunk, with the bytes of the samples behind it and their format, which is read.
+#[derive(Clone, Copy, Debug, PartialEq, Eq)]
 pub enum Chunk {
-    Refused(u32),
-    Other(usize, Format),
-    Data(usize),
+    Other(usize, Option<Format>),
+    Data(usize, Format),
 }
 
 // Whether a chunk is the data chunk, and its size.
@@ -71,46 +59,49 @@ pub fn head_of(chunk: &[u8]) -> ChunkHead
 }
 
 // Whether a file begins as a WAVE file does.
+#[tactic(auto, unfolding(crate::specs::Chunks::is_wave))]
 pub fn is_wave(bytes: &[u8]) -> bool
     ensures { result ≡ is_wave bytes.now }
 {
-    if bytes.len() < FILE_HEAD {
-        return false;
-    }
-    u32_at(bytes, 0) == RIFF && u32_at(bytes, 8) == WAVE
+    bytes.len() >= FILE_HEAD && u32_at(bytes, 0) == RIFF && u32_at(bytes, 8) == WAVE
 }
 
 // A chunk of this size, behind whose head the file has `room` bytes. A data chunk needs no padding.
-fn sized_chunk(rest: &[u8], size: usize, room: usize, format: Format) -> Chunk
+#[tactic(auto, unfolding(crate::specs::Chunks::sized_chunk, crate::specs::Chunks::data_of))]
+fn sized_chunk(
+    rest: &[u8],
+    size: usize,
+    room: usize,
+    format: Option<Format>,
+) -> Result<Chunk, Refusal>
     requires { (8 ≤ length rest.now) × (min 24 (8 + room) ≤ length rest.now) × (size < 2 ^ 32) }
     ensures { result ≡ sized_chunk rest.now size room format }
 {
     if u32_at(rest, 0) == DATA {
         if size > room {
-            return Chunk::Refused(refusals::BAD_SIZE);
+            return Err(Refusal::BadSize);
         }
-        if !is_read(format) {
-            return Chunk::Refused(refusals::BAD_FORMAT);
-        }
-        return Chunk::Data(size);
+        return match format {
+            Some(format) if is_read(format) => Ok(Chunk::Data(size, format)),
+            _ => Err(Refusal::BadFormat),
+        };
     }
     let padded = size + size % 2;
     if padded > room {
-        return Chunk::Refused(refusals::BAD_SIZE);
+        return Err(Refusal::BadSize);
     }
-    Chunk::Other(8 + padded, format_after(rest, size, format))
+    Ok(Chunk::Other(8 + padded, format_after(rest, size, format)))
 }
 
 // The next chunk: `rest` has the first bytes of those that are left of the file, all or at least 24.
-pub fn read_chunk(rest: &[u8], left: usize, format: Format) -> Chunk
+#[tactic(auto, unfolding(crate::specs::Chunks::chunk_of))]
+pub fn read_chunk(rest: &[u8], left: usize, format: Option<Format>) -> Result<Chunk, Refusal>
     requires { min 24 left ≤ length rest.now }
     ensures { result ≡ chunk_of rest.now left format }
 {
-    if left == 0 {
-        return Chunk::Refused(refusals::BAD_FORMAT);
+    match left {
+        0 => Err(Refusal::BadFormat),
+        1..8 => Err(Refusal::BadSize),
+        _ => sized_chunk(rest, u32_at(rest, 4) as usize, left - 8, format),
     }
-    if left < 8 {
-        return Chunk::Refused(refusals::BAD_SIZE);
-    }
-    sized_chunk(rest, u32_at(rest, 4) as usize, left - 8, format)
 }

@@ -16,6 +16,7 @@ ghost use Rattle.search.specs.declared.Ties.TheVariants.{Smallest};
 
 pub use balance::Balance;
 use frames::Frames;
+pub use order::{channels_bad, rate_bad};
 pub use refusal::{NotOpened, Refusal, Refused};
 pub use search::Ties;
 
@@ -120,14 +121,14 @@ impl SonicStream {
     pub fn with_ties(rate: u32, channels: u32, ties: Ties) -> Result<SonicStream, NotOpened>
         ensures { result ≡ open_call rate channels ties }
     {
-        if !(SonicStream::MIN_RATE..=SonicStream::MAX_RATE).contains(&rate) {
+        if rate_bad(rate) {
             return Err(NotOpened {
                 refusal: Refusal::BadRate,
                 given: rate,
                 stream: SonicStream::ZERO,
             });
         }
-        if !(SonicStream::MIN_CHANNELS..=SonicStream::MAX_CHANNELS).contains(&channels) {
+        if channels_bad(channels) {
             return Err(NotOpened {
                 refusal: Refusal::BadChannels,
                 given: channels,

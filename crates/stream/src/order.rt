@@ -2,19 +2,35 @@
 ghost use Rattle.std.specs.Prelude.{◌≡◌, true};
 ghost use Rattle.period.specs.Rates.{InLimits};
 ghost use Rattle.rate.specs.Halving.{rates_of};
-ghost use Rattle.stream.specs.Refusals.{limits_in_order, settings_in_order, prev_in_order, positions_in_order};
+ghost use Rattle.stream.specs.Refusals.{rate_bad, channels_bad, limits_in_order, settings_in_order};
+ghost use Rattle.stream.specs.Refusals.{prev_in_order, positions_in_order};
 ghost use Rattle.stream.specs.Order.{order_of};
 
 use crate::SonicStream;
 use rate::Rates;
 
+// Refusal 1 of an opening: whether no stream takes this rate.
+#[tactic(auto, unfolding(crate::specs::Refusals::rate_bad))]
+pub fn rate_bad(rate: u32) -> bool
+    ensures { result ≡ rate_bad rate }
+{
+    !(SonicStream::MIN_RATE..=SonicStream::MAX_RATE).contains(&rate)
+}
+
+// Refusal 2 of an opening: whether no stream takes so many channels.
+#[tactic(auto, unfolding(crate::specs::Refusals::channels_bad))]
+pub fn channels_bad(channels: u32) -> bool
+    ensures { result ≡ channels_bad channels }
+{
+    !(SonicStream::MIN_CHANNELS..=SonicStream::MAX_CHANNELS).contains(&channels)
+}
+
 // Whether rate and channels are in range.
-#[tactic(auto, unfolding(crate::specs::Refusals::limits_in_order, crate::specs::Refusals::rate_bad, crate::specs::Refusals::channels_bad))]
+#[tactic(auto, unfolding(crate::specs::Refusals::limits_in_order))]
 fn limits_in_order(stream: SonicStream) -> bool
     ensures { result ≡ limits_in_order stream }
 {
-    (SonicStream::MIN_RATE..=SonicStream::MAX_RATE).contains(&stream.rate)
-        && (SonicStream::MIN_CHANNELS..=SonicStream::MAX_CHANNELS).contains(&stream.channels)
+    !rate_bad(stream.rate) && !channels_bad(stream.channels)
 }
 
 // Whether speed, pitch and volume are in their ranges. A NaN is not.
