@@ -2,6 +2,7 @@
 use mathlib.Core.Path.{◌≡◌, refl, sym, ap, ◌∙◌, subst}
 use mathlib.Core.Bool.{Bool, true, false, cond, ◌||◌}
 use mathlib.Core.List.{List, [], ◌∷◌, ◌++◌, append_assoc, append-nil}
+use Rattle.std.specs.Prelude.{None, Some}
 use Prim.Native.Nat.{ℕ, ◌+◌, ◌*◌, ◌^◌, ◌≤◌, ◌<◌}
 use native.Mathlib.Nat.{zero-mul, zero-add, add-zero, add-mul, mul-le-mul_right}
 use native.Mathlib.Omega.{arith}
@@ -14,7 +15,7 @@ use Rattle.period.specs.Pitch.{PrevInOrder}
 use Rattle.stretch.specs.declared.StretchCall.{StretchCall}
 use Rattle.stretch.specs.declared.Place.{Place}
 use Rattle.stretch.specs.declared.Step.{Step}
-use Rattle.stretch.specs.declared.Turn.TheVariants.{TooMany, Went}
+use Rattle.stretch.specs.declared.Went.{Went}
 use Rattle.stretch.specs.Steps.{next_step, frames_out, periods_passed, stalls, samples_out, prev_after, place_after, after, turn_for, area_for, StretchReady, Sound}
 use Rattle.stretch.specs.Tally.{tally}
 use Rattle.stretch.specs.Speed.{steps, frames_made, samples_of, last_place, stalled}
@@ -110,7 +111,7 @@ module _ {u : StretchCall} {x : List ℤ} {h₀ : Place} {area₀ area : List �
         ap (take to) wrote ∙ area-kept u x h made room most (next_step u x h) area to (omega (arith, l.lent_area, long)) ∙ g.kept
 
     -- the step that is due gives too many frames
-    pub going-over : turn_for u x h made most (next_step u x h) ≡ TooMany → most < frames_made (steps u x h₀)
+    pub going-over : turn_for u x h made most (next_step u x h) ≡ None → most < frames_made (steps u x h₀)
     unfolding tally
     going-over e =
         let k = too_many u x h made most (next_step u x h) e in
@@ -118,14 +119,14 @@ module _ {u : StretchCall} {x : List ℤ} {h₀ : Place} {area₀ area : List �
         omega (arith, g.frames)
 
     -- the step that is due is taken
-    module _ {area' : List ℤ} {p : Place} {n : Frames} {m : ℕ} {t : Bool} (w : turn_for u x h made most (next_step u x h) ≡ Went p n m t)
+    module _ {area' : List ℤ} {w : Went} (turn : turn_for u x h made most (next_step u x h) ≡ Some w)
         (long : length area ≡ length area₀) (wrote : area' ≡ area_for u x h made room most area to (next_step u x h))
         (o : PrevInOrder u.rate (prev_after u x h (next_step u x h))) where
       abbrev more : List ℤ
       more = samples_out u.channels x h.position.0 (next_step u x h)
 
-      went : Gone u x h made most (next_step u x h) p n m t
-      went = gone u x h made most (next_step u x h) w
+      went : Gone u x h made most (next_step u x h) w
+      went = gone u x h made most (next_step u x h) turn
 
       few : made + frames_out (next_step u x h) ≤ most
       few = went.fits
@@ -189,26 +190,26 @@ module _ {u : StretchCall} {x : List ℤ} {h₀ : Place} {area₀ area : List �
 
       -- in the words of the turn
       as-told : (P : Place → ℕ → ℕ → Type 0) → P (next u x h) (made + frames_out (next_step u x h)) (passed + periods_passed (next_step u x h))
-          → P p (made + n.0) (passed + m)
+          → P w.place (made + w.frames.0) (passed + w.passed)
       as-told P v =
-          subst (λ (q : Place). P q (made + n.0) (passed + m)) (sym went.place)
-          (subst (λ (k : ℕ). P (next u x h) (made + k) (passed + m)) (sym went.frames)
+          subst (λ (q : Place). P q (made + w.frames.0) (passed + w.passed)) (sym went.place)
+          (subst (λ (k : ℕ). P (next u x h) (made + k) (passed + w.passed)) (sym went.frames)
           (subst (λ (k : ℕ). P (next u x h) (made + frames_out (next_step u x h)) (passed + k)) (sym went.passed) v))
 
-      pub going_on : t ≡ false → Going u x h₀ area₀ area' to room most p (made + n.0) (passed + m)
+      pub going_on : w.stalled ≡ false → Going u x h₀ area₀ area' to room most w.place (made + w.frames.0) (passed + w.passed)
       going_on e = as-told (Going u x h₀ area₀ area' to room most) (going_next (sym went.stall ∙ e))
 
-      pub going-stall : t ≡ true → Ended u x h₀ area₀ area' to room most p (made + n.0) (passed + m) true
+      pub going-stall : w.stalled ≡ true → Ended u x h₀ area₀ area' to room most w.place (made + w.frames.0) (passed + w.passed) true
       going-stall e =
           as-told (λ q j k. Ended u x h₀ area₀ area' to room most q j k true) (ended-next (sym went.stall ∙ e))
 
       -- no more frames than it may make, and it uses one at least
-      pub going-fits : made + n.0 ≤ most
+      pub going-fits : made + w.frames.0 ≤ most
       going-fits = omega (arith, few, went.frames)
 
       -- and so do the periods passed over
-      pub going-periods : passed + m ≤ u.held.0
+      pub going-periods : passed + w.passed ≤ u.held.0
       going-periods = omega (arith, g.few_periods, passed-le (next_step u x h) sound, sound-in sound, went.passed)
 
-      pub going-further : h.position.0 < p.position.0
+      pub going-further : h.position.0 < w.place.position.0
       going-further = subst (λ (q : Place). h.position.0 < q.position.0) (sym went.place) (further x h l.ready g.in_order.period_in d)

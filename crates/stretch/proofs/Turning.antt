@@ -1,7 +1,8 @@
 -- What a turn tells: that a step gives too many frames, or where the call has come to; and what it leaves in the area. Assumes nothing.
-use mathlib.Core.Path.{◌≡◌, refl, sym, ap, ◌∙◌}
+use mathlib.Core.Path.{◌≡◌, refl, sym, ap, ◌∙◌, subst}
 use mathlib.Core.Bool.{Bool, true, false, cond, ◌||◌, false≢true}
 use mathlib.Core.List.{List}
+use Rattle.std.specs.Prelude.{Option, None, Some}
 use Prim.Native.Nat.{ℕ, ◌+◌, ◌*◌, ◌≤◌, ◌<◌}
 use native.Mathlib.Nat.{mul-le-mul_right}
 use native.Mathlib.Omega.{arith}
@@ -10,17 +11,12 @@ use lib.Dec.{ltb}
 use lib.IntN.{ℤ}
 use lib.ListN.{length, take}
 use lib.Seq.{paste, take-take}
-use Rattle.frames.specs.declared.Frames.{Frames}
 use Rattle.frames.proofs.Pasted.{paste-front}
 use Rattle.stretch.specs.declared.StretchCall.{StretchCall}
 use Rattle.stretch.specs.declared.Place.{Place}
 use Rattle.stretch.specs.declared.Step.{Step}
-use Rattle.stretch.specs.declared.Turn.{Turn}
-use Rattle.stretch.specs.declared.Turn.TheVariants.{TooMany, Went}
+use Rattle.stretch.specs.declared.Went.{Went}
 use Rattle.stretch.specs.Steps.{frames_out, periods_passed, stalls, samples_out, after, turn_for, area_for}
-
-zero_one : ◌≡◌ {A = ℕ} 0 1 → ⊥
-zero_one z = omega arith
 
 or_right : (a b : Bool) → (a || b) ≡ false → b ≡ false
 or_right true b e = absurd (false≢true (sym e))
@@ -28,34 +24,34 @@ or_right false b e = e
 
 -- a turn that went on: the step gives no more frames than it may, the place after it, its frames, the periods passed over, and whether it
 -- stalls
-pub record Gone (u : StretchCall) (x : List ℤ) (h : Place) (made most : ℕ) (s : Step) (p : Place) (n : Frames) (m : ℕ) (t : Bool) : Type 0 where
+pub record Gone (u : StretchCall) (x : List ℤ) (h : Place) (made most : ℕ) (s : Step) (w : Went) : Type 0 where
   pub fits : made + frames_out s ≤ most
-  pub place : p ≡ after u x h s
-  pub frames : n.0 ≡ frames_out s
-  pub passed : m ≡ periods_passed s
-  pub stall : t ≡ stalls s
+  pub place : w.place ≡ after u x h s
+  pub frames : w.frames.0 ≡ frames_out s
+  pub passed : w.passed ≡ periods_passed s
+  pub stall : w.stalled ≡ stalls s
 
 module _ (u : StretchCall) (x : List ℤ) (h : Place) (made most : ℕ) (s : Step) where
-  too_many_cases : (b : Bool) (w : Turn) → ltb most (made + frames_out s) ≡ b → cond b TooMany w ≡ TooMany → (w ≡ TooMany → ⊥) → most < made + frames_out s
-  too_many_cases true w e f g = ltb-true most (made + frames_out s) e
-  too_many_cases false w e f g = absurd (g f)
+  abbrev stepped : Went
+  stepped = record { place = after u x h s; frames = record { 0 = frames_out s }; passed = periods_passed s; stalled = stalls s }
 
-  pub too_many : turn_for u x h made most s ≡ TooMany → most < made + frames_out s
+  pub too_many : turn_for u x h made most s ≡ None → most < made + frames_out s
   unfolding turn_for
-  too_many e =
-      too_many_cases (ltb most (made + frames_out s)) (Went (after u x h s) (record { 0 = frames_out s }) (periods_passed s) (stalls s)) refl e
-      (λ f. let z : ◌≡◌ {A = ℕ} 0 1 = cc in zero_one z)
+  too_many = go (ltb most (made + frames_out s)) refl
+    where
+      go : (b : Bool) → ltb most (made + frames_out s) ≡ b → cond b None (Some stepped) ≡ None → most < made + frames_out s
+      go true e f = ltb-true most (made + frames_out s) e
+      go false e f = cc
 
-  gone-cases : (b : Bool) (p : Place) (n : Frames) (m : ℕ) (t : Bool) → ltb most (made + frames_out s) ≡ b
-      → cond b TooMany (Went (after u x h s) (record { 0 = frames_out s }) (periods_passed s) (stalls s)) ≡ Went p n m t → Gone u x h made most s p n m t
-  gone-cases true p n m t e f = let z : ◌≡◌ {A = ℕ} 0 1 = cc in absurd (zero_one z)
-  gone-cases false p n m t e f =
-      let k : n ≡ record { 0 = frames_out s } = cc in
-      record { fits = ltb-false most (made + frames_out s) e; place = cc; frames = ap (λ (f : Frames). f.0) k; passed = cc; stall = cc }
-
-  pub gone : {p : Place} {n : Frames} {m : ℕ} {t : Bool} → turn_for u x h made most s ≡ Went p n m t → Gone u x h made most s p n m t
+  pub gone : {w : Went} → turn_for u x h made most s ≡ Some w → Gone u x h made most s w
   unfolding turn_for
-  gone {p} {n} {m} {t} e = gone-cases (ltb most (made + frames_out s)) p n m t refl e
+  gone {w} = go (ltb most (made + frames_out s)) refl
+    where
+      go : (b : Bool) → ltb most (made + frames_out s) ≡ b → cond b None (Some stepped) ≡ Some w → Gone u x h made most s w
+      go true e f = cc
+      go false e f =
+          let same : stepped ≡ w = cc in
+          subst (Gone u x h made most s) same (record { fits = ltb-false most (made + frames_out s) e; place = refl; frames = refl; passed = refl; stall = refl })
 
 module _ (u : StretchCall) (x : List ℤ) (h : Place) (made room most : ℕ) (s : Step) where
   pub area-written : (area : List ℤ) (to : ℕ) → made + frames_out s ≤ most → made + frames_out s ≤ room

@@ -1,7 +1,7 @@
 -- docs/RULES.md, "Stretch steps": `change_speed`. The list of a call's steps, and what is computed from it. u is the
 -- call, x the held input, h a place. Definitions only.
 use Rattle.std.specs.Prelude.{ℕ, zero, suc, ◌+◌, ◌*◌, ◌≤◌, Bool, false, cond, ◌||◌, List, [], ◌∷◌, ◌++◌, ◌≡◌, leb, ltb}
-use Rattle.std.specs.Prelude.{ℤ, Float, take}
+use Rattle.std.specs.Prelude.{ℤ, Float, take, Option, None, Some}
 use Rattle.std.proofs.Math.Seq.{paste}
 use Rattle.frames.specs.Framing.{Frame, frames_of}
 use Rattle.period.specs.declared.PeriodRecord.{PeriodRecord}
@@ -11,8 +11,6 @@ use Rattle.stretch.specs.declared.StretchCall.{StretchCall}
 use Rattle.stretch.specs.declared.Place.{Place}
 use Rattle.stretch.specs.declared.Step.{Step}
 use Rattle.stretch.specs.declared.Stretch.{Stretch}
-use Rattle.stretch.specs.declared.Stretched.{Stretched}
-use Rattle.stretch.specs.declared.Stretched.TheVariants.{Made, TooMany}
 use Rattle.stretch.specs.Steps.{next_step, frames_used, stalls, samples_out, after}
 use Rattle.stretch.specs.Tally.{tally}
 
@@ -71,9 +69,9 @@ answer_for u x h ss =
     answer (frames_made ss) (cond (stalled ss) 0 (last_place u x h ss).position.0) (tally ss).passed
     (last_place u x h ss) (stalled ss)
 
--- `change_speed`, when at most `most` frames may be made
-unfoldable pub change_speed : StretchCall → List ℤ → Place → ℕ → Stretched
-change_speed u x h most = cond (ltb most (frames_made (steps u x h))) TooMany (Made (answer_for u x h (steps u x h)))
+-- `change_speed`, when at most `most` frames may be made: nothing if more are
+unfoldable pub change_speed : StretchCall → List ℤ → Place → ℕ → Option Stretch
+change_speed u x h most = cond (ltb most (frames_made (steps u x h))) None (Some (answer_for u x h (steps u x h)))
 
 -- the frames that a call makes
 abbrev pub stretched_frames : StretchCall → List ℤ → Place → List Frame

@@ -1,7 +1,7 @@
 -- docs/RULES.md, "Stretch steps": which step is due at a place, what it gives and uses, and the place after it; with
 -- C-16, C-17 and C-18. u is the call, x the held input, h a place. Definitions only.
 use Rattle.std.specs.Prelude.{ℕ, ◌+◌, ◌-◌, ◌*◌, ◌^◌, ◌≤◌, ◌≡◌, Bool, false, cond, ◌&&◌, ◌||◌, List, [], T, eqb, ltb, ℤ}
-use Rattle.std.specs.Prelude.{Float, drop}
+use Rattle.std.specs.Prelude.{Float, drop, Option, None, Some}
 use Rattle.std.specs.Float.{binary32}
 use Rattle.std.specs.Float.Ieee.{lt, fits}
 use Rattle.std.proofs.Math.Seq.{paste}
@@ -19,8 +19,7 @@ use Rattle.stretch.specs.declared.StretchCall.{StretchCall}
 use Rattle.stretch.specs.declared.Place.{Place}
 use Rattle.stretch.specs.declared.Step.{Step}
 use Rattle.stretch.specs.declared.Step.TheVariants.{Copied, Skipped, Inserted, Passed}
-use Rattle.stretch.specs.declared.Turn.{Turn}
-use Rattle.stretch.specs.declared.Turn.TheVariants.{TooMany, Went}
+use Rattle.stretch.specs.declared.Went.{Went}
 use Rattle.crossfade.specs.Crossfade.{copy_unmodified_samples, skip_pitch_period, insert_pitch_period}
 
 -- the search at a place
@@ -132,12 +131,12 @@ after u x h s = place_after u h s (prev_after u x h s) (sum_after u x h s)
 -- ---- one turn, of a call that has made `made` frames and may make `most`; they go to the place `to` of an area, which
 -- has room for `room` frames there
 
--- whether these are too many with the step's frames; the place after it, its frames, the periods passed over, and
+-- nothing, if these are too many with the step's frames; the place after it, its frames, the periods passed over, and
 -- whether it stalls
-unfoldable pub turn_for : StretchCall → List ℤ → Place → ℕ → ℕ → Step → Turn
+unfoldable pub turn_for : StretchCall → List ℤ → Place → ℕ → ℕ → Step → Option Went
 turn_for u x h made most s =
-    cond (ltb most (made + frames_out s)) TooMany
-    (Went (after u x h s) (record { 0 = frames_out s }) (periods_passed s) (stalls s))
+    cond (ltb most (made + frames_out s)) None
+    (Some (record { place = after u x h s; frames = record { 0 = frames_out s }; passed = periods_passed s; stalled = stalls s }))
 
 -- the area after it: the step's frames behind those made, unless they are too many or there is no room for them
 unfoldable pub area_for : StretchCall → List ℤ → Place → ℕ → ℕ → ℕ → List ℤ → ℕ → Step → List ℤ

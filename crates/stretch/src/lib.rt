@@ -6,7 +6,10 @@ mod samples;
 mod speed;
 mod steps;
 
-use frames::Frames;
+ghost use Rattle.std.specs.Prelude.{◌≡◌, ◌≤◌, ◌^◌};
+ghost use Rattle.stretch.specs.Steps.{StretchReady};
+
+use frames::{Frames, Samples};
 use period::PeriodRecord;
 use search::Ties;
 pub use speed::change_speed;
@@ -23,6 +26,13 @@ pub struct StretchCall {
     pub held: Frames,
     pub step_over: bool,
     pub ties: Ties,
+}
+
+// A call that is ready: opened, with the period of a sample that its rate gives, and few frames.
+#[derive(Clone, Copy)]
+pub struct ReadyCall {
+    pub call: StretchCall,
+    pub ghost ready: { StretchReady call },
 }
 
 // Where a call has come to: the frames used, the time error, the period record, and the sum of differences that its
@@ -45,6 +55,53 @@ pub enum Step {
     Passed(Frames),
 }
 
+impl Step {
+    ghost use Rattle.stretch.specs.Steps.{frames_out, frames_used, periods_passed, stalls};
+
+    // The frames that a step gives.
+    fn frames_out(self) -> Frames
+        requires { frames_out self ≤ 2 ^ 24 }
+        ensures { result.0 ≡ frames_out self }
+    {
+        match self {
+            Step::Copied(n) | Step::Skipped(_, n) => n,
+            Step::Inserted(period, k) => Frames(period.0 + k.0),
+            Step::Passed(_) => Frames(0),
+        }
+    }
+
+    // The frames of the input that it uses.
+    fn frames_used(self) -> Frames
+        requires { frames_used self ≤ 2 ^ 24 }
+        ensures { result.0 ≡ frames_used self }
+    {
+        match self {
+            Step::Copied(n) | Step::Inserted(_, n) | Step::Passed(n) => n,
+            Step::Skipped(period, k) => Frames(period.0 + k.0),
+        }
+    }
+
+    // The periods that it passes over.
+    fn periods_passed(self) -> usize
+        ensures { result ≡ periods_passed self }
+    {
+        match self {
+            Step::Passed(_) => 1,
+            _ => 0,
+        }
+    }
+
+    // Whether it ends the call as stalled.
+    fn stalls(self) -> bool
+        ensures { result ≡ stalls self }
+    {
+        match self {
+            Step::Skipped(_, k) => k.0 == 0,
+            _ => false,
+        }
+    }
+}
+
 // The step that is due, and the period record and the sum of the last search after it.
 #[derive(Clone, Copy)]
 pub struct NextStep {
@@ -53,12 +110,23 @@ pub struct NextStep {
     pub sum: usize,
 }
 
-// One turn of a call: the step gives more frames than the call may make; or the place after it, its frames, the periods
-// that it passes over, and whether it stalls.
+// Where the frames of a call go: to the place `to` of an area, which has room for `room` frames there; no more than
+// `most` may be made.
 #[derive(Clone, Copy)]
-pub enum Turn {
-    TooMany,
-    Went(Place, Frames, usize, bool),
+pub struct Target {
+    pub to: Samples,
+    pub room: Frames,
+    pub most: Frames,
+}
+
+// What one turn of a call came to: the place after it, its frames, the periods that it passes over, and whether it
+// stalls.
+#[derive(Clone, Copy)]
+pub struct Went {
+    pub place: Place,
+    pub frames: Frames,
+    pub passed: usize,
+    pub stalled: bool,
 }
 
 // What a call gives: the frames made, the frames of the input used, the periods passed over, the sum of its last
@@ -72,11 +140,4 @@ pub struct Stretch {
     pub time_error: f32,
     pub prev: PeriodRecord,
     pub stalled: bool,
-}
-
-// The same, or that more frames come out than the call may make.
-#[derive(Clone, Copy)]
-pub enum Stretched {
-    Made(Stretch),
-    TooMany,
 }

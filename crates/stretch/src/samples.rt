@@ -4,7 +4,7 @@ ghost use Rattle.std.proofs.Math.Seq.{paste};
 ghost use Rattle.search.specs.Search.{longest_period};
 ghost use Rattle.stretch.specs.Steps.{frames_out, frames_read, crossfaded, samples_out};
 
-use crate::Step;
+use crate::{Step, Target};
 use crossfade::{copy_unmodified_samples, insert_pitch_period, skip_pitch_period};
 use frames::{Frames, Samples};
 
@@ -24,12 +24,10 @@ fn write_step(
         (samples_out channels input.now position.0 step) (frames_out step * channels) }
 {
     match step {
-        Step::Copied(n) => {
-            copy_unmodified_samples(input, channels, position, n, area, to);
-        }
-        Step::Skipped(period, k) => {
-            skip_pitch_period(input, channels, position, period, k, area, to);
-        }
+        Step::Copied(n) => copy_unmodified_samples(input, channels, position, n, area, to),
+        Step::Skipped(period, k) => skip_pitch_period(
+            input, channels, position, period, k, area, to,
+        ),
         Step::Inserted(period, k) => {
             insert_pitch_period(input, channels, position, period, k, area, to);
         }
@@ -37,8 +35,8 @@ fn write_step(
     }
 }
 
-// The same for a step of n frames, behind `made` frames that stand at the place `to`, if there is room for all of them
-// among `room` frames; else nothing is written.
+// The same for a step of n frames, behind `made` frames that stand at the target, if there is room for all of them
+// there; else nothing is written.
 pub(crate) fn write_fitting(
     step: Step,
     n: Frames,
@@ -46,20 +44,19 @@ pub(crate) fn write_fitting(
     channels: usize,
     position: Frames,
     area: &mut [i16],
-    to: Samples,
+    target: Target,
     made: Frames,
-    room: Frames,
 )
     requires { (n.0 ≡ frames_out step) × (made.0 + n.0 ≤ 2 ^ 25) × (1 ≤ channels)
         × (crossfaded step ≤ longest_period) × ((position.0 + frames_read step) * channels ≤ length input.now)
-        × (to.0 + room.0 * channels ≤ length area.old) }
-    ensures { area.new ≡ cond (ltb room.0 (made.0 + frames_out step)) area.old
-        (paste area.old (to.0 + made.0 * channels)
+        × (target.to.0 + target.room.0 * channels ≤ length area.old) }
+    ensures { area.new ≡ cond (ltb target.room.0 (made.0 + frames_out step)) area.old
+        (paste area.old (target.to.0 + made.0 * channels)
         (samples_out channels input.now position.0 step) (frames_out step * channels)) }
 {
-    if room.0 < made.0 + n.0 {
+    if target.room.0 < made.0 + n.0 {
         return;
     }
-    let at = to.0 + made.samples(channels).0;
+    let at = target.to.0 + made.samples(channels).0;
     write_step(step, input, channels, position, area, Samples(at));
 }

@@ -1,49 +1,43 @@
 // One turn of a call: the step that is due at a place, and the place after it.
-ghost use Rattle.std.specs.Prelude.{◌≡◌, ◌+◌, ◌*◌, ◌≤◌, ◌<◌, ◌^◌, length, drop};
-ghost use Rattle.period.specs.Rates.{InLimits, max_required};
-ghost use Rattle.period.specs.Pitch.{find_pitch_period, InRange, PrevInOrder};
-ghost use Rattle.stretch.specs.Steps.{skip_step, period_step, next_step, frames_out, frames_used, frames_read};
-ghost use Rattle.stretch.specs.Steps.{periods_passed, stalls, error_after};
-ghost use Rattle.stretch.specs.Steps.{prev_after, sum_after, place_after, turn_for, area_for, StretchReady, Sound};
+ghost use Rattle.std.specs.Prelude.{◌≡◌, ◌+◌, ◌*◌, ◌≤◌, ◌<◌, ◌^◌, length};
+ghost use Rattle.period.specs.Rates.{max_required};
+ghost use Rattle.period.specs.Pitch.{InRange, PrevInOrder};
+ghost use Rattle.stretch.specs.Steps.{search_at, skip_step, period_step, next_step, frames_read, error_after};
+ghost use Rattle.stretch.specs.Steps.{prev_after, sum_after, place_after, turn_for, area_for, Sound};
 
-use crate::{NextStep, Place, Step, StretchCall, Turn};
-use frames::{Frames, Samples};
+use crate::{NextStep, Place, ReadyCall, Step, StretchCall, Target, Went};
+use frames::Frames;
 use period::{Chosen, PeriodRecord};
-use search::Ties;
 
-// The period that a step at the place `from` of the input uses, in frames, with the period record after the search and
-// its sum.
-fn search_at(
-    input: &[i16],
-    from: Samples,
-    channels: usize,
-    rate: usize,
-    prev: PeriodRecord,
-    ties: Ties,
-    scratch: &mut [i16],
-) -> Chosen
-    requires in_limits { InLimits rate channels }
-    requires prev_in_order { PrevInOrder rate prev }
-    requires channels_in_bounds { (from.0 + max_required rate * channels ≤ length input.now)
-        × (max_required rate ≤ length scratch.old) }
-    ensures { (result ≡ find_pitch_period ties (drop from.0 input.now) channels rate prev)
-        × InRange rate result.period.0 × PrevInOrder rate result.prev }
+// The period that a step at a place of the input uses, with the period record after the search and its sum.
+fn search_at(input: &[i16], ready: ReadyCall, place: Place, scratch: &mut [i16]) -> Chosen
+    requires prev_in_order { PrevInOrder ready.call.rate place.prev }
+    requires channels_in_bounds { ((place.position.0 + max_required ready.call.rate) * ready.call.channels ≤ length input.now)
+        × (max_required ready.call.rate ≤ length scratch.old) }
+    ensures { (result ≡ search_at ready.call input.now place)
+        × InRange ready.call.rate result.period.0 × PrevInOrder ready.call.rate result.prev }
 {
-    let first = from.0;
-    period::find_pitch_period(&input[first..], channels, rate, prev, ties, scratch)
+    let call = ready.call;
+    let from = place.position.samples(call.channels).0;
+    period::find_pitch_period(
+        &input[from..],
+        call.channels,
+        call.rate,
+        place.prev,
+        call.ties,
+        scratch,
+    )
 }
 
 // The skip step of a period that gives k frames. Stepping over, one that gives none passes over its period.
 fn skip_step(step_over: bool, period: Frames, k: Frames) -> Step
     ensures { result ≡ skip_step step_over period k }
 {
-    if !step_over {
-        return Step::Skipped(period, k);
+    if step_over && k.0 == 0 {
+        Step::Passed(period)
+    } else {
+        Step::Skipped(period, k)
     }
-    if k.0 == 0 {
-        return Step::Passed(period);
-    }
-    Step::Skipped(period, k)
 }
 
 // The step of a period at local speed s.
@@ -60,89 +54,32 @@ fn period_step(s: f32, step_over: bool, period: Frames) -> Step
 }
 
 // The step that is due at a place, and the period record and the sum of the last search after it.
-fn next_step(input: &[i16], call: StretchCall, place: Place, scratch: &mut [i16]) -> NextStep
-    requires stretch_ready { StretchReady call }
-    requires prev_in_order { PrevInOrder call.rate place.prev }
-    requires rate_bound { (place.position.0 + max_required call.rate ≤ call.held.0)
-        × (call.held.0 * call.channels ≤ length input.now)
-        × (max_required call.rate ≤ length scratch.old) }
-    ensures { (result.step ≡ next_step call input.now place)
-        × (result.prev ≡ prev_after call input.now place (next_step call input.now place))
-        × (result.sum ≡ sum_after call input.now place (next_step call input.now place))
-        × PrevInOrder call.rate result.prev }
+fn next_step(input: &[i16], ready: ReadyCall, place: Place, scratch: &mut [i16]) -> NextStep
+    requires prev_in_order { PrevInOrder ready.call.rate place.prev }
+    requires rate_bound { (place.position.0 + max_required ready.call.rate ≤ ready.call.held.0)
+        × (ready.call.held.0 * ready.call.channels ≤ length input.now)
+        × (max_required ready.call.rate ≤ length scratch.old) }
+    ensures { (result.step ≡ next_step ready.call input.now place)
+        × (result.prev ≡ prev_after ready.call input.now place (next_step ready.call input.now place))
+        × (result.sum ≡ sum_after ready.call input.now place (next_step ready.call input.now place))
+        × PrevInOrder ready.call.rate result.prev }
 {
+    let call = ready.call;
     let s = call.speed;
     let error = place.time_error;
-    let prev = place.prev;
-    let position = place.position;
     if floats::steps::copying_due(s, error) {
-        let left = call.held.0 - position.0;
-        let n = floats::steps::copy_count(error, s, call.sample_period, Frames(left));
+        let left = Frames(call.held.0 - place.position.0);
         return NextStep {
-            step: Step::Copied(n),
-            prev,
+            step: Step::Copied(floats::steps::copy_count(error, s, call.sample_period, left)),
+            prev: place.prev,
             sum: place.sum,
         };
     }
-    let from = position.samples(call.channels);
-    let ties = call.ties;
-    let chosen = search_at(input, from, call.channels, call.rate, prev, ties, scratch);
-    let period = chosen.period;
-    let found = chosen.prev;
+    let chosen = search_at(input, ready, place, scratch);
     NextStep {
-        step: period_step(s, call.step_over, period),
-        prev: found,
+        step: period_step(s, call.step_over, chosen.period),
+        prev: chosen.prev,
         sum: chosen.sum,
-    }
-}
-
-// The frames that a step gives.
-fn frames_out(step: Step) -> Frames
-    requires { frames_out step ≤ 2 ^ 24 }
-    ensures { result.0 ≡ frames_out step }
-{
-    match step {
-        Step::Copied(n) => n,
-        Step::Skipped(_, k) => k,
-        Step::Inserted(period, k) => Frames(period.0 + k.0),
-        Step::Passed(_) => Frames(0),
-    }
-}
-
-// The frames of the input that a step uses.
-fn frames_used(step: Step) -> Frames
-    requires { frames_used step ≤ 2 ^ 24 }
-    ensures { result.0 ≡ frames_used step }
-{
-    match step {
-        Step::Copied(n) => n,
-        Step::Skipped(period, k) => Frames(period.0 + k.0),
-        Step::Inserted(_, k) => k,
-        Step::Passed(period) => period,
-    }
-}
-
-// The periods that a step passes over.
-fn periods_passed(step: Step) -> usize
-    ensures { result ≡ periods_passed step }
-{
-    match step {
-        Step::Copied(_) => 0,
-        Step::Skipped(_, _) => 0,
-        Step::Inserted(_, _) => 0,
-        Step::Passed(_) => 1,
-    }
-}
-
-// Whether a step ends the call as stalled.
-fn stalls(step: Step) -> bool
-    ensures { result ≡ stalls step }
-{
-    match step {
-        Step::Copied(_) => false,
-        Step::Skipped(_, k) => k.0 == 0,
-        Step::Inserted(_, _) => false,
-        Step::Passed(_) => false,
     }
 }
 
@@ -168,66 +105,63 @@ fn error_after(call: StretchCall, error: f32, step: Step) -> f32
 }
 
 // The place after a step, with the period record and the sum after it.
-fn place_after(call: StretchCall, place: Place, step: Step, prev: PeriodRecord, sum: usize) -> Place
-    requires { Sound call.held.0 place.position.0 step × (call.held.0 ≤ 2 ^ 24) }
-    ensures { result ≡ place_after call place step prev sum }
+fn place_after(call: StretchCall, place: Place, next: NextStep) -> Place
+    requires { Sound call.held.0 place.position.0 next.step × (call.held.0 ≤ 2 ^ 24) }
+    ensures { result ≡ place_after call place next.step next.prev next.sum }
 {
-    let used = frames_used(step);
-    let position = place.position.0 + used.0;
+    let position = place.position.0 + next.step.frames_used().0;
     Place {
         position: Frames(position),
-        time_error: error_after(call, place.time_error, step),
-        prev,
-        sum,
+        time_error: error_after(call, place.time_error, next.step),
+        prev: next.prev,
+        sum: next.sum,
     }
 }
 
-// One turn of a call that has made `made` frames: the step that is due, unless more than `most` are made with it. Its
-// frames go behind those made, which stand at the place `to` of the area, if there is room for all of them among `room`
-// frames; else they are only counted.
+// One turn of a call that has made `made` frames: the step that is due, unless more are made with it than the target
+// may take. Its frames go behind those made, which stand at the target, if there is room for all of them there; else
+// they are only counted.
 pub(crate) fn take_step(
     input: &[i16],
-    call: StretchCall,
+    ready: ReadyCall,
     place: Place,
     area: &mut [i16],
-    to: Samples,
+    target: Target,
     made: Frames,
-    room: Frames,
-    most: Frames,
     scratch: &mut [i16],
-) -> Turn
-    requires stretch_ready { StretchReady call }
-    requires prev_in_order { PrevInOrder call.rate place.prev }
-    requires rate_bound { (place.position.0 + max_required call.rate ≤ call.held.0)
-        × (call.held.0 * call.channels ≤ length input.now)
-        × (max_required call.rate ≤ length scratch.old)
-        × (to.0 + room.0 * call.channels ≤ length area.old) × (made.0 ≤ 2 ^ 24) }
-    ensures { (result ≡ turn_for call input.now place made.0 most.0
-        (next_step call input.now place))
-        × (area.new ≡ area_for call input.now place made.0 room.0 most.0 area.old
-        to.0 (next_step call input.now place))
-        × PrevInOrder call.rate (prev_after call input.now place
-        (next_step call input.now place)) }
+) -> Option<Went>
+    requires prev_in_order { PrevInOrder ready.call.rate place.prev }
+    requires rate_bound { (place.position.0 + max_required ready.call.rate ≤ ready.call.held.0)
+        × (ready.call.held.0 * ready.call.channels ≤ length input.now)
+        × (max_required ready.call.rate ≤ length scratch.old)
+        × (target.to.0 + target.room.0 * ready.call.channels ≤ length area.old) × (made.0 ≤ 2 ^ 24) }
+    ensures { (result ≡ turn_for ready.call input.now place made.0 target.most.0
+        (next_step ready.call input.now place))
+        × (area.new ≡ area_for ready.call input.now place made.0 target.room.0 target.most.0 area.old
+        target.to.0 (next_step ready.call input.now place))
+        × PrevInOrder ready.call.rate (prev_after ready.call input.now place
+        (next_step ready.call input.now place)) }
 {
-    let due = next_step(input, call, place, scratch);
+    let due = next_step(input, ready, place, scratch);
     let step = due.step;
-    let prev = due.prev;
-    let sum = due.sum;
-    let n = frames_out(step);
-    if most.0 < made.0 + n.0 {
-        return Turn::TooMany;
+    let n = step.frames_out();
+    if target.most.0 < made.0 + n.0 {
+        return None;
     }
     crate::samples::write_fitting(
         step,
         n,
         input,
-        call.channels,
+        ready.call.channels,
         place.position,
         area,
-        to,
+        target,
         made,
-        room,
     );
-    let next = place_after(call, place, step, prev, sum);
-    Turn::Went(next, n, periods_passed(step), stalls(step))
+    Some(Went {
+        place: place_after(ready.call, place, due),
+        frames: n,
+        passed: step.periods_passed(),
+        stalled: step.stalls(),
+    })
 }

@@ -8,7 +8,7 @@ use Rattle.stretch.proofs.speed.change_speed.Given as goal
 
 abbrev pub invariant-loop-place : goal.invariant-loop-place
 invariant-loop-place l =
-    Going l.call l.input l.initial.place l.initial.area l.area l.first l.all l.limit l.place l.made l.passed × (length l.area ≡ length l.initial.area) × (length l.scratch ≡ length l.initial.scratch)
+    Going l.ready.call l.input l.initial.place l.initial.area l.area l.target.to.0 l.target.room.0 l.target.most.0 l.place l.made l.passed
 
 abbrev pub decreases-loop-place : goal.decreases-loop-place
 decreases-loop-place l = l.held - l.place.position.0
