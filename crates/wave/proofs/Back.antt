@@ -17,11 +17,10 @@ use Rattle.stream.specs.Refusals.{rate_bad, channels_bad, max_area}
 use Rattle.stream.proofs.Testing.{neither}
 use Rattle.pcm.specs.Pcm.{sample_of}
 use Rattle.chunks.specs.Numbers.{u16_at}
-use Rattle.chunks.specs.Chunks.{no_format}
 use Rattle.chunks.specs.Head.{head_of}
 use Rattle.chunks.proofs.Reading.{head_format, head-wave, head-format, head-data}
-use Rattle.wave.specs.declared.WaveRead.{WaveRead}
-use Rattle.wave.specs.declared.WaveWritten.{WaveWritten}
+use Rattle.std.specs.Prelude.{Some, None, Ok, Err}
+use Rattle.wave.specs.declared.WaveRefused.{WaveRefused}
 use Rattle.wave.specs.Wave.{file_of, read_wave, sample_bytes, file_bytes, whole_frames, written, size_bad, write_wave}
 use Rattle.wave.specs.Back.{ReadsBack}
 use Rattle.wave.proofs.Walking.{walk-begun, walk-on, walk-data}
@@ -44,7 +43,7 @@ channels-range channels e =
 
 head_read : (rate channels size : ℕ) (tail : List ℕ) → rate_bad rate ≡ false → channels_bad channels ≡ false
     → size < 2 ^ 32 → size ≤ length tail
-    → read_wave (head_of rate channels size ++ tail) ≡ WaveRead.Done (file_of (head_format rate channels) size 44)
+    → read_wave (head_of rate channels size ++ tail) ≡ Ok (file_of (head_format rate channels) size 44)
 head_read rate channels size tail r k s t =
     let bytes = head_of rate channels size ++ tail in
     let f = head_format rate channels in
@@ -55,8 +54,8 @@ head_read rate channels size tail r k s t =
     let rate-small : rate < 2 ^ 32 = omega (arith, rate-top rate r) in
     let channels-small : channels < 65536 = omega (arith, (channels-range channels k).1) in
     walk-begun bytes (head-wave rate channels size tail)
-    ∙ walk-on bytes 12 no_format 24 f (omega (arith, n)) (head-format rate channels size tail (length (drop 12 bytes)) n₁ channels-small rate-small)
-    ∙ walk-data (length bytes - 36) 36 (drop 36 bytes) f size (head-data rate channels size tail (length (drop 36 bytes)) n₂ s r k)
+    ∙ walk-on bytes 12 None 24 (Some f) (omega (arith, n)) (head-format rate channels size tail (length (drop 12 bytes)) n₁ channels-small rate-small)
+    ∙ walk-data (length bytes - 36) 36 (drop 36 bytes) (Some f) size f (head-data rate channels size tail (length (drop 36 bytes)) n₂ s r k)
 
 -- a number behind so many bytes
 behind : (head tail : List ℕ) (n k : ℕ) → length head ≡ n → u16_at (head ++ tail) (n + k) ≡ u16_at tail k
@@ -74,11 +73,11 @@ record Passed (rate channels : ℕ) (samples : List ℤ) (dest : List ℕ) : Typ
   channels_good : channels_bad channels ≡ false
   size_good : size_bad (whole_frames channels samples) (whole_file rate channels samples) dest ≡ false
 
-refused-done : {number given n : ℕ} → WaveWritten.Refused number given ≡ WaveWritten.Done n → ⊥
-refused-done e = let z : ◌≡◌ {A = ℕ} 0 1 = cc in omega arith
+refused-done : {refused : WaveRefused} {n : ℕ} → Err refused ≡ Ok n → ⊥
+refused-done e = cc
 
 passed : (rate channels : ℕ) (samples : List ℤ) (dest : List ℕ) (n : ℕ)
-    → (write_wave rate channels samples dest).answer ≡ WaveWritten.Done n → Passed rate channels samples dest
+    → (write_wave rate channels samples dest).answer ≡ Ok n → Passed rate channels samples dest
 passed rate channels samples dest n e =
     go (rate_bad rate) (channels_bad channels) (size_bad (whole_frames channels samples) (whole_file rate channels samples) dest) refl refl refl
   where
@@ -119,12 +118,12 @@ module _ (rate channels : ℕ) (samples : List ℤ) (dest : List ℕ) (p : Passe
       ∙ mul-div_cancel (length samples / channels) {n = channels} some
 
   answer_back : read_wave (head_of rate channels (2 * length whole) ++ tail)
-      ≡ WaveRead.Done (record { rate = rate; channels = channels; frames = record { 0 = length samples / channels }; begin = 44 })
+      ≡ Ok (record { rate = rate; channels = channels; frames = record { 0 = length samples / channels }; begin = 44 })
   answer_back =
       let more = drop (length (whole_file rate channels samples)) dest in
       let there : 2 * length whole ≤ length tail = omega (arith, length-append (sample_bytes whole) more, bytes-length whole) in
       head_read rate channels (2 * length whole) tail p.rate_good p.channels_good (omega (arith, whole-few)) there
-      ∙ (λ i. WaveRead.Done (record { rate = rate; channels = channels; frames = record { 0 = frames-are i }; begin = 44 }))
+      ∙ (λ i. Ok (record { rate = rate; channels = channels; frames = record { 0 = frames-are i }; begin = 44 }))
 
   sample-back : ((i : ℕ) → SFits w16 (get_or samples i (pos 0))) → (i : ℕ) → i < length whole
       → sample_of (u16_at (head_of rate channels (2 * length whole) ++ tail) (44 + 2 * i)) ≡ get_or samples i (pos 0)
@@ -141,7 +140,7 @@ module _ (rate channels : ℕ) (samples : List ℤ) (dest : List ℕ) (p : Passe
 
 pub written-reads-back : (rate channels : ℕ) (samples : List ℤ) (dest : List ℕ) (n : ℕ)
     → ((i : ℕ) → SFits w16 (get_or samples i (pos 0)))
-    → (write_wave rate channels samples dest).answer ≡ WaveWritten.Done n
+    → (write_wave rate channels samples dest).answer ≡ Ok n
     → ReadsBack rate channels samples (write_wave rate channels samples dest).dest
 written-reads-back rate channels samples dest n fits e =
     let p = passed rate channels samples dest n e in

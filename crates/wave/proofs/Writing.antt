@@ -14,10 +14,12 @@ use lib.Dec.{ltb}
 use lib.IntN.{ℤ}
 use lib.ListN.{length, take, drop, length-append}
 use lib.Seq.{paste, length-take-le, take-length}
-use Rattle.stream.specs.Refusals.{bad_rate, bad_channels, bad_size, rate_bad, channels_bad, max_area}
+use Rattle.std.specs.Prelude.{Err}
+use Rattle.stream.specs.declared.refusal.Refusal.{Refusal}
+use Rattle.stream.specs.declared.refusal.Refusal.TheVariants.{BadRate, BadChannels, BadSize}
+use Rattle.stream.specs.Refusals.{rate_bad, channels_bad, max_area}
 use Rattle.frames.proofs.Pasted.{paste-append}
 use Rattle.chunks.specs.Head.{head_of}
-use Rattle.wave.specs.declared.WaveWritten.{WaveWritten}
 use Rattle.wave.specs.Wave.{sample_bytes, file_bytes, whole_frames, Written, written, size_bad, write_wave}
 use Rattle.wave.proofs.Sampling.{bytes-length}
 
@@ -40,8 +42,8 @@ file-length rate channels samples =
 
 -- ---- answers
 
-abbrev pub refused : ℕ → ℕ → List ℕ → Written
-refused number given dest = record { answer = WaveWritten.Refused number given; dest = dest }
+abbrev pub refused : Refusal → ℕ → List ℕ → Written
+refused refusal given dest = record { answer = Err (record { refusal = refusal; given = given }); dest = dest }
 
 -- the file of the whole frames
 abbrev pub whole_file : ℕ → ℕ → List ℤ → List ℕ
@@ -52,17 +54,17 @@ module _ (rate channels : ℕ) (samples : List ℤ) (dest : List ℕ) where
   abbrev too_big : Bool
   too_big = size_bad (whole_frames channels samples) (whole_file rate channels samples) dest
 
-  pub rate-refused : rate_bad rate ≡ true → write_wave rate channels samples dest ≡ refused bad_rate rate dest
+  pub rate-refused : rate_bad rate ≡ true → write_wave rate channels samples dest ≡ refused BadRate rate dest
   unfolding write_wave
   rate-refused r = rw r
 
   module _ (rate_good : rate_bad rate ≡ false) where
-    pub channels-refused : channels_bad channels ≡ true → write_wave rate channels samples dest ≡ refused bad_channels channels dest
+    pub channels-refused : channels_bad channels ≡ true → write_wave rate channels samples dest ≡ refused BadChannels channels dest
     unfolding write_wave
     channels-refused k = rw (rate_good, k)
 
     module _ (channels_good : channels_bad channels ≡ false) where
-      pub size-refused : too_big ≡ true → write_wave rate channels samples dest ≡ refused bad_size 0 dest
+      pub size-refused : too_big ≡ true → write_wave rate channels samples dest ≡ refused BadSize 0 dest
       unfolding write_wave
       size-refused s = rw (rate_good, channels_good, s)
 

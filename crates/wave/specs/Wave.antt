@@ -1,17 +1,17 @@
 -- docs/RULES.md, "WAVE files": what reading and writing a file answer. Definitions only. Assumes nothing.
 use Rattle.std.specs.Prelude.{Bool, cond, ◌||◌, List, [], ◌∷◌, ◌++◌, ℕ, zero, suc, ◌+◌, ◌*◌, ◌/◌, ltb, ℤ}
-use Rattle.std.specs.Prelude.{length, take, drop}
-use Rattle.stream.specs.Refusals.{bad_rate, bad_channels, not_wave, bad_size, bad_format}
+use Rattle.std.specs.Prelude.{length, take, drop, Option, None, Result, Ok, Err}
+use Rattle.stream.specs.declared.refusal.Refusal.{Refusal}
+use Rattle.stream.specs.declared.refusal.Refusal.TheVariants.{BadRate, BadChannels, NotWave, BadSize, BadFormat}
 use Rattle.stream.specs.Refusals.{rate_bad, channels_bad, max_area}
 use Rattle.pcm.specs.Pcm.{pair_of}
 use Rattle.chunks.specs.declared.Format.{Format}
 use Rattle.chunks.specs.declared.Chunk.{Chunk}
 use Rattle.chunks.specs.Numbers.{two_bytes}
-use Rattle.chunks.specs.Chunks.{is_wave, no_format, chunk_of}
+use Rattle.chunks.specs.Chunks.{is_wave, chunk_of}
 use Rattle.chunks.specs.Head.{head_of}
 use Rattle.wave.specs.declared.WaveFile.{WaveFile}
-use Rattle.wave.specs.declared.WaveRead.{WaveRead}
-use Rattle.wave.specs.declared.WaveWritten.{WaveWritten}
+use Rattle.wave.specs.declared.WaveRefused.{WaveRefused}
 
 -- ---- reading
 
@@ -21,20 +21,21 @@ file_of f size begin =
     record { rate = f.rate; channels = f.channels; frames = record { 0 = size / (2 * f.channels) }; begin = begin }
 
 -- what is answered at a chunk that begins at the byte `at`: behind another one the file is read on
-unfoldable pub answer_at : ℕ → Format → (ℕ → Format → WaveRead) → Chunk → WaveRead
-answer_at at f on (Chunk.Refused number) = WaveRead.Refused number
-answer_at at f on (Chunk.Other count g) = on count g
-answer_at at f on (Chunk.Data size) = WaveRead.Done (file_of f size (at + 8))
+unfoldable pub answer_at : ℕ → (ℕ → Option Format → Result WaveFile Refusal) → Result Chunk Refusal
+    → Result WaveFile Refusal
+answer_at at on (Err refusal) = Err refusal
+answer_at at on (Ok (Chunk.Other count g)) = on count g
+answer_at at on (Ok (Chunk.Data size f)) = Ok (file_of f size (at + 8))
 
 -- chunk by chunk, at most so many, from the byte `at` on, where `rest` is the rest of the file
-unfoldable pub walk : ℕ → ℕ → List ℕ → Format → WaveRead
-walk zero at rest f = WaveRead.Refused bad_format
+unfoldable pub walk : ℕ → ℕ → List ℕ → Option Format → Result WaveFile Refusal
+walk zero at rest f = Err BadFormat
 walk (suc most) at rest f =
-    answer_at at f (λ count g. walk most (at + count) (drop count rest) g) (chunk_of rest (length rest) f)
+    answer_at at (λ count g. walk most (at + count) (drop count rest) g) (chunk_of rest (length rest) f)
 
 -- behind the head of 12 bytes come chunks, of at least eight bytes each: fewer than the file has bytes
-unfoldable pub read_wave : List ℕ → WaveRead
-read_wave bytes = cond (is_wave bytes) (walk (length bytes) 12 (drop 12 bytes) no_format) (WaveRead.Refused not_wave)
+unfoldable pub read_wave : List ℕ → Result WaveFile Refusal
+read_wave bytes = cond (is_wave bytes) (walk (length bytes) 12 (drop 12 bytes) None) (Err NotWave)
 
 -- ---- writing
 
@@ -53,13 +54,13 @@ whole_frames channels samples = take (length samples / channels * channels) samp
 
 -- what a write leaves: its answer and the destination
 pub record Written : Type 0 where
-  pub answer : WaveWritten
+  pub answer : Result ℕ WaveRefused
   pub dest : List ℕ
 
 -- so many bytes of a destination are those of the file
 unfoldable pub written : List ℕ → List ℕ → Written
 written file dest =
-    record { answer = WaveWritten.Done (length file); dest = file ++ drop (length file) dest }
+    record { answer = Ok (length file); dest = file ++ drop (length file) dest }
 
 -- the number of samples, or the file, does not fit
 unfoldable pub size_bad : List ℤ → List ℕ → List ℕ → Bool
@@ -67,9 +68,9 @@ size_bad samples file dest = ltb max_area (length samples) || ltb (length dest) 
 
 unfoldable pub write_wave : ℕ → ℕ → List ℤ → List ℕ → Written
 write_wave rate channels samples dest =
-    cond (rate_bad rate) (refused bad_rate rate)
-    (cond (channels_bad channels) (refused bad_channels channels)
-    (cond (size_bad whole file dest) (refused bad_size 0) (written file dest)))
+    cond (rate_bad rate) (refused BadRate rate)
+    (cond (channels_bad channels) (refused BadChannels channels)
+    (cond (size_bad whole file dest) (refused BadSize 0) (written file dest)))
   where
     whole : List ℤ
     whole = whole_frames channels samples
@@ -77,5 +78,5 @@ write_wave rate channels samples dest =
     file : List ℕ
     file = file_bytes rate channels whole
 
-    refused : ℕ → ℕ → Written
-    refused number given = record { answer = WaveWritten.Refused number given; dest = dest }
+    refused : Refusal → ℕ → Written
+    refused refusal given = record { answer = Err (record { refusal = refusal; given = given }); dest = dest }

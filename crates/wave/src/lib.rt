@@ -2,13 +2,13 @@
 // `specs/Wave.antt` says what is answered.
 #![tactic(auto)]
 
-ghost use Rattle.std.specs.Prelude.{◌≡◌, ◌+◌, ◌*◌, ◌≤◌, length, take};
+ghost use Rattle.std.specs.Prelude.{◌≡◌, ◌+◌, ◌*◌, ◌≤◌, length};
 ghost use Rattle.std.proofs.Math.Seq.{paste};
 ghost use Rattle.wave.specs.Wave.{file_of, read_wave, sample_bytes, write_wave};
 
 use chunks::{Chunk, Format};
 use frames::{Frames, Samples};
-use stream::{SonicStream, refusals};
+use stream::{Refusal, SonicStream};
 
 // A file's rate, channels and whole frames, and the byte at which their samples begin.
 #[derive(Clone, Copy)]
@@ -19,19 +19,11 @@ pub struct WaveFile {
     pub begin: usize,
 }
 
-// The answer of `read_wave`; a refusal has its number.
-#[derive(Clone, Copy)]
-pub enum WaveRead {
-    Refused(u32),
-    Done(WaveFile),
-}
-
-// The answer of `write_wave`: the bytes of the file. A refusal has its number, and the rate or the channels that were
-// given, or 0.
-#[derive(Clone, Copy)]
-pub enum WaveWritten {
-    Refused { number: u32, given: u32 },
-    Done(usize),
+// A refusal of `write_wave`, with the rate or the channels that were given, or 0.
+#[derive(Clone, Copy, Debug, PartialEq, Eq)]
+pub struct WaveRefused {
+    pub refusal: Refusal,
+    pub given: u32,
 }
 
 // A file with samples of this format, in `size` bytes from `begin` on.
@@ -39,82 +31,78 @@ fn file_of(format: Format, size: usize, begin: usize) -> WaveFile
     requires { (1 ≤ format.channels) × (format.channels ≤ 32) }
     ensures { result ≡ file_of format size begin }
 {
-    let frames = Frames(size / (2 * (format.channels as usize)));
     WaveFile {
         rate: format.rate,
         channels: format.channels,
-        frames,
+        frames: Frames(size / (2 * (format.channels as usize))),
         begin,
     }
 }
 
 // Reads the chunks of a file up to its samples.
-pub fn read_wave(bytes: &[u8]) -> WaveRead
+pub fn read_wave(bytes: &[u8]) -> Result<WaveFile, Refusal>
     ensures { result ≡ read_wave bytes.now }
 {
     if !chunks::is_wave(bytes) {
-        return WaveRead::Refused(refusals::NOT_WAVE);
+        return Err(Refusal::NotWave);
     }
-    let mut at = chunks::FILE_HEAD;
-    let mut format = Format::NONE;
-    while at <= bytes.len() {
-        let rest = &bytes[at..];
-        match chunks::read_chunk(rest, rest.len(), format) {
-            Chunk::Refused(number) => {
-                return WaveRead::Refused(number);
-            }
+    let mut rest = &bytes[chunks::FILE_HEAD..];
+    let mut format = None;
+    loop {
+        match chunks::read_chunk(rest, rest.len(), format)? {
             Chunk::Other(count, next) => {
-                at += count;
+                rest = &rest[count..];
                 format = next;
             }
-            Chunk::Data(size) => {
-                return WaveRead::Done(file_of(format, size, at + 8));
+            Chunk::Data(size, format) => {
+                return Ok(file_of(format, size, bytes.len() - rest.len() + 8));
             }
         }
     }
-    // Not reached: no chunk that is passed ends behind the file.
-    WaveRead::Refused(refusals::BAD_FORMAT)
 }
 
-// Puts the bytes of the first `count` samples behind the head.
-fn put_samples(dest: &mut [u8], samples: &[i16], count: usize)
-    requires { (44 + 2 * count ≤ length dest.old) × (count ≤ length samples.now) }
-    ensures { dest.new ≡ paste dest.old 44 (sample_bytes (take count samples.now))
-        (2 * count) }
+// Puts the bytes of samples behind the head.
+fn put_samples(dest: &mut [u8], samples: &[i16])
+    requires { 44 + 2 * length samples.now ≤ length dest.old }
+    ensures { dest.new ≡ paste dest.old 44 (sample_bytes samples.now)
+        (2 * length samples.now) }
 {
-    let mut i: usize = 0;
-    while i < count {
-        chunks::put_u16(dest, chunks::HEAD_BYTES + 2 * i, pcm::pair(samples[i]));
-        i += 1;
+    for (i, sample) in samples.iter().enumerate() {
+        chunks::put_u16(dest, chunks::HEAD_BYTES + 2 * i, pcm::pair(*sample));
     }
 }
 
 // Writes a file of the samples' whole frames to the front of the destination.
-pub fn write_wave(dest: &mut [u8], rate: u32, channels: u32, samples: &[i16]) -> WaveWritten
+pub fn write_wave(
+    dest: &mut [u8],
+    rate: u32,
+    channels: u32,
+    samples: &[i16],
+) -> Result<usize, WaveRefused>
     ensures { (result ≡ (write_wave rate channels samples.now dest.old).answer)
         × (dest.new ≡ (write_wave rate channels samples.now dest.old).dest) }
 {
-    if rate < SonicStream::MIN_RATE || rate > SonicStream::MAX_RATE {
-        return WaveWritten::Refused {
-            number: refusals::BAD_RATE,
+    if stream::rate_bad(rate) {
+        return Err(WaveRefused {
+            refusal: Refusal::BadRate,
             given: rate,
-        };
+        });
     }
-    if channels < SonicStream::MIN_CHANNELS || channels > SonicStream::MAX_CHANNELS {
-        return WaveWritten::Refused {
-            number: refusals::BAD_CHANNELS,
+    if stream::channels_bad(channels) {
+        return Err(WaveRefused {
+            refusal: Refusal::BadChannels,
             given: channels,
-        };
+        });
     }
     let whole = Samples(samples.len()).frames(channels as usize);
     let count = whole.samples(channels as usize).0;
     if count > SonicStream::MAX_AREA || dest.len() < chunks::HEAD_BYTES + 2 * count {
-        return WaveWritten::Refused {
-            number: refusals::BAD_SIZE,
+        return Err(WaveRefused {
+            refusal: Refusal::BadSize,
             given: 0,
-        };
+        });
     }
     chunks::put_head(dest, rate, channels, (2 * count) as u32);
-    put_samples(dest, samples, count);
-    WaveWritten::Done(chunks::HEAD_BYTES + 2 * count)
+    put_samples(dest, &samples[..count]);
+    Ok(chunks::HEAD_BYTES + 2 * count)
 }

@@ -17,7 +17,7 @@ use Rattle.wave.proofs.Sampling.{bytes-length, bytes-turn}
 use Rattle.wave.proofs.put_samples.Goals as goal
 
 pub loop-i-init : goal.loop-i-init
-loop-i-init c = (omega arith, refl, paste-zero c.args.dest.now 44 (sample_bytes []))
+loop-i-init c = record { long = refl; put = paste-zero c.args.dest.now 44 (sample_bytes []) }
 
 pub loop-i-preserved : goal.loop-i-preserved
 loop-i-preserved c =
@@ -32,10 +32,11 @@ loop-i-preserved c =
     let ready = sample_bytes (take l.i samples) in
     let count : length ready ≡ 2 * l.i = bytes-length (take l.i samples) ∙ ap (λ (n : ℕ). 2 * n) (length-take-le l.i samples (omega arith)) in
     let behind = paste-append d ready (two_bytes (pair_of v)) 44 (2 * l.i) 2 count refl (omega arith) in
-    let more : 2 * l.i + 2 ≡ 2 * (l.i + 1) = omega arith in (
-      omega arith,
-      c.put_u16.auto.dest ∙ l.invariant.1,
-      put ∙ ap (λ (e : List ℕ). paste e (44 + 2 * l.i) (two_bytes (pair_of v)) 2) l.invariant.2 ∙ behind
+    let more : 2 * l.i + 2 ≡ 2 * (l.i + 1) = omega arith in
+    record {
+      long = c.put_u16.auto.dest ∙ l.invariant.long;
+      put =
+          put ∙ ap (λ (e : List ℕ). paste e (44 + 2 * l.i) (two_bytes (pair_of v)) 2) l.invariant.put ∙ behind
           ∙ ap (paste d 44 (ready ++ two_bytes (pair_of v))) more
-          ∙ ap (λ (e : List ℕ). paste d 44 e (2 * (l.i + 1))) (sym (bytes-turn samples l.i inside)),
-    )
+          ∙ ap (λ (e : List ℕ). paste d 44 e (2 * (l.i + 1))) (sym (bytes-turn samples l.i inside));
+    }

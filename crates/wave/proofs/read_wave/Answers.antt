@@ -1,92 +1,93 @@
 -- `wave::read_wave` meets its contract: each turn answers, or leaves the rest of the file behind another chunk. Assumes nothing.
-use mathlib.Core.Bool.{true, false}
-use mathlib.Core.List.{List}
-use mathlib.Core.Path.{◌≡◌, sym, ap, ◌∙◌}
-use Prim.Native.Nat.{ℕ, ◌+◌, ◌-◌, ◌≤◌}
-use native.Mathlib.Omega.{arith}
-use lib.ListN.{length, take, drop, length-drop}
+use Rattle.std.proofs.Common.{rules, arith, ◌≡◌, true, ℕ, ◌-◌, ◌≤◌, List, length, take, drop, sym, ap, ◌∙◌, Ok}
+use Rattle.std.proofs.lemmas.Result.{err_from_is_err_and}
+use lib.ListN.{length-drop}
 use lib.Seq.{take_all}
-use Rattle.chunks.specs.declared.Chunk.{Chunk}
-use Rattle.chunks.specs.declared.Format.{Format}
-use Rattle.chunks.specs.Chunks.{is_wave, chunk_of}
+use Rattle.chunks.specs.Chunks.{is_wave}
 use Rattle.chunks.proofs.Bounds.{other-bounds, data-bounds, read-channels}
-use Rattle.wave.specs.declared.WaveRead.{WaveRead}
 use Rattle.wave.specs.Wave.{read_wave}
-use Rattle.wave.proofs.Walking.{walk_refused, walk-data, wave-long, walk-begun, walk-on}
+use Rattle.wave.proofs.Walking.{walk_refused, walk-data, wave-long, walk-begun, walk-next}
 use Rattle.wave.proofs.read_wave.Goals as goal
 
--- the chunk that is read, from where the file is read on
-chunk-is : (bytes : List ℕ) (at : ℕ) (f : Format) {chunk : Chunk}
-    → (let l = take (length bytes - at) (drop at bytes) in chunk ≡ chunk_of l (length l) f)
-    → chunk_of (drop at bytes) (length (drop at bytes)) f ≡ chunk
-chunk-is bytes at f e =
-    let rest = drop at bytes in
-    let whole : take (length bytes - at) rest ≡ rest = take_all (length bytes - at) rest (omega (arith, length-drop at bytes)) in
-    ap (λ (l : List ℕ). chunk_of l (length l) f) (sym whole) ∙ sym e
-
--- it is another one
-other-inside : (bytes : List ℕ) (at : ℕ) (f : Format) (count : ℕ) (next : Format) → at ≤ length bytes
-    → chunk_of (drop at bytes) (length (drop at bytes)) f ≡ Chunk.Other count next → (8 ≤ count) × (at + count ≤ length bytes)
-other-inside bytes at f count next h e =
-    let rest = drop at bytes in
-    let b = other-bounds rest (length rest) f count next e in
-    (b.0, omega (arith, b.1, length-drop at bytes))
+-- a slice from byte n on
+rest-is : (n : ℕ) (bytes : List ℕ) → n ≤ length bytes → take (length bytes - n) (drop n bytes) ≡ drop n bytes
+rest-is n bytes h = take_all (length bytes - n) (drop n bytes) (omega (arith, length-drop n bytes))
 
 pub returns-then-not-is_wave : goal.returns-then-not-is_wave
 unfolding read_wave
-returns-then-not-is_wave c =
-    let other : is_wave c.args.bytes.now ≡ false = sym c.is_wave.ensures ∙ c.if-not-is_wave.true in
-    simp other
+returns-then-not-is_wave c = simp (sym c.is_wave.ensures ∙ c.if-not-is_wave.true)
 
-pub loop-at-init : goal.loop-at-init
-loop-at-init c =
+pub slice_bounds-rest-count : goal.slice_bounds-rest-count
+slice_bounds-rest-count c = wave-long c.args.bytes.now (sym c.is_wave.ensures ∙ c.if-not-is_wave.false)
+
+pub slice_bounds-rest-start : goal.slice_bounds-rest-start
+slice_bounds-rest-start c =
+    let long : 12 ≤ length c.args.bytes.now = wave-long c.args.bytes.now (sym c.is_wave.ensures ∙ c.if-not-is_wave.false) in
+    search rules
+
+pub loop-count-init : goal.loop-count-init
+loop-count-init c =
     let bytes : List ℕ = c.args.bytes.now in
     let wave : is_wave bytes ≡ true = sym c.is_wave.ensures ∙ c.if-not-is_wave.false in
-    (wave-long bytes wave, walk-begun bytes wave)
+    let long : 12 ≤ length bytes = wave-long bytes wave in
+    let count = length-drop 12 bytes in
+    let at : length bytes - length (drop 12 bytes) ≡ 12 = omega arith in
+    rw (rest-is 12 bytes long, at, count) (record { within = omega arith; left = walk-begun bytes wave })
 
-pub returns-in-Refused : goal.returns-in-Refused
-returns-in-Refused c =
+pub returns-in_err-count : goal.returns-in_err-count
+returns-in_err-count c =
     let bytes : List ℕ = c.args.bytes.now in
-    let l = c.loop-at in
-    let e = chunk-is bytes l.at l.format c.read_chunk.ensures ∙ c.in-Refused.is in
-    sym (l.invariant.1 ∙ walk_refused (length bytes - l.at) l.at (drop l.at bytes) l.format c.in-Refused.number e)
+    let l = c.loop-count in
+    let rest : List ℕ = l.rest.now in
+    let p = err_from_is_err_and c.from_residual.result c.from_residual.ensures.1 in
+    let e = sym c.read_chunk.ensures ∙ c.in_err-count.was in
+    rw (p.1, p.2) (sym (l.invariant.left ∙ walk_refused (length rest) (length bytes - length rest) rest l.format c.in_err-count.field-0.0 e))
 
-pub overflow_add-at : goal.overflow_add-at
-overflow_add-at c =
-    let bytes : List ℕ = c.args.bytes.now in
-    let l = c.loop-at in
-    let e = chunk-is bytes l.at l.format c.read_chunk.ensures ∙ c.in-Other.is in
-    let b = other-inside bytes l.at l.format c.in-Other.count c.in-Other.next l.invariant.0 e in
-    record { fits = omega (arith, b.1) }
+pub slice_bounds-rest-count-in-Other : goal.slice_bounds-rest-count-in-Other
+slice_bounds-rest-count-in-Other c =
+    let l = c.loop-count in
+    let e = sym c.read_chunk.ensures ∙ c.in_ok-count.was ∙ ap Ok c.in-Other.is in
+    (other-bounds l.rest.now (length l.rest.now) l.format c.in-Other.count c.in-Other.next e).1
 
-pub loop-at-smaller : goal.loop-at-smaller
-loop-at-smaller c =
-    let bytes : List ℕ = c.args.bytes.now in
-    let l = c.loop-at in
-    let e = chunk-is bytes l.at l.format c.read_chunk.ensures ∙ c.in-Other.is in
-    let b = other-inside bytes l.at l.format c.in-Other.count c.in-Other.next l.invariant.0 e in
-    omega (arith, b.0, b.1)
+pub slice_bounds-rest-start-in-Other : goal.slice_bounds-rest-start-in-Other
+slice_bounds-rest-start-in-Other c =
+    let l = c.loop-count in
+    let e = sym c.read_chunk.ensures ∙ c.in_ok-count.was ∙ ap Ok c.in-Other.is in
+    let inside : c.in-Other.count ≤ length l.rest.now = (other-bounds l.rest.now (length l.rest.now) l.format c.in-Other.count c.in-Other.next e).1 in
+    search rules
 
-pub loop-at-preserved : goal.loop-at-preserved
-loop-at-preserved c =
+pub loop-count-smaller : goal.loop-count-smaller
+loop-count-smaller c =
+    let l = c.loop-count in
+    let rest : List ℕ = l.rest.now in
+    let e = sym c.read_chunk.ensures ∙ c.in_ok-count.was ∙ ap Ok c.in-Other.is in
+    let b = other-bounds rest (length rest) l.format c.in-Other.count c.in-Other.next e in
+    rw (rest-is c.in-Other.count rest b.1) (omega (arith, b.0, b.1, length-drop c.in-Other.count rest))
+
+pub loop-count-preserved : goal.loop-count-preserved
+loop-count-preserved c =
     let bytes : List ℕ = c.args.bytes.now in
-    let l = c.loop-at in
-    let e = chunk-is bytes l.at l.format c.read_chunk.ensures ∙ c.in-Other.is in
-    let b = other-inside bytes l.at l.format c.in-Other.count c.in-Other.next l.invariant.0 e in
-    (b.1, l.invariant.1 ∙ walk-on bytes l.at l.format c.in-Other.count c.in-Other.next l.invariant.0 e)
+    let l = c.loop-count in
+    let rest : List ℕ = l.rest.now in
+    let e = sym c.read_chunk.ensures ∙ c.in_ok-count.was ∙ ap Ok c.in-Other.is in
+    let b = other-bounds rest (length rest) l.format c.in-Other.count c.in-Other.next e in
+    rw (rest-is c.in-Other.count rest b.1) (record {
+      within = omega (arith, b.1, length-drop c.in-Other.count rest);
+      left = l.invariant.left ∙ walk-next (length bytes) rest l.format c.in-Other.count c.in-Other.next l.invariant.within e;
+    })
 
 pub file_of-requires : goal.file_of-requires
 file_of-requires c =
-    let bytes : List ℕ = c.args.bytes.now in
-    let l = c.loop-at in
-    let e = chunk-is bytes l.at l.format c.read_chunk.ensures ∙ c.in-Data.is in
-    let rest = drop l.at bytes in
-    read-channels l.format (data-bounds rest (length rest) l.format c.in-Data.size e).0
+    let l = c.loop-count in
+    let rest : List ℕ = l.rest.now in
+    let e = sym c.read_chunk.ensures ∙ c.in_ok-count.was ∙ ap Ok c.in-Data.is in
+    read-channels c.in-Data.format (data-bounds rest (length rest) l.format c.in-Data.size c.in-Data.format e).0
 
 pub returns-in-Data : goal.returns-in-Data
 returns-in-Data c =
     let bytes : List ℕ = c.args.bytes.now in
-    let l = c.loop-at in
-    let e = chunk-is bytes l.at l.format c.read_chunk.ensures ∙ c.in-Data.is in
-    ap WaveRead.Done c.file_of.ensures
-    ∙ sym (l.invariant.1 ∙ walk-data (length bytes - l.at) l.at (drop l.at bytes) l.format c.in-Data.size e)
+    let l = c.loop-count in
+    let rest : List ℕ = l.rest.now in
+    let e = sym c.read_chunk.ensures ∙ c.in_ok-count.was ∙ ap Ok c.in-Data.is in
+    ap Ok c.file_of.ensures
+    ∙ sym (l.invariant.left ∙ walk-data (length rest) (length bytes - length rest) rest l.format c.in-Data.size c.in-Data.format e)

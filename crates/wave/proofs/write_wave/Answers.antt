@@ -8,58 +8,45 @@ use Prim.Native.Nat.{ℕ, ◌+◌, ◌*◌, ◌/◌, ◌≤◌}
 use lib.Dec.{ltb}
 use lib.ListN.{length, take}
 use lib.Seq.{paste}
-use Rattle.stream.specs.Refusals.{rate_bad, channels_bad, max_area}
-use Rattle.wave.specs.declared.WaveWritten.{WaveWritten}
+use native.Mathlib.Nat.{div-mul-le_self}
+use lib.Seq.{length-take-le}
+use Rattle.stream.specs.Refusals.{max_area}
+use Rattle.stream.proofs.InOrder.{limits-in}
+use Rattle.std.specs.Prelude.{Ok}
 use Rattle.wave.specs.Wave.{sample_bytes, whole_frames, written}
 use Rattle.wave.proofs.Writing.{whole_length, file-length, whole_file, rate-refused, channels-refused, size-refused, file-written, size_is, file-laid}
 use Rattle.wave.proofs.write_wave.Goals as goal
-use Rattle.wave.proofs.write_wave.Goals.{then-rate-lt-MIN_RATE-via-then-rate-lt-MIN_RATE, then-rate-lt-MIN_RATE-via-else-rate-lt-MIN_RATE+then-rate-gt-MAX_RATE}
-use Rattle.wave.proofs.write_wave.Goals.{then-channels-lt-MIN_CHANNELS-via-then-channels-lt-MIN_CHANNELS}
-use Rattle.wave.proofs.write_wave.Goals.{then-channels-lt-MIN_CHANNELS-via-else-channels-lt-MIN_CHANNELS+then-channels-gt-MAX_CHANNELS}
 use Rattle.wave.proofs.write_wave.Goals.{then-count-gt-MAX_AREA-via-then-count-gt-MAX_AREA, then-count-gt-MAX_AREA-via-else-count-gt-MAX_AREA+then-dest-count}
 
--- the rate and the channels are in their ranges
-rate-passed : {rate : ℕ} → 1000 ≤ rate → rate ≤ 500000 → rate_bad rate ≡ false
-unfolding rate_bad
-rate-passed {rate} low high = simp (le-ltb rate 1000 low, le-ltb 500000 rate high)
-
-channels-passed : {channels : ℕ} → 1 ≤ channels → channels ≤ 32 → channels_bad channels ≡ false
-unfolding channels_bad
-channels-passed {channels} low high = simp (le-ltb channels 1 low, le-ltb 32 channels high)
-
-pub returns-then-rate-lt-MIN_RATE : goal.returns-then-rate-lt-MIN_RATE
-unfolding rate_bad
-returns-then-rate-lt-MIN_RATE c =
+pub returns-then-rate_bad : goal.returns-then-rate_bad
+returns-then-rate_bad c =
     let a = c.args in
-    let bad : rate_bad a.rate ≡ true =
-    elim c.then-rate-lt-MIN_RATE.branch [
-      | then-rate-lt-MIN_RATE-via-then-rate-lt-MIN_RATE w ↦ simp (lt-ltb _ _ w.if-rate-lt-MIN_RATE.true)
-      | then-rate-lt-MIN_RATE-via-else-rate-lt-MIN_RATE+then-rate-gt-MAX_RATE w ↦
-          simp (le-ltb _ _ w.if-rate-lt-MIN_RATE.false, lt-ltb _ _ w.if-rate-gt-MAX_RATE.true)
-    ] in
-    let e = sym (rate-refused a.rate a.channels a.samples.now a.dest.now bad) in
+    let e = sym (rate-refused a.rate a.channels a.samples.now a.dest.now (sym c.rate_bad.ensures ∙ c.if-rate_bad.true)) in
     (λ i. (e i).answer, λ i. (e i).dest)
 
-pub returns-then-channels-lt-MIN_CHANNELS : goal.returns-then-channels-lt-MIN_CHANNELS
-unfolding channels_bad
-returns-then-channels-lt-MIN_CHANNELS c =
+pub returns-then-channels_bad : goal.returns-then-channels_bad
+returns-then-channels_bad c =
     let a = c.args in
-    let rate = rate-passed c.if-rate-lt-MIN_RATE.false c.if-rate-gt-MAX_RATE.false in
-    let bad : channels_bad a.channels ≡ true =
-    elim c.then-channels-lt-MIN_CHANNELS.branch [
-      | then-channels-lt-MIN_CHANNELS-via-then-channels-lt-MIN_CHANNELS w ↦ simp (lt-ltb _ _ w.if-channels-lt-MIN_CHANNELS.true)
-      | then-channels-lt-MIN_CHANNELS-via-else-channels-lt-MIN_CHANNELS+then-channels-gt-MAX_CHANNELS w ↦
-          simp (le-ltb _ _ w.if-channels-lt-MIN_CHANNELS.false, lt-ltb _ _ w.if-channels-gt-MAX_CHANNELS.true)
-    ] in
+    let rate = sym c.rate_bad.ensures ∙ c.if-rate_bad.false in
+    let bad = sym c.channels_bad.ensures ∙ c.if-channels_bad.true in
     let e = sym (channels-refused a.rate a.channels a.samples.now a.dest.now rate bad) in
     (λ i. (e i).answer, λ i. (e i).dest)
+
+pub frames-whole-requires : goal.frames-whole-requires
+frames-whole-requires c =
+    (limits-in _ _ (sym c.rate_bad.ensures ∙ c.if-rate_bad.false) (sym c.channels_bad.ensures ∙ c.if-channels_bad.false)).channels_low
+
+pub put_head-requires : goal.put_head-requires
+put_head-requires c =
+    let l = limits-in _ _ (sym c.rate_bad.ensures ∙ c.if-rate_bad.false) (sym c.channels_bad.ensures ∙ c.if-channels_bad.false) in
+    (omega arith, l.rate_high, l.channels_high, omega arith)
 
 pub returns-then-count-gt-MAX_AREA : goal.returns-then-count-gt-MAX_AREA
 returns-then-count-gt-MAX_AREA c =
     let a = c.args in
     let count = c.samples-count.result.0 in
-    let rate = rate-passed c.if-rate-lt-MIN_RATE.false c.if-rate-gt-MAX_RATE.false in
-    let channels = channels-passed c.if-channels-lt-MIN_CHANNELS.false c.if-channels-gt-MAX_CHANNELS.false in
+    let rate = sym c.rate_bad.ensures ∙ c.if-rate_bad.false in
+    let channels = sym c.channels_bad.ensures ∙ c.if-channels_bad.false in
     let is : count ≡ length a.samples.now / a.channels * a.channels =
     c.samples-count.ensures ∙ ap (λ (n : ℕ). n * a.channels) c.frames-whole.ensures in
     let big : (ltb max_area count || ltb (length a.dest.now) (44 + 2 * count)) ≡ true =
@@ -77,8 +64,8 @@ unfolding written
 returns c =
     let a = c.args in
     let count = c.samples-count.result.0 in
-    let rate = rate-passed c.if-rate-lt-MIN_RATE.false c.if-rate-gt-MAX_RATE.false in
-    let channels = channels-passed c.if-channels-lt-MIN_CHANNELS.false c.if-channels-gt-MAX_CHANNELS.false in
+    let rate = sym c.rate_bad.ensures ∙ c.if-rate_bad.false in
+    let channels = sym c.channels_bad.ensures ∙ c.if-channels_bad.false in
     let is : count ≡ length a.samples.now / a.channels * a.channels =
     c.samples-count.ensures ∙ ap (λ (n : ℕ). n * a.channels) c.frames-whole.ensures in
     let room : 44 + 2 * count ≤ length a.dest.now = c.if-dest-count.false in
@@ -89,8 +76,9 @@ returns c =
     let long : 44 + 2 * count ≡ length (whole_file a.rate a.channels a.samples.now) =
     sym (file-length a.rate a.channels (whole_frames a.channels a.samples.now)
     ∙ ap (λ (k : ℕ). 44 + 2 * k) (whole_length a.channels a.samples.now ∙ sym is)) in
+    let inside : count ≤ length a.samples.now = omega (arith, is, div-mul-le_self (length a.samples.now) a.channels) in
     let laid =
-    c.put_samples.ensures
+    rw (length-take-le count a.samples.now inside) at c.put_samples.ensures
     ∙ ap (λ (d : List ℕ). paste d 44 (sample_bytes (take count a.samples.now)) (2 * count)) c.put_head.ensures
     ∙ file-laid a.rate a.channels count a.samples.now a.dest.now is room in
-    (ap WaveWritten.Done long ∙ (λ i. (e i).answer), laid ∙ (λ i. (e i).dest))
+    (ap Ok long ∙ (λ i. (e i).answer), laid ∙ (λ i. (e i).dest))
