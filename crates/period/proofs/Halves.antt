@@ -14,12 +14,11 @@ use Rattle.search.specs.declared.Candidate.{Candidate}
 use Rattle.search.specs.declared.outward.Wanted.TheVariants.{Least, Greatest}
 use Rattle.period.specs.declared.PeriodRecord.{PeriodRecord}
 use Rattle.period.specs.declared.Chosen.{Chosen}
-use Rattle.search.specs.Search.{found_of, find_pitch_period_in_range, Bounded}
+use Rattle.search.specs.Search.{found_of, find_pitch_period_in_range, widest_gap}
 use Rattle.search.specs.Outward.{wanted_in}
 use Rattle.period.specs.Rates.{min_period, max_period, skip, InLimits}
 use Rattle.period.specs.Pitch.{coarse, fine, found, prev_period_better, chosen, find_pitch_period, InRange, PeriodIn, PrevInOrder}
 use Rattle.period.specs.Searches.{first_search, second_search, last_search, nearby_of, best_of, prev_might_be_better}
-use Rattle.search.proofs.Candidates.{mean-le}
 use Rattle.period.proofs.Ranges.{near-high, near-low}
 use Rattle.period.proofs.Record.{find_pitch_period-in, find_pitch_period-record-in}
 
@@ -80,29 +79,30 @@ better-is : (prev : PeriodRecord) (f : Found)
 unfolding prev_period_better prev_might_be_better
 better-is prev f = third_last (not (eqb f.min_diff 0)) (not (eqb prev.period 0)) _ _
 
-abbrev pub answer : Bool → PeriodRecord → Candidate → Chosen
-answer t prev b =
+-- m is the least mean, v the greatest
+abbrev pub answer : Bool → PeriodRecord → Candidate → ℕ → Chosen
+answer t prev b m =
     record {
       period = record { 0 = cond t prev.period b.period };
-      prev = record { period = b.period; min_diff = b.diff / b.period };
+      prev = record { period = b.period; min_diff = m };
       sum = b.diff;
     }
 
-module _ (ties : Ties) (x : List ℤ) (prev : PeriodRecord) {channels R : ℕ} (o : InLimits R channels) (p : PeriodIn R prev) {b w : Candidate}
-    (best-is : b ≡ best_of ties x channels R) (small : Bounded b) (worst-is : w ≡ worst_of ties x channels R) (t : Bool)
-    (test : (prev_might_be_better prev (b.diff / b.period) && leb (w.diff / w.period) (b.diff / b.period * 3)) ≡ t) where
-  answer_is : answer t prev b ≡ find_pitch_period ties x channels R prev
+module _ (ties : Ties) (x : List ℤ) (prev : PeriodRecord) {channels R : ℕ} (o : InLimits R channels) (p : PeriodIn R prev) {b w : Candidate} {m v : ℕ}
+    (best-is : b ≡ best_of ties x channels R) (m-is : b.diff / b.period ≡ m) (small : m ≤ widest_gap) (worst-is : w ≡ worst_of ties x channels R)
+    (v-is : w.diff / w.period ≡ v) (t : Bool) (test : (prev_might_be_better prev m && leb v (m * 3)) ≡ t) where
+  answer_is : answer t prev b m ≡ find_pitch_period ties x channels R prev
   unfolding find_pitch_period chosen
   answer_is =
       let f : found ties x channels R ≡ found_of b w = found-is ties x channels R ∙ (λ i. found_of (sym best-is i) (sym worst-is i)) in
-      rw (f, better-is prev (found_of b w), test)
+      rw (f, better-is prev (found_of b w), m-is, v-is, test)
 
-  pub answered : (answer t prev b ≡ find_pitch_period ties x channels R prev) × InRange R (answer t prev b).period.0
-      × PrevInOrder R (answer t prev b).prev
+  pub answered : (answer t prev b m ≡ find_pitch_period ties x channels R prev) × InRange R (answer t prev b m).period.0
+      × PrevInOrder R (answer t prev b m).prev
   answered =
-      let r : PeriodIn R (answer t prev b).prev =
+      let r : PeriodIn R (answer t prev b m).prev =
       subst (λ (a : Chosen). PeriodIn R a.prev) (sym answer_is) (find_pitch_period-record-in ties x prev o p) in (
         answer_is,
         subst (λ (a : Chosen). InRange R a.period.0) (sym answer_is) (find_pitch_period-in ties x prev o p),
-        record { period_in = r; min_diff_in = mean-le small },
+        record { period_in = r; min_diff_in = small },
       )

@@ -4,7 +4,7 @@ use mathlib.Core.Path.{◌≡◌, refl, sym, ap, ◌∙◌, subst}
 use mathlib.Core.Bool.{Bool, true, false, cond}
 use mathlib.Core.List.{List}
 use mathlib.Core.Logic.{◌⊎◌, inl, inr, ⊎_elim}
-use Prim.Native.Nat.{ℕ, ◌+◌, ◌-◌, ◌*◌, ◌≤◌, ◌<◌}
+use Prim.Native.Nat.{ℕ, ◌+◌, ◌*◌, ◌≤◌, ◌<◌}
 use native.Mathlib.Nat.{le_refl}
 use native.Mathlib.Omega.{arith}
 use borrow.Author.Tests.{ltb-true, leb-true, leb-false}
@@ -13,18 +13,9 @@ use lib.IntN.{ℤ}
 use Rattle.search.specs.declared.Ties.{Ties}
 use Rattle.search.specs.declared.Ties.TheVariants.{Smallest, Largest}
 use Rattle.search.specs.declared.Candidate.{Candidate}
-use Rattle.search.specs.Ties.{ties_of, ties_number}
+use Rattle.search.specs.Ties.{other}
 use Rattle.search.specs.Search.{D, candidate, better, lesser, best}
 use Rattle.search.proofs.Extremes.{through, through-strict, Preferred, better-le, not-better-le, Best, among-new, best-is, best-only}
-
--- the other choice
-abbrev pub other : Ties → Ties
-other Smallest = Largest
-other Largest = Smallest
-
-pub other-is : (ties : Ties) {n : ℕ} → n ≡ ties_number ties → ties_of (1 - n) ≡ other (ties_of n)
-other-is Smallest e = rw e
-other-is Largest e = rw e
 
 -- q is the new period, or one seen before
 lowest-or-seen : (low q : ℕ) → low ≤ q → (low ≡ q) ⊎ (low + 1 ≤ q)

@@ -7,7 +7,11 @@ use Rattle.std.specs.Prelude.{ℤ, pos, ◌-ℤ◌, nat_abs, get_or}
 use Rattle.search.specs.declared.Ties.{Ties}
 use Rattle.search.specs.declared.Ties.TheVariants.{Smallest, Largest}
 use Rattle.search.specs.declared.Found.{Found}
-use Rattle.search.specs.declared.Candidate.{Candidate}
+
+-- a period, and a sum of its differences: a `Candidate` of the search is one that is `Bounded`
+pub record PeriodSum : Type 0 where
+  pub period : ℕ
+  pub diff : ℕ
 
 -- the first n terms of D(q)
 unfoldable pub diffs : List ℤ → ℕ → ℕ → ℕ
@@ -19,37 +23,37 @@ abbrev pub D : List ℤ → ℕ → ℕ
 D x q = diffs x q q
 
 -- a period with its D(q)
-abbrev pub candidate : List ℤ → ℕ → Candidate
+abbrev pub candidate : List ℤ → ℕ → PeriodSum
 candidate x q = record { period = q; diff = D x q }
 
 -- whether a new candidate goes before an old one of a smaller period: by a smaller D(q)/q; at a tie if the largest
 -- period is to be found (C-17)
-unfoldable pub better : Ties → Candidate → Candidate → Bool
+unfoldable pub better : Ties → PeriodSum → PeriodSum → Bool
 better Smallest old new = ltb (new.diff * old.period) (old.diff * new.period)
 better Largest old new = leb (new.diff * old.period) (old.diff * new.period)
 
 -- of two candidates the one that goes before the other
-abbrev pub lesser : Ties → Candidate → Candidate → Candidate
+abbrev pub lesser : Ties → PeriodSum → PeriodSum → PeriodSum
 lesser ties old new = cond (better ties old new) new old
 
 -- of two candidates the one with the greater D(q)/q; at a tie the old one
-unfoldable pub greater : Candidate → Candidate → Candidate
+unfoldable pub greater : PeriodSum → PeriodSum → PeriodSum
 greater old new = cond (ltb (old.diff * new.period) (new.diff * old.period)) new old
 
 -- the candidate that stays when `pick` goes through the periods low, low + 1, .., low + n
-unfoldable pub sweep : (Candidate → Candidate → Candidate) → List ℤ → ℕ → ℕ → Candidate
+unfoldable pub sweep : (PeriodSum → PeriodSum → PeriodSum) → List ℤ → ℕ → ℕ → PeriodSum
 sweep pick x low zero = candidate x low
 sweep pick x low (suc n) = pick (sweep pick x low n) (candidate x (low + suc n))
 
 -- the candidates of low..=high with the least and with the greatest D(q)/q
-abbrev pub best : Ties → List ℤ → ℕ → ℕ → Candidate
+abbrev pub best : Ties → List ℤ → ℕ → ℕ → PeriodSum
 best ties x low high = sweep (lesser ties) x low (high - low)
 
-abbrev pub worst : List ℤ → ℕ → ℕ → Candidate
+abbrev pub worst : List ℤ → ℕ → ℕ → PeriodSum
 worst x low high = sweep greater x low (high - low)
 
 -- the answer for the two
-abbrev pub found_of : Candidate → Candidate → Found
+abbrev pub found_of : PeriodSum → PeriodSum → Found
 found_of b w =
     record {
       period = b.period;
@@ -77,8 +81,8 @@ pub record Searchable (n low high : ℕ) : Type 0 where
   pub short : high ≤ longest_period
   pub enough : 2 * high ≤ n
 
--- a candidate of a search: each of its q differences is at most the widest
-pub record Bounded (c : Candidate) : Type 0 where
+-- what is true of every candidate of a search: each of its q differences is at most the widest
+pub record Bounded (c : PeriodSum) : Type 0 where
   pub some : 1 ≤ c.period
   pub short : c.period ≤ longest_period
   pub each : c.diff ≤ widest_gap * c.period

@@ -11,3 +11,8 @@ ties_of number = cond (ltb 0 number) Largest Smallest
 abbrev pub ties_number : Ties → ℕ
 ties_number Smallest = 0
 ties_number Largest = 1
+
+-- the other choice
+abbrev pub other : Ties → Ties
+other Smallest = Largest
+other Largest = Smallest

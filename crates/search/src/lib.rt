@@ -4,18 +4,31 @@
 
 mod outward;
 
-ghost use Rattle.std.specs.Prelude.{◌≡◌, ◌+◌, ◌*◌, ◌≤◌, nat_abs, ◌-ℤ◌, length};
-ghost use Rattle.search.specs.Ties.{ties_of, ties_number};
+ghost use Rattle.std.specs.Prelude.{◌≡◌, ◌+◌, ◌*◌, ◌/◌, ◌≤◌, length};
+ghost use Rattle.search.specs.Ties.{ties_of, ties_number, other};
 ghost use Rattle.search.specs.Search.{diffs, candidate, lesser, greater, found_of, find_pitch_period_in_range};
-ghost use Rattle.search.specs.Search.{widest_gap, Searchable, Bounded};
+ghost use Rattle.search.specs.Search.{widest_gap, Searchable};
 
 pub use outward::{Wanted, best_in_range, candidate_in_range};
+use std::marker::Model;
 
 // Of several periods with the same least mean difference, the one that a search finds.
 #[derive(Clone, Copy, Debug, PartialEq, Eq)]
 pub enum Ties {
     Smallest = 0,
     Largest = 1,
+}
+
+impl Ties {
+    // The other choice: where periods are taken downward, the new one of two is the smaller.
+    fn other(self) -> Ties
+        ensures { result ≡ other self }
+    {
+        match self {
+            Ties::Smallest => Ties::Largest,
+            Ties::Largest => Ties::Smallest,
+        }
+    }
 }
 
 // The choice that a number says, as streams and callers of C have it.
@@ -50,11 +63,33 @@ pub struct Found {
     pub sum: usize,
 }
 
-// A period q and its D(q).
+// A period q and its D(q), which a search compares with others: each of its q differences is at most the widest.
 #[derive(Clone, Copy, Debug, PartialEq, Eq)]
 pub struct Candidate {
     pub period: usize,
     pub diff: usize,
+}
+
+impl Model for Candidate {
+    ghost use Rattle.search.specs.Search.{PeriodSum, Bounded};
+
+    ghost Value = { PeriodSum };
+
+    ghost view = { λ c. record { period = c.period; diff = c.diff } };
+
+    ghost invariant = { λ c. Bounded (record { period = c.period; diff = c.diff }) };
+
+    ghost inverse = { λ c. record { period = c.period; diff = c.diff } };
+}
+
+impl Candidate {
+    // The mean of its differences, its whole part.
+    pub fn mean(self) -> usize
+        ensures value { result ≡ self.diff / self.period }
+        ensures bound { result ≤ widest_gap }
+    {
+        self.diff / self.period
+    }
 }
 
 // Two candidates of neighbouring periods.
@@ -64,27 +99,16 @@ pub struct Neighbours {
     pub next: Candidate,
 }
 
-// |a − b|
-fn gap(a: i16, b: i16) -> u32
-    ensures { result ≡ nat_abs (a -ℤ b) }
-{
-    let d = (a as i32) - (b as i32);
-    if d < 0 { (0 - d) as u32 } else { d as u32 }
-}
-
-// The sum of `count` differences of a period, from difference `from` on.
+// The sum of `count` differences of a period, |x[i] − x[i + period]|, from difference `from` on.
 fn gaps_from(samples: &[i16], period: usize, from: usize, count: usize) -> u32
-    requires { (from + count ≤ period) × Searchable (length samples.now) period period }
-    ensures { (diffs samples.now period from + result ≡ diffs samples.now period (from + count))
-        × (result ≤ widest_gap * count) }
+    requires within { from + count ≤ period }
+    requires searchable { Searchable (length samples.now) period period }
+    ensures sum { diffs samples.now period from + result ≡ diffs samples.now period (from + count) }
+    ensures bound { result ≤ widest_gap * count }
 {
     let mut sum: u32 = 0;
-    let mut i: usize = 0;
-    while i < count {
-        let a = samples[from + i];
-        let b = samples[from + i + period];
-        sum += gap(a, b);
-        i += 1;
+    for i in from..from + count {
+        sum += u32::from(samples[i].abs_diff(samples[i + period]));
     }
     sum
 }
@@ -92,7 +116,7 @@ fn gaps_from(samples: &[i16], period: usize, from: usize, count: usize) -> u32
 // A period with its D(q), the sum of |x[i] − x[i + q]|, i < q.
 fn candidate_at(samples: &[i16], period: usize) -> Candidate
     requires { Searchable (length samples.now) period period }
-    ensures { (result ≡ candidate samples.now period) × Bounded result }
+    ensures { result ≡ candidate samples.now period }
 {
     Candidate {
         period,
@@ -103,24 +127,18 @@ fn candidate_at(samples: &[i16], period: usize) -> Candidate
 // A period and the next, each with its D(q): one pass over the samples for both sums.
 fn neighbours_from(samples: &[i16], period: usize) -> Neighbours
     requires { Searchable (length samples.now) period (period + 1) }
-    ensures { (result.this ≡ candidate samples.now period) × Bounded result.this
-        × (result.next ≡ candidate samples.now (period + 1)) × Bounded result.next }
+    ensures this { result.this ≡ candidate samples.now period }
+    ensures next { result.next ≡ candidate samples.now (period + 1) }
 {
     let after = period + 1;
     let mut this: u32 = 0;
     let mut next: u32 = 0;
-    let mut i: usize = 0;
-    while i < period {
-        let a = samples[i];
-        let b = samples[i + period];
-        let c = samples[i + after];
-        this += gap(a, b);
-        next += gap(a, c);
-        i += 1;
+    for i in 0..period {
+        let sample = samples[i];
+        this += u32::from(sample.abs_diff(samples[i + period]));
+        next += u32::from(sample.abs_diff(samples[i + after]));
     }
-    let a = samples[period];
-    let c = samples[period + after];
-    next += gap(a, c);
+    next += u32::from(samples[period].abs_diff(samples[period + after]));
     Neighbours {
         this: Candidate {
             period,
@@ -133,13 +151,12 @@ fn neighbours_from(samples: &[i16], period: usize) -> Neighbours
     }
 }
 
-// Of two candidates the one with the smaller D(q)/q; at a tie the old one, whose period is smaller, or if `at_tie` is 1
-// the new one. The products are whole numbers, so that one more takes in a tie.
-fn lesser(at_tie: usize, old: Candidate, new: Candidate) -> Candidate
-    requires { (at_tie ≤ 1) × Bounded old × Bounded new }
-    ensures { (result ≡ lesser (ties_of at_tie) old new) × Bounded result }
+// Of two candidates the one with the smaller D(q)/q; at a tie the old one, whose period is smaller, or the new one if
+// the largest is to be found. The products are whole numbers, so that one more takes in a tie.
+fn lesser(ties: Ties, old: Candidate, new: Candidate) -> Candidate
+    ensures { result ≡ lesser ties old new }
 {
-    if new.diff * old.period < old.diff * new.period + at_tie {
+    if new.diff * old.period < old.diff * new.period + ties as usize {
         new
     } else {
         old
@@ -148,8 +165,7 @@ fn lesser(at_tie: usize, old: Candidate, new: Candidate) -> Candidate
 
 // Of two candidates the one with the greater D(q)/q, the old one at a tie.
 fn greater(old: Candidate, new: Candidate) -> Candidate
-    requires { Bounded old × Bounded new }
-    ensures { (result ≡ greater old new) × Bounded result }
+    ensures { result ≡ greater old new }
 {
     if old.diff * new.period < new.diff * old.period {
         new
@@ -161,13 +177,13 @@ fn greater(old: Candidate, new: Candidate) -> Candidate
 // The answer for the candidates with the least and with the greatest D(q)/q: the period and the sum of the one, the
 // whole parts of both.
 fn found_of(best: Candidate, worst: Candidate) -> Found
-    requires { Bounded best × Bounded worst }
-    ensures { (result ≡ found_of best worst) × (result.min_diff ≤ widest_gap) }
+    ensures value { result ≡ found_of best worst }
+    ensures bound { result.min_diff ≤ widest_gap }
 {
     Found {
         period: best.period,
-        min_diff: best.diff / best.period,
-        max_diff: worst.diff / worst.period,
+        min_diff: best.mean(),
+        max_diff: worst.mean(),
         sum: best.diff,
     }
 }
@@ -181,25 +197,22 @@ pub fn find_pitch_period_in_range(
     ties: Ties,
 ) -> Found
     requires { Searchable (length samples.now) min_period max_period }
-    ensures { (result ≡ find_pitch_period_in_range ties samples.now min_period max_period)
-        × (result.min_diff ≤ widest_gap) }
+    ensures value { result ≡ find_pitch_period_in_range ties samples.now min_period max_period }
+    ensures bound { result.min_diff ≤ widest_gap }
 {
-    let at_tie = u32::from(ties) as usize;
     let first = candidate_at(samples, min_period);
     let mut best = first;
     let mut worst = first;
-    let mut period = min_period;
-    while period + 1 < max_period {
-        let two = neighbours_from(samples, period + 1);
-        let this = two.this;
-        let next = two.next;
-        best = lesser(at_tie, lesser(at_tie, best, this), next);
+    let more = max_period - min_period;
+    for pair in 0..more / 2 {
+        let Neighbours { this, next } = neighbours_from(samples, min_period + 2 * pair + 1);
+        best = lesser(ties, lesser(ties, best, this), next);
         worst = greater(greater(worst, this), next);
-        period += 2;
     }
-    if period < max_period {
+    if more % 2 == 1 {
         let last = candidate_at(samples, max_period);
-        return found_of(lesser(at_tie, best, last), greater(worst, last));
+        best = lesser(ties, best, last);
+        worst = greater(worst, last);
     }
     found_of(best, worst)
 }

@@ -1,8 +1,7 @@
 // The search for one candidate of a range. The least D(q)/q is looked for from a period nearby outward, and a sum that
 // can no longer win is not carried on. `specs/Outward.antt` says what is wanted.
-ghost use Rattle.std.specs.Prelude.{◌≡◌, ◌≤◌, min, max, length};
-ghost use Rattle.search.specs.Ties.{ties_of};
-ghost use Rattle.search.specs.Search.{candidate, lesser, best, worst, Searchable, Bounded};
+ghost use Rattle.std.specs.Prelude.{◌≡◌, ◌≤◌, length};
+ghost use Rattle.search.specs.Search.{candidate, lesser, best, worst, Searchable};
 ghost use Rattle.search.specs.Outward.{wanted_in};
 
 use crate::{Candidate, Ties, candidate_at, gaps_from, greater, lesser};
@@ -20,48 +19,33 @@ pub enum Wanted {
 
 // Of a candidate and that of another period the one that goes before the other, as `lesser` has it. The sum ends where
 // it fails the test of `lesser` already: a longer one fails it too.
-fn contest(samples: &[i16], at_tie: usize, old: Candidate, period: usize) -> Candidate
-    requires { (at_tie ≤ 1) × Bounded old × Searchable (length samples.now) period period }
-    ensures { (result ≡ lesser (ties_of at_tie) old (candidate samples.now period)) × Bounded result }
+fn contest(samples: &[i16], ties: Ties, old: Candidate, period: usize) -> Candidate
+    requires { Searchable (length samples.now) period period }
+    ensures { result ≡ lesser ties old (candidate samples.now period) }
 {
-    let limit = old.diff * period + at_tie;
+    let limit = old.diff * period + ties as usize;
     let mut sum: usize = 0;
-    let mut i: usize = 0;
-    while i + BLOCK <= period {
-        sum += gaps_from(samples, period, i, BLOCK) as usize;
-        i += BLOCK;
+    for block in 0..period / BLOCK {
+        sum += gaps_from(samples, period, block * BLOCK, BLOCK) as usize;
         if limit <= sum * old.period {
             return old;
         }
     }
-    sum += gaps_from(samples, period, i, period - i) as usize;
-    let new = Candidate { period, diff: sum };
-    lesser(at_tie, old, new)
+    let rest = period % BLOCK;
+    sum += gaps_from(samples, period, period - rest, rest) as usize;
+    lesser(ties, old, Candidate { period, diff: sum })
 }
 
 // Of the periods low..=high the one with the least D(q)/q, from low upward.
-fn upward(samples: &[i16], at_tie: usize, low: usize, high: usize) -> Candidate
-    requires { (at_tie ≤ 1) × Searchable (length samples.now) low high }
-    ensures { (result ≡ best (ties_of at_tie) samples.now low high) × Bounded result }
+fn upward(samples: &[i16], ties: Ties, low: usize, high: usize) -> Candidate
+    requires { Searchable (length samples.now) low high }
+    ensures { result ≡ best ties samples.now low high }
 {
     let mut best = candidate_at(samples, low);
-    let mut period = low;
-    while period < high {
-        period += 1;
-        best = contest(samples, at_tie, best, period);
+    for period in low + 1..=high {
+        best = contest(samples, ties, best, period);
     }
     best
-}
-
-// The period of low..=high that is closest to a value.
-fn held(value: usize, low: usize, high: usize) -> usize
-    requires { low ≤ high }
-    ensures { result ≡ max low (min value high) }
-{
-    if value < low {
-        return low;
-    }
-    if high < value { high } else { value }
 }
 
 // Of the periods low..=high the one with the least D(q)/q, of several the smallest or the largest: first `near`, held
@@ -69,14 +53,13 @@ fn held(value: usize, low: usize, high: usize) -> usize
 // the other way.
 pub fn best_in_range(samples: &[i16], low: usize, high: usize, near: usize, ties: Ties) -> Candidate
     requires { Searchable (length samples.now) low high }
-    ensures { (result ≡ best ties samples.now low high) × Bounded result }
+    ensures { result ≡ best ties samples.now low high }
 {
-    let at_tie = u32::from(ties) as usize;
-    let mut period = held(near, low, high);
-    let mut best = upward(samples, at_tie, period, high);
-    while low < period {
-        period -= 1;
-        best = contest(samples, 1 - at_tie, best, period);
+    let first = near.clamp(low, high);
+    let mut best = upward(samples, ties, first, high);
+    let below = ties.other();
+    for period in (low..first).rev() {
+        best = contest(samples, below, best, period);
     }
     best
 }
@@ -84,12 +67,10 @@ pub fn best_in_range(samples: &[i16], low: usize, high: usize, near: usize, ties
 // Of the periods low..=high the one with the greatest D(q)/q.
 fn worst_in_range(samples: &[i16], low: usize, high: usize) -> Candidate
     requires { Searchable (length samples.now) low high }
-    ensures { (result ≡ worst samples.now low high) × Bounded result }
+    ensures { result ≡ worst samples.now low high }
 {
     let mut worst = candidate_at(samples, low);
-    let mut period = low;
-    while period < high {
-        period += 1;
+    for period in low + 1..=high {
         worst = greater(worst, candidate_at(samples, period));
     }
     worst
@@ -98,7 +79,7 @@ fn worst_in_range(samples: &[i16], low: usize, high: usize) -> Candidate
 // The candidate of low..=high that is wanted.
 pub fn candidate_in_range(samples: &[i16], low: usize, high: usize, wanted: Wanted) -> Candidate
     requires { Searchable (length samples.now) low high }
-    ensures { (result ≡ wanted_in wanted samples.now low high) × Bounded result }
+    ensures { result ≡ wanted_in wanted samples.now low high }
 {
     match wanted {
         Wanted::Least(ties, near) => best_in_range(samples, low, high, near, ties),

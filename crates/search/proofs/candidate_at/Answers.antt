@@ -3,7 +3,4 @@ use Rattle.search.proofs.Candidates.{sum-whole}
 use Rattle.search.proofs.candidate_at.Goals as goal
 
 pub returns : goal.returns
-returns c =
-    let s = c.before in
-    let g = c.gaps_from.ensures in
-    sum-whole s.requires.some s.requires.short (record { is = g.0; each = g.1 })
+returns c = sum-whole (record { is = c.gaps_from.ensures.sum; each = c.gaps_from.ensures.bound })

@@ -1,15 +1,10 @@
--- `search::find_pitch_period_in_range` meets its contract: at period q the two candidates are those of the range up to q.
+-- `search::find_pitch_period_in_range` meets its contract: before a pair of periods the two candidates are those of the range below it.
 -- Assumes nothing.
-use mathlib.Core.Path.{◌≡◌}
-use Prim.Native.Nat.{◌-◌, ◌≤◌}
-use Rattle.search.specs.Ties.{ties_of}
-use Rattle.search.specs.Search.{best, worst, Bounded}
+use Rattle.std.proofs.Common.{◌≡◌, ◌+◌, ◌*◌}
+use Rattle.search.specs.Search.{best, worst}
 use Rattle.search.proofs.find_pitch_period_in_range.Given as goal
 
-abbrev pub invariant-loop-period : goal.invariant-loop-period
-invariant-loop-period l =
-    (l.min_period ≤ l.period) × (l.period ≤ l.max_period) × (l.best ≡ best (ties_of l.at_tie) l.samples l.min_period l.period)
-    × (l.worst ≡ worst l.samples l.min_period l.period) × Bounded l.best × Bounded l.worst
-
-abbrev pub decreases-loop-period : goal.decreases-loop-period
-decreases-loop-period l = l.max_period - l.period
+abbrev pub invariant-loop-pair : goal.invariant-loop-pair
+invariant-loop-pair l =
+    (l.best ≡ best l.ties l.samples l.min_period (l.min_period + 2 * l.pair))
+    × (l.worst ≡ worst l.samples l.min_period (l.min_period + 2 * l.pair))

@@ -23,7 +23,7 @@ candidate_in_range-requires c =
 
 pub returns-then-n-eq1 : goal.returns-then-n-eq1
 unfolding values_of
-returns-then-n-eq1 c = (rw (eq-eqb _ 1 c.if-n-eq1.true) c.candidate_in_range.ensures.0, c.candidate_in_range.ensures.1)
+returns-then-n-eq1 c = rw (eq-eqb _ 1 c.if-n-eq1.true) c.candidate_in_range.ensures
 
 -- the front of the scratch after the averages are made
 module _ (c : After-down_sample_input) where
@@ -53,4 +53,4 @@ returns c =
     let d = c.before.before in
     let a = (start d).args in
     let e = ap (λ (l : List ℤ). wanted_in a.wanted l a.low a.high) (front d) in
-    (rw (ne_eqb _ 1 d.if-n-eq1.false) (c.candidate_in_range-2.ensures.0 ∙ e), c.candidate_in_range-2.ensures.1)
+    rw (ne_eqb _ 1 d.if-n-eq1.false) (c.candidate_in_range-2.ensures ∙ e)

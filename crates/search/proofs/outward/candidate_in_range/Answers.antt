@@ -4,8 +4,8 @@ use Rattle.search.proofs.outward.candidate_in_range.Goals as goal
 
 pub returns-in-Least : goal.returns-in-Least
 unfolding wanted_in
-returns-in-Least c = (rw c.in-Least.is c.best_in_range.ensures.0, c.best_in_range.ensures.1)
+returns-in-Least c = rw c.in-Least.is c.best_in_range.ensures
 
 pub returns-in-Greatest : goal.returns-in-Greatest
 unfolding wanted_in
-returns-in-Greatest c = (rw c.in-Greatest.is c.worst_in_range.ensures.0, c.worst_in_range.ensures.1)
+returns-in-Greatest c = rw c.in-Greatest.is c.worst_in_range.ensures

@@ -1,29 +1,23 @@
--- `search::outward::upward` meets its contract: at period q the candidate is the best of low..=q. Assumes nothing.
-use borrow.Author.Rules.{rules}
-use mathlib.Core.Path.{◌≡◌, refl, ap, ◌∙◌}
-use native.Mathlib.Omega.{arith}
-use Rattle.search.specs.Ties.{ties_of}
+-- `search::outward::upward` meets its contract: one period more. Assumes nothing.
+use Rattle.std.proofs.Common.{refl, ◌∙◌, ap, arith}
 use Rattle.search.specs.Search.{lesser, best}
 use Rattle.search.proofs.Candidates.{sweep-first, sweep-one}
 use Rattle.search.proofs.outward.upward.Goals as goal
 
 pub loop-period-init : goal.loop-period-init
-loop-period-init c =
-    let a = c.args in
-    let r = c.candidate_at-best.ensures in
-    (search rules, search rules, sweep-first (lesser (ties_of a.at_tie)) a.samples.now a.low r.0, r.1)
+loop-period-init c = (omega arith, c.candidate_at-best.ensures ∙ sweep-first (lesser c.args.ties) c.args.samples.now c.args.low (omega arith))
 
 pub loop-period-preserved : goal.loop-period-preserved
 loop-period-preserved c =
-    let d = c.before.before in
-    let a = d.args in
-    let i = d.loop-period.invariant in
-    let r = c.contest-best.ensures in
-    (search rules, search rules, sweep-one (lesser (ties_of a.at_tie)) a.samples.now a.low d.loop-period.period i.0 i.2 refl refl r.0, r.1)
+    let more = sweep-one (lesser c.args.ties) c.args.samples.now c.args.low {q = c.loop-period.period} (omega arith) (omega arith) c.loop-period.invariant.1
+    refl c.contest-best.ensures in
+    (omega arith, more ∙ ap (best c.args.ties c.args.samples.now c.args.low) (omega arith))
 
 pub returns : goal.returns
-returns c =
-    let l = c.loop-period in
-    let a = c.args in
-    let e : l.period ≡ a.high = omega arith in
-    (l.invariant.2 ∙ ap (best (ties_of a.at_tie) a.samples.now a.low) e, l.invariant.3)
+returns c = c.loop-period.invariant.1 ∙ ap (best c.args.ties c.args.samples.now c.args.low) (omega arith)
+
+pub returns-2 : goal.returns-2
+returns-2 c =
+    let more = sweep-one (lesser c.args.ties) c.args.samples.now c.args.low {q = c.loop-period.period} (omega arith) (omega arith) c.loop-period.invariant.1
+    refl c.contest-best.ensures in
+    more ∙ ap (best c.args.ties c.args.samples.now c.args.low) (omega arith)
