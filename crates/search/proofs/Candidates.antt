@@ -1,5 +1,5 @@
--- Candidates of a search. Sections: sums of differences as the loops hold them, parts of a range, the test of `better`, the periods of a range one by
--- one. Assumes nothing.
+-- Candidates of a search. Sections: sums of differences as the loops hold them, the test of `better`, the periods of a range one by one.
+-- Assumes nothing.
 use mathlib.Core.Path.{◌≡◌, ap, ◌∙◌}
 use mathlib.Core.Bool.{true, false}
 use mathlib.Core.List.{List}
@@ -13,7 +13,7 @@ use Rattle.search.specs.declared.Ties.{Ties}
 use Rattle.search.specs.declared.Ties.TheVariants.{Smallest, Largest}
 use Rattle.search.specs.declared.Candidate.{Candidate}
 use Rattle.search.specs.Ties.{ties_number}
-use Rattle.search.specs.Search.{diffs, candidate, better, sweep, widest_gap, Searchable}
+use Rattle.search.specs.Search.{diffs, candidate, better, sweep, widest_gap}
 
 -- ---- s is the sum of n differences of period q, from difference `from` on
 pub record Sum (x : List ℤ) (q from n s : ℕ) : Type 0 where
@@ -57,11 +57,6 @@ measured q d = record { period = q; diff = d }
 
 pub sum-whole : {x : List ℤ} {q s : ℕ} → Sum x q 0 q s → measured q s ≡ candidate x q
 sum-whole {x} {q} sum = ap (measured q) (sum_first sum)
-
--- ---- a part of a range can be searched too
-pub searchable-within : {n low high p q : ℕ} → Searchable n low high → low ≤ p → p ≤ q → q ≤ high → Searchable n p q
-searchable-within s a b c =
-    record { some = le_trans s.some a; order = b; short = le_trans c s.short; enough = omega (arith, s.enough) }
 
 -- ---- the test of `better`, with one more on the right where the new candidate is to win a tie
 pub better-at-tie : (ties : Ties) (old new : Candidate) {t : ℕ} → new.diff * old.period < old.diff * new.period + t → t ≡ ties_number ties
