@@ -12,8 +12,10 @@ use borrow.Author.Tests.{le-ltb}
 use lib.ListN.{length}
 use Rattle.frames.specs.Areas.{Areas}
 use Rattle.stream.specs.declared.SonicStream.{SonicStream}
+use Rattle.stream.specs.declared.refusal.Refusal.TheVariants.{TotalFull}
+use Rattle.std.proofs.Common.{Some, None}
 use Rattle.stream.specs.Balance.{past}
-use Rattle.stream.specs.Refusals.{accepted, total_full, max_area, sizes_bad, parts_bad, areas_bad, stage_needed}
+use Rattle.stream.specs.Refusals.{max_area, sizes_bad, parts_bad, areas_bad, stage_needed}
 use Rattle.stream.proofs.AreaTests.{AreasGood}
 use Rattle.stream.proofs.Needed.{needed-le}
 use Rattle.period.specs.Rates.{max_required}
@@ -42,9 +44,9 @@ needed-fits : (s : SonicStream) (staged : ℕ) (a : Areas) → (s.tail.0 + stage
 needed-fits s staged a h = le_trans (mul-le-mul_right s.channels (needed-le s staged)) h
 
 pub total-alone : (s : SonicStream) (a : Areas) (n : ℕ) (m : Made) → Accepted s a n → (s.tail.0 + m.staged) * s.channels ≤ length a.stage
-    → (s.waiting.0 + length m.frames) * s.channels ≤ length a.output → (refusal_of s a n m ≡ accepted) ⊎ (refusal_of s a n m ≡ total_full)
+    → (s.waiting.0 + length m.frames) * s.channels ≤ length a.output → (refusal_of s a n m ≡ None) ⊎ (refusal_of s a n m ≡ Some TotalFull)
 total-alone s a n m p stage output = go (past m.state.balance) refl
   where
-    go : (b : Bool) → past m.state.balance ≡ b → (refusal_of s a n m ≡ accepted) ⊎ (refusal_of s a n m ≡ total_full)
+    go : (b : Bool) → past m.state.balance ≡ b → (refusal_of s a n m ≡ None) ⊎ (refusal_of s a n m ≡ Some TotalFull)
     go true e = inr (total-met s a n _ _ _ p (needed-fits s m.staged a stage) output e)
     go false e = inl (none-met s a n _ _ _ p (needed-fits s m.staged a stage) output e)

@@ -1,8 +1,9 @@
 -- From the work of a call that added frames to its answer, of a write and of a flush:
---   answer_by, work_of         the answer, by the work's; the work, by the frames added
+--   work_of                    the work, by the frames added
 --   worked-in-order          the stream after the work is in order
 --   held_same, tail_same     what the stream held stays where the work has no room
---   added-answered           the contract, from that of an accepted call
+--   added-refused            the contract, where the work is refused
+--   added-none, added-worked   no refusal is met where it is done; what it gives
 -- Assumes nothing.
 use mathlib.Core.Path.{◌≡◌, ◌∙◌}
 use mathlib.Core.Bool.{true}
@@ -16,28 +17,23 @@ use Rattle.frames.proofs.Behind.{behind-front, front_less}
 use Rattle.stream.specs.declared.SonicStream.{SonicStream}
 use Rattle.stream.specs.Stream.{state_of, stream_of}
 use Rattle.stream.specs.Order.{StreamReady}
-use Rattle.stream.specs.Refusals.{stage_full, output_full, total_full, is_in_order}
+use Rattle.stream.specs.Refusals.{is_in_order}
 use Rattle.stream.proofs.InOrder.{tests-of, ranges-of, ranges-same}
 use Rattle.stream.proofs.Stays.{ready-in-order}
-use Rattle.fill.specs.declared.Told.{Told}
-use Rattle.process.specs.declared.Work.{Work}
+use Rattle.stream.specs.declared.refusal.Refusal.{Refusal}
+use Rattle.stream.specs.declared.refusal.Refusal.TheVariants.{StageFull, OutputFull, TotalFull}
+use Rattle.stream.specs.declared.refusal.Refused.{Refused}
+use Rattle.process.specs.declared.Wrote.{Wrote}
+use Rattle.std.proofs.Common.{None, Result, Ok, Err}
 use Rattle.process.specs.Process.{Made, joined, process}
 use Rattle.process.specs.Streams.{joined_stream}
 use Rattle.process.specs.Working.{Unchanged, WorkedAs, WorkedBy}
 use Rattle.process.proofs.Taken.{process-settings}
 use Rattle.process.proofs.Joining.{joined-state}
-use Rattle.adding.specs.declared.Wrote.{Wrote}
 use Rattle.adding.specs.Calls.{CallResult, call_by, refusal_of}
 use Rattle.adding.specs.Adding.{Accepted, AddEnsures}
 use Rattle.adding.proofs.Answers.{stage-met, output-met, total-met, none-met, CallAnswered, call-refused}
 use Rattle.adding.proofs.Joining.{held-joined, tail-joined, needed-joined}
-
--- the answer, where `after` says what is handed back of the stream after the work
-abbrev pub answer_by : SonicStream → (SonicStream → SonicStream) → Work → Wrote
-answer_by s after Work.StageFull = Wrote.Refused stage_full s
-answer_by s after Work.OutputFull = Wrote.Refused output_full s
-answer_by s after Work.TotalFull = Wrote.Refused total_full s
-answer_by s after (Work.Done o t) = Wrote.Done o (after t)
 
 -- the work on the state with the frames fs
 abbrev pub work_of : SonicStream → Areas → List Frame → Made
@@ -68,23 +64,41 @@ module _ (s : SonicStream) (a b : Areas) (n : ℕ) (p : Accepted s a n) (input :
   unfolding state_of stream_of joined
   tail_same u = rw (tail-joined s n) at u.tail
 
-  module _ (c : CallResult) (after : SonicStream → SonicStream)
-      (done : (o : Told) (t : SonicStream) → WorkedAs (joined_stream n s) (work_of s a fs) begun b o t
-      → CallAnswered s.channels c (Wrote.Done o (after t)) b) where
-    by-work : (r : Work) → WorkedBy (joined_stream n s) (work_of s a fs) begun b r
-        → CallAnswered s.channels (call_by (refusal_of s a n (work_of s a fs)) s a c) (answer_by s after r) b
-    unfolding state_of stream_of joined
-    by-work Work.StageFull w =
-        call-refused s a b c (stage-met s a n _ _ _ p (rw (needed-joined s n) at w.1)) (held_same w.0) (tail_same w.0) w.0.waiting
-    by-work Work.OutputFull w =
-        let staged = rw (needed-joined s n) at w.1 in
-        call-refused s a b c (output-met s a n _ _ _ p staged w.2) (held_same w.0) (tail_same w.0) w.0.waiting
-    by-work Work.TotalFull w =
-        let staged = rw (needed-joined s n) at w.1 in
-        call-refused s a b c (total-met s a n _ _ _ p staged w.2 w.3) (held_same w.0) (tail_same w.0) w.0.waiting
-    by-work (Work.Done o t) w =
-        rw (none-met s a n _ _ _ p (rw (needed-joined s n) at w.stage_fits) w.output_fits w.totals_fit) (done o t w)
+  -- what the work says of its answer
+  abbrev Worked : Result Wrote Refusal → Type 0
+  Worked = WorkedBy (joined_stream n s) (work_of s a fs) begun b
 
-    pub added-answered : (r : Work) → AddEnsures s n begun b r
-        → CallAnswered s.channels (call_by (refusal_of s a n (work_of s a fs)) s a c) (answer_by s after r) b
-    added-answered r w = by-work r (rw (joined-state s n a.input input a.stage fs h) at w)
+  worked-by : (r : Result Wrote Refusal) → AddEnsures s n begun b r → Worked r
+  worked-by r w = rw (joined-state s n a.input input a.stage fs h) at w
+
+  -- ---- refused, and whatever the call c would be answers with the entering stream
+
+  module _ (c : CallResult) where
+    abbrev Refuses : Refused → Type 0
+    Refuses e = CallAnswered s.channels (call_by (refusal_of s a n (work_of s a fs)) s a c) (Err e) b
+
+    refused-by : (r : Refusal) (t : SonicStream) → t ≡ s → Worked (Err r) → Refuses (record { refusal = r; stream = t })
+    unfolding state_of stream_of joined
+    refused-by StageFull t e w =
+        call-refused s a b c _ _ (stage-met s a n _ _ _ p (rw (needed-joined s n) at w.1)) e (held_same w.0) (tail_same w.0) w.0.waiting
+    refused-by OutputFull t e w =
+        let staged = rw (needed-joined s n) at w.1 in
+        call-refused s a b c _ _ (output-met s a n _ _ _ p staged w.2) e (held_same w.0) (tail_same w.0) w.0.waiting
+    refused-by TotalFull t e w =
+        let staged = rw (needed-joined s n) at w.1 in
+        call-refused s a b c _ _ (total-met s a n _ _ _ p staged w.2 w.3) e (held_same w.0) (tail_same w.0) w.0.waiting
+    refused-by _ t e w = absurd w
+
+    pub added-refused : (e : Refused) → e.stream ≡ s → AddEnsures s n begun b (Err e.refusal) → Refuses e
+    added-refused e same w = refused-by e.refusal e.stream same (worked-by (Err e.refusal) w)
+
+  -- ---- done
+
+  module _ (w : Wrote) (r : AddEnsures s n begun b (Ok w)) where
+    pub added-worked : WorkedAs (joined_stream n s) (work_of s a fs) begun b w
+    added-worked = worked-by (Ok w) r
+
+    pub added-none : refusal_of s a n (work_of s a fs) ≡ None
+    unfolding state_of stream_of joined
+    added-none =
+        let f = added-worked in none-met s a n _ _ _ p (rw (needed-joined s n) at f.stage_fits) f.output_fits f.totals_fit

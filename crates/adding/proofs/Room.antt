@@ -12,8 +12,10 @@ use Rattle.frames.specs.Framing.{Frame, frames_of}
 use Rattle.frames.proofs.Framing.{length-frames_of}
 use Rattle.frames.proofs.Room.{count-le}
 use Rattle.stream.specs.declared.SonicStream.{SonicStream}
+use Rattle.stream.specs.declared.refusal.Refusal.TheVariants.{BadStream, BadAreas, InputFull, StageFull, OutputFull, TotalFull}
+use Rattle.std.proofs.Common.{None}
 use Rattle.stream.specs.Balance.{past}
-use Rattle.stream.specs.Refusals.{accepted, bad_stream, bad_areas, input_full, stage_full, output_full, total_full, is_in_order, too_short, areas_bad, stage_needed, refusal}
+use Rattle.stream.specs.Refusals.{is_in_order, too_short, areas_bad, stage_needed, refusal}
 use Rattle.stream.specs.Stream.{state_of}
 use Rattle.stream.proofs.InOrder.{limits_of, ready_of}
 use Rattle.stream.proofs.AreaTests.{areas-of}
@@ -33,16 +35,16 @@ pub record Room (s : SonicStream) (a : Areas) (added : ℕ) (m : Made) : Type 0 
   pub output : (s.waiting.0 + length m.frames) * s.channels ≤ length a.output
   pub totals : past m.state.balance ≡ false
 
-pub room_of : (s : SonicStream) (a : Areas) (added : ℕ) (m : Made) → refusal_of s a added m ≡ accepted → Room s a added m
+pub room_of : (s : SonicStream) (a : Areas) (added : ℕ) (m : Made) → refusal_of s a added m ≡ None → Room s a added m
 unfolding refusal
 room_of s a added m e =
     let ch : ℕ = s.channels in
-    let in_order = passed (not (is_in_order s)) bad_stream _ (omega arith) e in
-    let areas = passed (areas_bad s a) bad_areas _ (omega arith) in_order.1 in
-    let input = passed (too_short ch (s.held.0 + added) a.input) input_full _ (omega arith) areas.1 in
-    let stage = passed (too_short ch (stage_needed s m.staged) a.stage) stage_full _ (omega arith) input.1 in
-    let output = passed (too_short ch (s.waiting.0 + length m.frames) a.output) output_full _ (omega arith) stage.1 in
-    let totals = passed (past m.state.balance) total_full accepted (omega arith) output.1 in
+    let in_order = passed (not (is_in_order s)) BadStream _ e in
+    let areas = passed (areas_bad s a) BadAreas _ in_order.1 in
+    let input = passed (too_short ch (s.held.0 + added) a.input) InputFull _ areas.1 in
+    let stage = passed (too_short ch (stage_needed s m.staged) a.stage) StageFull _ input.1 in
+    let output = passed (too_short ch (s.waiting.0 + length m.frames) a.output) OutputFull _ stage.1 in
+    let totals = passed (past m.state.balance) TotalFull None output.1 in
     let good = areas-of s a areas.0 in
     record {
       accepted = record {

@@ -1,29 +1,31 @@
 -- docs/RULES.md, "Areas and refusals": what a write and a flush answer, and what they keep in the areas. Definitions
 -- only. Assumes nothing.
-use Rattle.std.specs.Prelude.{◌≡◌, true, List, ◌++◌, ℕ, zero, suc, ◌+◌, ◌*◌, Float, length, take}
+use Rattle.std.specs.Prelude.{◌≡◌, true, List, ◌++◌, ℕ, ◌+◌, ◌*◌, Float, length, take, Option, Some, None, Result, Ok, Err, IfOk}
 use Rattle.frames.specs.Areas.{Areas}
 use Rattle.frames.specs.Framing.{Frame, frames_of}
 use Rattle.period.specs.Rates.{max_required}
 use Rattle.stream.specs.declared.SonicStream.{SonicStream}
+use Rattle.stream.specs.declared.refusal.Refusal.{Refusal}
+use Rattle.stream.specs.declared.refusal.Refused.{Refused}
 use Rattle.stream.specs.State.{State}
 use Rattle.stream.specs.Stream.{state_of, stream_of}
 use Rattle.stream.specs.Refusals.{is_in_order, refusal}
 use Rattle.fill.specs.declared.Told.{Told}
+use Rattle.process.specs.declared.Wrote.{Wrote}
 use Rattle.process.specs.Process.{Made, whole_frames, write_work, flush_work, expected, cleared}
-use Rattle.adding.specs.declared.Wrote.{Wrote}
 
 -- the answer, and the kept parts of the areas as frames
 pub record CallResult : Type 0 where
-  pub answer : Wrote
+  pub answer : Result Wrote Refused
   pub input : List Frame
   pub tail : List Frame
   pub output : List Frame
 
--- refused with a number: the entering stream, and the kept parts unchanged
-unfoldable pub refused_call : ℕ → SonicStream → Areas → CallResult
-refused_call number s a =
+-- refused: the entering stream, and the kept parts unchanged
+unfoldable pub refused_call : Refusal → SonicStream → Areas → CallResult
+refused_call refusal s a =
     record {
-      answer = Wrote.Refused number s;
+      answer = Err (record { refusal = refusal; stream = s });
       input = frames_of s.channels s.held.0 a.input;
       tail = frames_of s.channels s.tail.0 a.stage;
       output = frames_of s.channels s.waiting.0 a.output;
@@ -33,19 +35,19 @@ refused_call number s a =
 unfoldable pub accepted_call : SonicStream → Areas → Told → State → List Frame → CallResult
 accepted_call s a told t frames =
     record {
-      answer = Wrote.Done told (stream_of t (s.waiting.0 + length frames));
+      answer = Ok (record { told = told; stream = stream_of t (s.waiting.0 + length frames) });
       input = t.input;
       tail = t.tail;
       output = frames_of s.channels s.waiting.0 a.output ++ frames;
     }
 
--- by the number of a refusal, 0 if there is none
-abbrev pub call_by : ℕ → SonicStream → Areas → CallResult → CallResult
-call_by zero s a c = c
-call_by (suc k) s a c = refused_call (suc k) s a
+-- by its refusal, if there is one
+abbrev pub call_by : Option Refusal → SonicStream → Areas → CallResult → CallResult
+call_by None s a c = c
+call_by (Some refusal) s a c = refused_call refusal s a
 
--- the number of a call that adds so many frames, and whose work is m
-abbrev pub refusal_of : SonicStream → Areas → ℕ → Made → ℕ
+-- the refusal of a call that adds so many frames, and whose work is m
+abbrev pub refusal_of : SonicStream → Areas → ℕ → Made → Option Refusal
 refusal_of s a added m = refusal s a added m.staged (length m.frames) m.state.balance
 
 unfoldable pub write_call : SonicStream → List Float → Areas → CallResult
@@ -64,18 +66,17 @@ flush_call s a =
 
 -- ---- what their contracts ensure
 
-abbrev pub stream_after : Wrote → SonicStream
-stream_after (Wrote.Refused number s) = s
-stream_after (Wrote.Done told s) = s
+abbrev pub stream_after : Result Wrote Refused → SonicStream
+stream_after (Ok w) = w.stream
+stream_after (Err e) = e.stream
 
 -- the answer r and the areas a at exit are those of the call c
-pub record CallEnsures (channels : ℕ) (c : CallResult) (r : Wrote) (a : Areas) : Type 0 where
+pub record CallEnsures (channels : ℕ) (c : CallResult) (r : Result Wrote Refused) (a : Areas) : Type 0 where
   pub answer : r ≡ c.answer
   pub input : frames_of channels (stream_after r).held.0 a.input ≡ c.input
   pub tail : frames_of channels (stream_after r).tail.0 a.stage ≡ c.tail
   pub output : frames_of channels (stream_after r).waiting.0 a.output ≡ c.output
 
 -- an accepted call hands back a stream in order
-abbrev pub OrderAfter : Wrote → Type 0
-OrderAfter (Wrote.Refused number s) = Unit {0}
-OrderAfter (Wrote.Done told s) = is_in_order s ≡ true
+abbrev pub OrderAfter : Result Wrote Refused → Type 0
+OrderAfter r = IfOk r (λ (w : Wrote). is_in_order w.stream ≡ true)

@@ -1,20 +1,13 @@
-// What a write and a flush share: their answer, and the work of a call that has added frames to the input.
-// `specs/Calls.antt` says what each answers.
+// What a write and a flush share: the work of a call that has added frames to the input. `specs/Calls.antt` says what
+// each answers.
 #![tactic(auto)]
 
 ghost use Rattle.frames.specs.Areas.{areas};
 ghost use Rattle.adding.specs.Adding.{AddReady, AddEnsures};
 
 use frames::Frames;
-use process::{Told, Work};
-use stream::SonicStream;
-
-// The answer of a write or a flush. Each refusal carries its number and the entering stream.
-#[derive(Clone, Copy)]
-pub enum Wrote {
-    Refused(u32, SonicStream),
-    Done(Told, SonicStream),
-}
+use process::Wrote;
+use stream::{Refusal, SonicStream};
 
 // The work of a call that has put n frames behind those held. The period is that of the rate.
 pub fn process_added(
@@ -25,7 +18,7 @@ pub fn process_added(
     stage: &mut [i16],
     output: &mut [i16],
     scratch: &mut [i16],
-) -> Work
+) -> Result<Wrote, Refusal>
     requires { AddReady stream period (areas input.old stage.old output.old scratch.old) n.0 }
     ensures { AddEnsures stream n.0
         (areas input.old stage.old output.old scratch.old)

@@ -14,7 +14,8 @@ use lib.Seq.{paste}
 use Rattle.frames.specs.Areas.{Areas}
 use Rattle.frames.proofs.Room.{room-under}
 use Rattle.stretch.specs.declared.StretchCall.{StretchCall}
-use Rattle.stretch.specs.declared.Stretched.{Stretched}
+use Rattle.stretch.specs.declared.Stretch.{Stretch}
+use Rattle.std.proofs.Common.{Option}
 use Rattle.stretch.specs.Speed.{change_speed, AreaAfter}
 use Rattle.stream.specs.declared.SonicStream.{SonicStream}
 use Rattle.fill.specs.declared.destination.Destination.{Destination}
@@ -82,7 +83,7 @@ module _ (s : SonicStream) (a b : Areas) (k : ℕ) (is : k ≡ (destination_in s
 
 -- ---- a stretch u of the samples in a's input
 
-module _ (s : SonicStream) (u : StretchCall) (a b : Areas) (r : Stretched) (to : Destination) (is : to ≡ destination_in s a) where
+module _ (s : SonicStream) (u : StretchCall) (a b : Areas) (r : Option Stretch) (to : Destination) (is : to ≡ destination_in s a) where
   abbrev PutIn : List ℤ → List ℤ → Destination → Type 0
   PutIn entry exit d =
       (r ≡ change_speed u a.input (place_for s) d.most.0)

@@ -31,7 +31,10 @@ use Rattle.stream.specs.Order.{StreamReady}
 use Rattle.stream.proofs.Streams.{held-is, own}
 use Rattle.fill.specs.declared.Outcome.{Outcome}
 use Rattle.fill.specs.declared.Outcome.TheVariants.{Empty, Copied, Waiting}
-use Rattle.fill.specs.declared.Fill.{Fill}
+use Rattle.fill.specs.declared.Filled.{Filled}
+use Rattle.stream.specs.declared.refusal.Refusal.{Refusal}
+use Rattle.stream.specs.declared.refusal.Refusal.TheVariants.{StageFull, OutputFull}
+use Rattle.std.proofs.Common.{Result, Ok, Err}
 use Rattle.fill.specs.Taking.{Taken, nothing, removed, copied, speed_at, taken, counted}
 use Rattle.fill.specs.Filling.{speed_of}
 use Rattle.fill.specs.Filling.{nothing_filled, FilledBy}
@@ -45,7 +48,7 @@ pub record AreaFits (s : SonicStream) (kept : ℕ) (input area : List ℤ) : Typ
   pub input_short : length input ≤ 2 ^ 24
 
 -- whatever the tail is, which lies in the stage
-abbrev pub FillsWith : SonicStream → ℕ → ℕ → List ℤ → List ℤ → List ℤ → Fill → Type 0
+abbrev pub FillsWith : SonicStream → ℕ → ℕ → List ℤ → List ℤ → List ℤ → Result Filled Refusal → Type 0
 FillsWith s kept most input entry exit f = (stage : List ℤ) → FilledBy s kept most (taken (state_of s input stage)) input entry exit f
 
 -- ---- counts
@@ -66,8 +69,8 @@ speed-same s input stage =
     ap (λ (n : ℕ). local_speed n (sample_period s.rate) s.input_play_time) (length-frames_of s.channels s.held.0 input)
 
 -- all frames held were copied, and the stream t has none of them
-abbrev pub all_filled : SonicStream → SonicStream → Fill
-all_filled s t = Fill.Done (record { frames = s.held; used = s.held; balance = none; stream = t; told = record { outcome = Copied; passed = 0; sum = 0 } })
+abbrev pub all_filled : SonicStream → SonicStream → Filled
+all_filled s t = (record { frames = s.held; used = s.held; balance = none; stream = t; told = record { outcome = Copied; passed = 0; sum = 0 } })
 
 module _ (s : SonicStream) (kept most : ℕ) (r : StreamReady s) (input area : List ℤ) (fit : AreaFits s kept input area) where
   abbrev state : List ℤ → State
@@ -78,7 +81,7 @@ module _ (s : SonicStream) (kept most : ℕ) (r : StreamReady s) (input area : L
 
   -- ---- no frames
 
-  nothing-filled : (stage : List ℤ) (o : Outcome) → FilledBy s kept most (nothing o (state stage)) input area area (nothing_filled s o)
+  nothing-filled : (stage : List ℤ) (o : Outcome) → FilledBy s kept most (nothing o (state stage)) input area area (Ok (nothing_filled s o))
   unfolding nothing state_of counted stalled tally
   nothing-filled stage o =
       record {
@@ -92,11 +95,11 @@ module _ (s : SonicStream) (kept most : ℕ) (r : StreamReady s) (input area : L
         prev_in = r.state.prev;
       }
 
-  pub empty-filled : s.held.0 ≡ 0 → FillsWith s kept most input area area (nothing_filled s Empty)
+  pub empty-filled : s.held.0 ≡ 0 → FillsWith s kept most input area area (Ok (nothing_filled s Empty))
   empty-filled e stage = rw (taken-empty (state stage) (held stage ∙ e)) (nothing-filled stage Empty)
 
   pub waiting-filled : 1 ≤ s.held.0 → speed_changes (speed_of s) ≡ true → s.held.0 < max_required s.rate
-      → FillsWith s kept most input area area (nothing_filled s Waiting)
+      → FillsWith s kept most input area area (Ok (nothing_filled s Waiting))
   unfolding state_of
   waiting-filled some e few stage =
       let n = held stage in
@@ -106,35 +109,35 @@ module _ (s : SonicStream) (kept most : ℕ) (r : StreamReady s) (input area : L
   -- ---- all frames
 
   module _ (some : 1 ≤ s.held.0) (same : speed_changes (speed_of s) ≡ false) where
-    copies : (stage exit : List ℤ) (f : Fill) → FilledBy s kept most (copied (state stage)) input area exit f
+    copies : (stage exit : List ℤ) (f : Result Filled Refusal) → FilledBy s kept most (copied (state stage)) input area exit f
         → FilledBy s kept most (taken (state stage)) input area exit f
     copies stage exit f =
         let t = taken-copied (state stage) (omega (arith, held stage)) (ap speed_changes (speed-same s input stage) ∙ same) in
         subst (λ (x : Taken). FilledBy s kept most x input area exit f) (sym t)
 
-    pub copied-over : most < s.held.0 → FillsWith s kept most input area area Fill.TooMany
+    pub copied-over : most < s.held.0 → FillsWith s kept most input area area (Err StageFull)
     unfolding copied
-    copied-over over stage = copies stage area Fill.TooMany (refl, subst (λ (n : ℕ). most < n) (sym (held stage)) over)
+    copied-over over stage = copies stage area (Err StageFull) (refl, subst (λ (n : ℕ). most < n) (sym (held stage)) over)
 
     module _ (few : s.held.0 ≤ most) where
       few-are : (stage : List ℤ) → length (state stage).input ≤ most
       few-are stage = subst (λ (n : ℕ). n ≤ most) (sym (held stage)) few
 
-      pub copied-full : length area < (kept + s.held.0) * s.channels → FillsWith s kept most input area area Fill.Full
+      pub copied-full : length area < (kept + s.held.0) * s.channels → FillsWith s kept most input area area (Err OutputFull)
       unfolding copied
       copied-full over stage =
           let no_room = subst (λ (n : ℕ). length area < (kept + n) * s.channels) (sym (held stage)) over in
-          copies stage area Fill.Full (record { kept = refl; over = no_room }, few-are stage)
+          copies stage area (Err OutputFull) (record { kept = refl; over = no_room }, few-are stage)
 
       pub copied-filled : (exit : List ℤ) (t : SonicStream) → (kept + s.held.0) * s.channels ≤ length area
           → exit ≡ paste area (kept * s.channels) (drop 0 input) (s.held.0 * s.channels)
           → ChangedBy (removed s.held.0) s s.waiting.0 t
-          → FillsWith s kept most input area exit (all_filled s t)
+          → FillsWith s kept most input area exit (Ok (all_filled s t))
       unfolding copied removed state_of counted stalled tally
       copied-filled exit t fits e changed stage =
           let ch = s.channels in
           let b = behind-paste ch kept s.held.0 area input fits fit.held in
-          copies stage exit (all_filled s t)
+          copies stage exit (Ok (all_filled s t))
           (record {
             told = refl;
             balance = refl;

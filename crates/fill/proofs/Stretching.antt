@@ -26,7 +26,7 @@ use Rattle.period.specs.Rates.{max_required}
 use Rattle.stretch.specs.declared.StretchCall.{StretchCall}
 use Rattle.stretch.specs.declared.Place.{Place}
 use Rattle.stretch.specs.declared.Stretch.{Stretch}
-use Rattle.stretch.specs.declared.Stretched as S
+use Rattle.std.proofs.Common.{Option, Some, None, Result, Ok, Err}
 use Rattle.stretch.specs.Steps.{StretchReady}
 use Rattle.stretch.specs.Tally.{Tally, tally}
 use Rattle.stretch.specs.Speed.{steps, frames_made, samples_of, last_place, stalled, answer_for, change_speed, stretched_frames, AreaAfter}
@@ -40,7 +40,8 @@ use Rattle.stream.specs.Stream.{state_of}
 use Rattle.stream.specs.Order.{StreamReady}
 use Rattle.stream.proofs.Streams.{held-is}
 use Rattle.fill.specs.declared.Filled.{Filled}
-use Rattle.fill.specs.declared.Fill.{Fill}
+use Rattle.stream.specs.declared.refusal.Refusal.{Refusal}
+use Rattle.stream.specs.declared.refusal.Refusal.TheVariants.{StageFull, OutputFull}
 use Rattle.fill.specs.Taking.{Taken, removed, stretched, stepped, call_at, place_of, speed_at, taken, counted}
 use Rattle.fill.specs.Filling.{speed_of}
 use Rattle.fill.specs.Filling.{place_for, surplus, SteppedAs, FilledBy}
@@ -82,11 +83,11 @@ abbrev pub room_in : SonicStream → ℕ → List ℤ → ℕ
 room_in s kept area = length area / s.channels - kept
 
 -- `change_speed`, handed such a call, the samples l and the place h, answered r and left the area as `exit`
-abbrev AnsweredTo : StretchCall → List ℤ → Place → SonicStream → ℕ → ℕ → List ℤ → List ℤ → S.Stretched → Type 0
+abbrev AnsweredTo : StretchCall → List ℤ → Place → SonicStream → ℕ → ℕ → List ℤ → List ℤ → Option Stretch → Type 0
 AnsweredTo c l h s kept most area exit r =
     (r ≡ change_speed c l h most) × AreaAfter c l h (room_in s kept area) most area exit (kept * s.channels)
 
-abbrev pub StretchAnswered : SonicStream → Float → ℕ → ℕ → List ℤ → List ℤ → List ℤ → S.Stretched → Type 0
+abbrev pub StretchAnswered : SonicStream → Float → ℕ → ℕ → List ℤ → List ℤ → List ℤ → Option Stretch → Type 0
 StretchAnswered s x kept most input area exit r = AnsweredTo (call_of s x) (lent_of s input) (place_for s) s kept most area exit r
 
 module _ {s : SonicStream} {x : Float} {kept : ℕ} {input area : List ℤ} (d : StretchDue s x kept input area) where
@@ -129,7 +130,7 @@ module _ {s : SonicStream} {x : Float} {kept : ℕ} {input area : List ℤ} (d :
   unfolding state_of
   list-long = rw (length-frames_of s.channels s.held.0 input, flat-frames_of s.channels s.held.0 input) (lent-long d)
 
-  answered-by : (exit : List ℤ) (r : S.Stretched) → StretchAnswered s x kept most input area exit r
+  answered-by : (exit : List ℤ) (r : Option Stretch) → StretchAnswered s x kept most input area exit r
       → AnsweredTo (call_at x state) (flat state.input) (place_of state) s kept most area exit r
   unfolding state_of
   answered-by exit r e =
@@ -147,7 +148,7 @@ module _ {s : SonicStream} {x : Float} {kept : ℕ} {input area : List ℤ} (d :
       taken-stretched state (omega (arith, held, d.enough)) (ap speed_changes same ∙ d.changes) (omega (arith, held, d.enough))
       ∙ ap (λ (y : Float). stretched y state) same
 
-  fills : (exit : List ℤ) (f : Fill) → FilledBy s kept most (stretched x state) input area exit f
+  fills : (exit : List ℤ) (f : Result Filled Refusal) → FilledBy s kept most (stretched x state) input area exit f
       → FilledBy s kept most (taken state) input area exit f
   fills exit f = subst (λ (t : Taken). FilledBy s kept most t input area exit f) (sym taken_is)
 
@@ -188,11 +189,11 @@ surplus-is false t position e k =
 
 -- ---- by the answer
 
-answer-over : (b : Bool) (a : Stretch) → S.Stretched.TooMany ≡ cond b S.Stretched.TooMany (S.Stretched.Made a) → b ≡ true
+answer-over : (b : Bool) (a : Stretch) → None ≡ cond b None (Some a) → b ≡ true
 answer-over true a e = refl
 answer-over false a e = cc
 
-answer-made : (b : Bool) (a m : Stretch) → S.Stretched.Made m ≡ cond b S.Stretched.TooMany (S.Stretched.Made a) → (b ≡ false) × (a ≡ m)
+answer-made : (b : Bool) (a m : Stretch) → Some m ≡ cond b None (Some a) → (b ≡ false) × (a ≡ m)
 answer-made true a m e = (cc, cc)
 answer-made false a m e = (refl, cc)
 
@@ -218,16 +219,16 @@ module _ {s : SonicStream} {x : Float} {kept : ℕ} {input area : List ℤ} (d :
   ready : StretchReady call
   ready = subst StretchReady (call-is d most stage) (call-ready d (ties_of s.ties))
 
-  over_by : StretchAnswered s x kept most input area exit S.Stretched.TooMany → FilledBy s kept most (taken (state_of s input stage)) input area exit Fill.TooMany
+  over_by : StretchAnswered s x kept most input area exit None → FilledBy s kept most (taken (state_of s input stage)) input area exit (Err StageFull)
   unfolding change_speed stretched state_of
   over_by e =
-      let f = answered-by d most stage exit S.Stretched.TooMany e in
+      let f = answered-by d most stage exit None e in
       let over = ltb-true most made (answer-over (ltb most made) answer f.0) in
-      fills d most stage exit Fill.TooMany (f.1.kept, rw frames-are over)
+      fills d most stage exit (Err StageFull) (f.1.kept, rw frames-are over)
 
-  module _ (m : Stretch) (e : StretchAnswered s x kept most input area exit (S.Stretched.Made m)) where
-    answers : AnsweredTo call list place s kept most area exit (S.Stretched.Made m)
-    answers = answered-by d most stage exit (S.Stretched.Made m) e
+  module _ (m : Stretch) (e : StretchAnswered s x kept most input area exit (Some m)) where
+    answers : AnsweredTo call list place s kept most area exit (Some m)
+    answers = answered-by d most stage exit (Some m) e
 
     made_all : (made ≤ most) × (answer ≡ m)
     unfolding change_speed
@@ -243,13 +244,13 @@ module _ {s : SonicStream} {x : Float} {kept : ℕ} {input area : List ℤ} (d :
         let used = used-held list place ready d.ready.state.prev.period_in zero-le in
         subst (λ (a : Stretch). a.used.0 ≤ s.held.0) made_all.1 (omega (arith, used, held-is s input stage))
 
-    full_by : room_in s kept area < m.made.0 → FilledBy s kept most (taken (state_of s input stage)) input area exit Fill.Full
+    full_by : room_in s kept area < m.made.0 → FilledBy s kept most (taken (state_of s input stage)) input area exit (Err OutputFull)
     unfolding stretched state_of
     full_by over =
-        fills d most stage exit Fill.Full (area-full answers.1 ready (omega (arith, made-is, over)), rw frames-are made_all.0)
+        fills d most stage exit (Err OutputFull) (area-full answers.1 ready (omega (arith, made-is, over)), rw frames-are made_all.0)
 
     filled-by : (f : Filled) → m.made.0 ≤ room_in s kept area → SteppedAs s m f
-        → FilledBy s kept most (taken (state_of s input stage)) input area exit (Fill.Done f)
+        → FilledBy s kept most (taken (state_of s input stage)) input area exit (Ok f)
     unfolding stretched state_of answer_for counted
     filled-by f room g =
         let t : State = state_of s input stage in
@@ -257,7 +258,7 @@ module _ {s : SonicStream} {x : Float} {kept : ℕ} {input area : List ℤ} (d :
         let fits = room-under s.channels kept made (length area) (ready-limits d.ready).channels_low d.fit.kept_fit roomy in
         let behind = area-behind answers.1 ready d.ready.state.prev.period_in (list-long d most stage) made_all.0 roomy fits in
         let h : SteppedAs s answer f = subst (λ (a : Stretch). SteppedAs s a f) (sym made_all.1) g in
-        fills d most stage exit (Fill.Done f)
+        fills d most stage exit (Ok f)
         (record {
           told = h.told;
           balance = h.balance
@@ -272,16 +273,16 @@ module _ {s : SonicStream} {x : Float} {kept : ℕ} {input area : List ℤ} (d :
         })
 
 module _ {s : SonicStream} {x : Float} {kept : ℕ} {input area : List ℤ} (d : StretchDue s x kept input area) (most : ℕ) (exit : List ℤ) where
-  pub stretched-over : StretchAnswered s x kept most input area exit S.Stretched.TooMany → FillsWith s kept most input area exit Fill.TooMany
+  pub stretched-over : StretchAnswered s x kept most input area exit None → FillsWith s kept most input area exit (Err StageFull)
   stretched-over e stage = over_by d most exit stage e
 
-  module _ (m : Stretch) (e : StretchAnswered s x kept most input area exit (S.Stretched.Made m)) where
+  module _ (m : Stretch) (e : StretchAnswered s x kept most input area exit (Some m)) where
     pub stretched-used : m.used.0 ≤ s.held.0
     stretched-used = used-by d most exit [] m e
 
-    pub stretched-full : room_in s kept area < m.made.0 → FillsWith s kept most input area exit Fill.Full
+    pub stretched-full : room_in s kept area < m.made.0 → FillsWith s kept most input area exit (Err OutputFull)
     stretched-full over stage = full_by d most exit stage m e over
 
     -- the steps' frames fill the area, as f says
-    pub stretched-filled : (f : Filled) → m.made.0 ≤ room_in s kept area → SteppedAs s m f → FillsWith s kept most input area exit (Fill.Done f)
+    pub stretched-filled : (f : Filled) → m.made.0 ≤ room_in s kept area → SteppedAs s m f → FillsWith s kept most input area exit (Ok f)
     stretched-filled f room g stage = filled-by d most exit stage m e f room g

@@ -1,7 +1,7 @@
 -- What the functions of `fill` require and ensure of a stream s; its areas go from a to b. Definitions only. Assumes
 -- nothing.
 use Rattle.std.specs.Prelude.{◌≡◌, Bool, true, false, cond, List, ℕ, ◌-◌, ◌*◌, ◌/◌, ◌^◌, ◌≤◌, ◌<◌, ℤ, Float, length}
-use Rattle.std.specs.Prelude.{take, drop}
+use Rattle.std.specs.Prelude.{take, drop, Option, Result, Ok, Err}
 use Rattle.std.specs.Float.Ieee.{eq}
 use Rattle.std.proofs.Math.Seq.{paste}
 use Rattle.frames.specs.Areas.{Areas}
@@ -14,17 +14,17 @@ use Rattle.period.specs.Pitch.{PrevInOrder}
 use Rattle.stretch.specs.declared.StretchCall.{StretchCall}
 use Rattle.stretch.specs.declared.Place.{Place}
 use Rattle.stretch.specs.declared.Stretch.{Stretch}
-use Rattle.stretch.specs.declared.Stretched.{Stretched}
 use Rattle.stretch.specs.Speed.{begun, change_speed, AreaAfter}
 use Rattle.stream.specs.declared.SonicStream.{SonicStream}
 use Rattle.stream.specs.declared.balance.Balance.{Balance}
+use Rattle.stream.specs.declared.refusal.Refusal.{Refusal}
+use Rattle.stream.specs.declared.refusal.Refusal.TheVariants.{StageFull, OutputFull}
 use Rattle.stream.specs.Balance.{none}
 use Rattle.stream.specs.Stream.{state_of, stream_of, ChangedBy}
 use Rattle.fill.specs.declared.Outcome.{Outcome}
 use Rattle.fill.specs.declared.Outcome.TheVariants as Outcomes
 use Rattle.fill.specs.declared.Filled.{Filled}
 use Rattle.fill.specs.declared.destination.Destination.{Destination}
-use Rattle.fill.specs.declared.Fill.{Fill}
 use Rattle.fill.specs.Taking.{Taken, taken, stepped, counted}
 
 -- the local speed
@@ -102,16 +102,15 @@ pub record SteppedAs (s : SonicStream) (a : Stretch) (d : Filled) : Type 0 where
       ≡ record { outcome = cond a.stalled Outcomes.Stalled Outcomes.Stretched; passed = a.passed; sum = a.sum }
 
 -- no frames
-abbrev pub nothing_filled : SonicStream → Outcome → Fill
+abbrev pub nothing_filled : SonicStream → Outcome → Filled
 nothing_filled s outcome =
-    Fill.Done
-    (record {
+    record {
       frames = record { 0 = 0 };
       used = record { 0 = 0 };
       balance = none;
       stream = s;
       told = record { outcome = outcome; passed = 0; sum = 0 };
-    })
+    }
 
 -- an area was filled behind its first `kept` frames as t says, with at most `most` frames; it goes from `entry` to
 -- `exit`
@@ -126,16 +125,17 @@ pub record FilledAs (s : SonicStream) (kept most : ℕ) (t : Taken) (input entry
   pub stream : d.stream ≡ stream_of t.state s.waiting.0
   pub prev_in : PrevInOrder s.rate t.state.prev
 
--- or there are more, or the frames do not fit
-abbrev pub FilledBy : SonicStream → ℕ → ℕ → Taken → List ℤ → List ℤ → List ℤ → Fill → Type 0
-FilledBy s kept most t input entry exit Fill.TooMany =
+-- or there are more, or the frames do not fit; there is no other refusal
+abbrev pub FilledBy : SonicStream → ℕ → ℕ → Taken → List ℤ → List ℤ → List ℤ → Result Filled Refusal → Type 0
+FilledBy s kept most t input entry exit (Ok d) = FilledAs s kept most t input entry exit d
+FilledBy s kept most t input entry exit (Err StageFull) =
     (take (kept * s.channels) exit ≡ take (kept * s.channels) entry) × (most < length t.frames)
-FilledBy s kept most t input entry exit Fill.Full =
+FilledBy s kept most t input entry exit (Err OutputFull) =
     NoRoom s.channels kept entry exit t.frames × (length t.frames ≤ most)
-FilledBy s kept most t input entry exit (Fill.Done d) = FilledAs s kept most t input entry exit d
+FilledBy s kept most t input entry exit (Err _) = ⊥
 
 -- the area of the call, and the other stays
-abbrev pub FillEnsures : SonicStream → Areas → Areas → Fill → Type 0
+abbrev pub FillEnsures : SonicStream → Areas → Areas → Result Filled Refusal → Type 0
 FillEnsures s a b r =
     let to : Destination = destination_in s a in
     FilledBy s to.kept.0 to.most.0 (taken (state_of s a.input a.stage)) a.input (filled_area s a)
@@ -150,7 +150,7 @@ CopyEnsures s a b =
     × (other_area s b ≡ other_area s a)
 
 -- the frames of a stretch u were put there, if there was room
-abbrev pub StretchEnsures : SonicStream → StretchCall → Areas → Areas → Stretched → Type 0
+abbrev pub StretchEnsures : SonicStream → StretchCall → Areas → Areas → Option Stretch → Type 0
 StretchEnsures s u a b r =
     let to : Destination = destination_in s a in
     (r ≡ change_speed u a.input (place_for s) to.most.0)

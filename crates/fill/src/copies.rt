@@ -6,9 +6,9 @@ ghost use Rattle.stream.specs.Order.{StreamReady};
 ghost use Rattle.fill.specs.Filling.{speed_of, destination_of, filled_area, AreasFit, CopyEnsures, FillEnsures};
 
 use crate::destination::destination_of;
-use crate::{Fill, Filled, Outcome, Told, removed};
+use crate::{Filled, Outcome, nothing, removed};
 use frames::{Frames, Samples};
-use stream::{Balance, SonicStream};
+use stream::{Refusal, SonicStream};
 
 // Copies all frames of the input to their destination, which has room for them.
 fn copy_frames(
@@ -42,7 +42,7 @@ pub(crate) fn copy_input(
     input: &[i16],
     stage: &mut [i16],
     output: &mut [i16],
-) -> Fill
+) -> Result<Filled, Refusal>
     requires stream_ready { StreamReady stream × AreasFit stream (areas input.now stage.old output.old []) }
     requires le_held { (1 ≤ stream.held.0) × (speed_changes (speed_of stream) ≡ false) }
     ensures { FillEnsures stream
@@ -52,22 +52,17 @@ pub(crate) fn copy_input(
     let held = stream.held;
     let to = destination_of(stream, Samples(stage.len()), Samples(output.len()));
     if to.most.0 < held.0 {
-        return Fill::TooMany;
+        return Err(Refusal::StageFull);
     }
     if to.room.0 < held.0 {
-        return Fill::Full;
+        return Err(Refusal::OutputFull);
     }
     let kept = to.kept;
     copy_frames(stream, input, stage, output, kept);
-    Fill::Done(Filled {
+    Ok(Filled {
         frames: held,
         used: held,
-        balance: Balance::NONE,
         stream: removed(stream, held),
-        told: Told {
-            outcome: Outcome::Copied,
-            passed: 0,
-            sum: 0,
-        },
+        ..nothing(stream, Outcome::Copied)
     })
 }

@@ -6,7 +6,7 @@ use frames::{Frames, Samples};
 use stream::SonicStream;
 
 // Where a call's frames go: behind `kept` frames of an area, which has room for `room` more; and how many there may be.
-#[derive(Clone, Copy)]
+#[derive(Clone, Copy, Debug, PartialEq, Eq)]
 pub struct Destination {
     pub kept: Frames,
     pub room: Frames,
@@ -21,20 +21,17 @@ pub(crate) fn destination_of(stream: SonicStream, stage: Samples, output: Sample
 {
     let channels = stream.channels as usize;
     let staged = stage.frames(channels);
-    let kept = stream.tail;
-    let free = staged.0 - kept.0;
     if stream.pitch == 1.0 {
-        let waiting = stream.waiting;
-        let room = output.frames(channels).0 - waiting.0;
         return Destination {
-            kept: waiting,
-            room: Frames(room),
+            kept: stream.waiting,
+            room: Frames(output.frames(channels).0 - stream.waiting.0),
             most: staged,
         };
     }
+    let free = Frames(staged.0 - stream.tail.0);
     Destination {
-        kept,
-        room: Frames(free),
-        most: Frames(free),
+        kept: stream.tail,
+        room: free,
+        most: free,
     }
 }

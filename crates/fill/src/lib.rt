@@ -16,22 +16,22 @@ ghost use Rattle.fill.specs.Filling.{surplus, nothing_filled, FillReady, FillEns
 
 use copies::copy_input;
 use frames::Frames;
-use stream::{Balance, SonicStream};
+use stream::{Balance, Refusal, SonicStream};
 use stretches::stretch_input;
 
-// How a call's work went.
-#[derive(Clone, Copy)]
+// How a call's work went. C has these numbers.
+#[derive(Clone, Copy, Debug, PartialEq, Eq)]
 pub enum Outcome {
-    Empty,
-    Copied,
-    Waiting,
-    Stretched,
-    Stalled,
+    Empty = 0,
+    Copied = 1,
+    Waiting = 2,
+    Stretched = 3,
+    Stalled = 4,
 }
 
 // What is told of an accepted write or flush: its outcome, the periods that it passed over, and the sum of differences
 // of the period that its last search found, 0 if it made none.
-#[derive(Clone, Copy)]
+#[derive(Clone, Copy, Debug, PartialEq, Eq)]
 pub struct Told {
     pub outcome: Outcome,
     pub passed: usize,
@@ -49,29 +49,18 @@ pub struct Filled {
     pub told: Told,
 }
 
-// TooMany: there are more frames than there may be. Full: they do not fit the area.
-#[derive(Clone, Copy)]
-pub enum Fill {
-    TooMany,
-    Full,
-    Done(Filled),
-}
-
 // The stream without the first `used` frames of its input.
-pub(crate) fn removed(mut stream: SonicStream, used: Frames) -> SonicStream
+pub(crate) fn removed(stream: SonicStream, used: Frames) -> SonicStream
     requires { (used.0 ≤ stream.held.0) × (stream.held.0 ≤ 2 ^ 24)
         × (stream.sample_period ≡ sample_period stream.rate) }
     ensures { ChangedBy (removed used.0) stream stream.waiting.0 result }
 {
-    let held = stream.held;
-    let left = stream.held.0 - used.0;
-    stream.input_play_time = floats::times::play_time_left(
-        stream.input_play_time,
-        Frames(left),
-        held,
-    );
-    stream.held.0 = left;
-    stream
+    let left = Frames(stream.held.0 - used.0);
+    SonicStream {
+        input_play_time: floats::times::play_time_left(stream.input_play_time, left, stream.held),
+        held: left,
+        ..stream
+    }
 }
 
 // The frames that a call skipped or inserted, by its frames out and used: frames out plus skipped are frames used plus
@@ -79,23 +68,17 @@ pub(crate) fn removed(mut stream: SonicStream, used: Frames) -> SonicStream
 pub(crate) fn balance_of(made: Frames, used: Frames) -> Balance
     ensures { result ≡ surplus made.0 used.0 }
 {
-    if made.0 < used.0 {
-        return Balance {
-            skipped: (used.0 - made.0) as u64,
-            inserted: 0,
-        };
-    }
     Balance {
-        skipped: 0,
-        inserted: (made.0 - used.0) as u64,
+        skipped: used.0.saturating_sub(made.0) as u64,
+        inserted: made.0.saturating_sub(used.0) as u64,
     }
 }
 
 // No frames.
-fn nothing(stream: SonicStream, outcome: Outcome) -> Fill
+pub(crate) fn nothing(stream: SonicStream, outcome: Outcome) -> Filled
     ensures { result ≡ nothing_filled stream outcome }
 {
-    Fill::Done(Filled {
+    Filled {
         frames: Frames(0),
         used: Frames(0),
         balance: Balance::NONE,
@@ -105,17 +88,18 @@ fn nothing(stream: SonicStream, outcome: Outcome) -> Fill
             passed: 0,
             sum: 0,
         },
-    })
+    }
 }
 
-// The frames of a call, before rate and volume.
+// The frames of a call, before rate and volume: refused if there are more than there may be, which is told as a full
+// stage, or if they do not fit the area, which is told as a full output.
 pub fn fill_area(
     stream: SonicStream,
     input: &[i16],
     stage: &mut [i16],
     output: &mut [i16],
     scratch: &mut [i16],
-) -> Fill
+) -> Result<Filled, Refusal>
     requires { StreamReady stream
         × FillReady stream (areas input.now stage.old output.old scratch.old) }
     ensures { FillEnsures stream
@@ -125,12 +109,12 @@ pub fn fill_area(
     let held = stream.held;
     let n = stream.held.0;
     if n == 0 {
-        return nothing(stream, Outcome::Empty);
+        return Ok(nothing(stream, Outcome::Empty));
     }
     let speed = floats::times::local_speed(held, stream.sample_period, stream.input_play_time);
     if floats::times::speed_changes(speed) {
         if n < period::max_required(stream.rate as usize).0 {
-            return nothing(stream, Outcome::Waiting);
+            return Ok(nothing(stream, Outcome::Waiting));
         }
         return stretch_input(stream, speed, input, stage, output, scratch);
     }

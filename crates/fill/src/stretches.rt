@@ -10,47 +10,48 @@ ghost use Rattle.fill.specs.Filling.{speed_of, destination_of, AreasFit, FillRea
 ghost use Rattle.fill.specs.Filling.{SteppedAs, StretchEnsures, FillEnsures};
 
 use crate::destination::{Destination, destination_of};
-use crate::{Fill, Filled, Outcome, Told, balance_of, removed};
+use crate::{Filled, Outcome, Told, balance_of, removed};
 use frames::{Frames, Samples};
 use period::PeriodRecord;
-use stream::{Balance, SonicStream, Ties};
-use stretch::{Stretch, StretchCall, Stretched};
+use search::Ties;
+use stream::{Balance, Refusal, SonicStream};
+use stretch::{Stretch, StretchCall};
 
 // What the steps of a stretch gave; a stall removes no input and counts no step.
-fn stepped(mut stream: SonicStream, stretch: Stretch) -> Filled
+fn stepped(stream: SonicStream, stretch: Stretch) -> Filled
     requires { (stretch.used.0 ≤ stream.held.0) × (stream.held.0 ≤ 2 ^ 24)
         × (stream.sample_period ≡ sample_period stream.rate) }
     ensures { SteppedAs stream stretch result }
 {
-    let frames = stretch.made;
-    let used = stretch.used;
-    let prev = stretch.prev;
-    stream.time_error = stretch.time_error;
-    stream.prev_period = prev.period;
-    stream.prev_min_diff = prev.min_diff;
-    if stretch.stalled {
-        return Filled {
-            frames,
-            used: Frames(0),
-            balance: Balance::NONE,
-            stream,
-            told: Told {
-                outcome: Outcome::Stalled,
-                passed: stretch.passed,
-                sum: stretch.sum,
-            },
-        };
-    }
-    Filled {
-        frames,
-        used,
-        balance: balance_of(frames, used),
-        stream: removed(stream, used),
+    let after = SonicStream {
+        time_error: stretch.time_error,
+        prev_period: stretch.prev.period,
+        prev_min_diff: stretch.prev.min_diff,
+        ..stream
+    };
+    let stalled = Filled {
+        frames: stretch.made,
+        used: Frames(0),
+        balance: Balance::NONE,
+        stream: after,
         told: Told {
-            outcome: Outcome::Stretched,
+            outcome: Outcome::Stalled,
             passed: stretch.passed,
             sum: stretch.sum,
         },
+    };
+    if stretch.stalled {
+        return stalled;
+    }
+    Filled {
+        used: stretch.used,
+        balance: balance_of(stretch.made, stretch.used),
+        stream: removed(after, stretch.used),
+        told: Told {
+            outcome: Outcome::Stretched,
+            ..stalled.told
+        },
+        ..stalled
     }
 }
 
@@ -63,7 +64,7 @@ fn stretch_frames(
     output: &mut [i16],
     to: Destination,
     scratch: &mut [i16],
-) -> Stretched
+) -> Option<Stretch>
     requires stream_ready { StreamReady stream × StretchReady call × (call.rate ≡ stream.rate)
         × (call.channels ≡ stream.channels) }
     requires channels_in_bounds { (call.held.0 * call.channels ≤ length samples.now)
@@ -101,7 +102,7 @@ pub(crate) fn stretch_input(
     stage: &mut [i16],
     output: &mut [i16],
     scratch: &mut [i16],
-) -> Fill
+) -> Result<Filled, Refusal>
     requires stream_ready { StreamReady stream
         × FillReady stream (areas input.now stage.old output.old scratch.old) }
     requires rate_bound { (max_required stream.rate ≤ stream.held.0) × (speed ≡ speed_of stream)
@@ -125,13 +126,10 @@ pub(crate) fn stretch_input(
     let count = held.samples(channels).0;
     let to = destination_of(stream, Samples(stage.len()), Samples(output.len()));
     let free = to.room.0;
-    match stretch_frames(stream, call, &input[0..count], stage, output, to, scratch) {
-        Stretched::TooMany => Fill::TooMany,
-        Stretched::Made(made) => {
-            if free < made.made.0 {
-                return Fill::Full;
-            }
-            Fill::Done(stepped(stream, made))
-        }
+    let made = stretch_frames(stream, call, &input[0..count], stage, output, to, scratch)
+        .ok_or(Refusal::StageFull)?;
+    if free < made.made.0 {
+        return Err(Refusal::OutputFull);
     }
+    Ok(stepped(stream, made))
 }

@@ -10,30 +10,27 @@ ghost use Rattle.process.specs.Process.{cleared};
 ghost use Rattle.adding.specs.Calls.{flush_call, CallEnsures, OrderAfter};
 ghost use Rattle.adding.specs.Adding.{AddReady};
 
-use adding::{Wrote, process_added};
 use frames::Frames;
-use process::Work;
-use stream::areas::{areas_bad, input_full};
-use stream::{Order, SonicStream, refusals};
+use process::Wrote;
+use stream::areas::input_full;
+use stream::{Refusal, Refused, SonicStream};
+use write_parts::{end_write, enter};
 
 // The stream after a flush: of the frames behind the first `waiting` ones at most `expected` wait, and nothing is
 // held. Positions, period record and totals stay.
-fn cleared(mut stream: SonicStream, waiting: Frames, expected: Frames) -> SonicStream
+fn cleared(stream: SonicStream, waiting: Frames, expected: Frames) -> SonicStream
     requires { (waiting.0 ≤ stream.waiting.0) × (stream.sample_period ≡ sample_period stream.rate) }
     ensures { ChangedBy cleared stream (waiting.0 + min expected.0 (stream.waiting.0 - waiting.0)) result }
 {
-    let before = waiting.0;
-    let made = stream.waiting.0 - before;
-    let most = expected.0;
-    stream.input_play_time = 0.0;
-    stream.time_error = 0.0;
-    stream.held.0 = 0;
-    stream.tail.0 = 0;
-    if most < made {
-        let w = before + most;
-        stream.waiting.0 = w;
+    let made = stream.waiting.0 - waiting.0;
+    SonicStream {
+        input_play_time: 0.0,
+        time_error: 0.0,
+        held: Frames(0),
+        tail: Frames(0),
+        waiting: Frames(waiting.0 + made.min(expected.0)),
+        ..stream
     }
-    stream
 }
 
 // A flush whose n silent frames fit the input.
@@ -45,7 +42,7 @@ fn flush_frames(
     stage: &mut [i16],
     output: &mut [i16],
     scratch: &mut [i16],
-) -> Wrote
+) -> Result<Wrote, Refused>
     requires { AddReady stream period (areas input.old stage.old output.old scratch.old) n.0
         × (n.0 ≡ 2 * max_required stream.rate) }
     ensures call_ensures { CallEnsures stream.channels
@@ -55,17 +52,14 @@ fn flush_frames(
     ensures order_after { OrderAfter result }
 {
     let channels = stream.channels as usize;
-    let held = stream.held;
-    let tail = stream.tail;
-    let waiting = stream.waiting;
-    let expected = floats::times::expected_frames(held, tail, stream.speed, stream.pitch);
-    frames::silence(n.samples(channels), input, held.samples(channels));
-    match process_added(stream, period, n, input, stage, output, scratch) {
-        Work::StageFull => Wrote::Refused(refusals::STAGE_FULL, stream),
-        Work::OutputFull => Wrote::Refused(refusals::OUTPUT_FULL, stream),
-        Work::TotalFull => Wrote::Refused(refusals::TOTAL_FULL, stream),
-        Work::Done(told, after) => Wrote::Done(told, cleared(after, waiting, expected)),
-    }
+    let expected =
+        floats::times::expected_frames(stream.held, stream.tail, stream.speed, stream.pitch);
+    frames::silence(n.samples(channels), input, stream.held.samples(channels));
+    let wrote = end_write(stream, period, n, input, stage, output, scratch)?;
+    Ok(Wrote {
+        stream: cleared(wrote.stream, stream.waiting, expected),
+        ..wrote
+    })
 }
 
 // Makes frames of what is held, and clears it.
@@ -75,23 +69,20 @@ pub fn flush(
     stage: &mut [i16],
     output: &mut [i16],
     scratch: &mut [i16],
-) -> Wrote
+) -> Result<Wrote, Refused>
     ensures call_ensures { CallEnsures stream.channels
         (flush_call stream (areas input.old stage.old output.old
         scratch.old)) result
         (areas input.new stage.new output.new scratch.new) }
     ensures order_after { OrderAfter result }
 {
-    let order = stream.ordered();
-    let Order::Good(period) = order else {
-        return Wrote::Refused(refusals::BAD_STREAM, stream);
-    };
-    if areas_bad(stream, input, stage, output, scratch) {
-        return Wrote::Refused(refusals::BAD_AREAS, stream);
+    let period = enter(stream, input, stage, output, scratch)?;
+    let n = Frames(2 * period::max_required(stream.rate as usize).0);
+    if input_full(stream, n, input) {
+        return Err(Refused {
+            refusal: Refusal::InputFull,
+            stream,
+        });
     }
-    let n = 2 * period::max_required(stream.rate as usize).0;
-    if input_full(stream, Frames(n), input) {
-        return Wrote::Refused(refusals::INPUT_FULL, stream);
-    }
-    flush_frames(stream, period, Frames(n), input, stage, output, scratch)
+    flush_frames(stream, period, n, input, stage, output, scratch)
 }

@@ -21,14 +21,16 @@ use Rattle.frames.proofs.Behind.{behind-paste}
 use Rattle.frames.proofs.Removal.{remaining-frames, removed-frames}
 use Rattle.volume.specs.Volume.{scaled}
 use Rattle.rate.specs.declared.Adjusted.{Adjusted}
-use Rattle.rate.specs.declared.Adjustment.{Adjustment}
 use Rattle.rate.specs.Conversion.{Conversion, adjust_rate}
 use Rattle.rate.specs.Adjusting.{AdjustedAs, new_frames, AdjustEnsures}
 use Rattle.stream.specs.declared.SonicStream.{SonicStream}
 use Rattle.stream.specs.declared.balance.Balance.{Balance}
 use Rattle.stream.specs.Balance.{past}
 use Rattle.stream.specs.Stream.{state_of, stream_of, ChangedBy}
-use Rattle.process.specs.declared.Work.{Work}
+use Rattle.process.specs.declared.Wrote.{Wrote}
+use Rattle.stream.specs.declared.refusal.Refusal.{Refusal}
+use Rattle.stream.specs.declared.refusal.Refusal.TheVariants.{OutputFull, TotalFull}
+use Rattle.std.proofs.Common.{Option, Some, Result, Ok, Err}
 use Rattle.fill.specs.declared.Filled.{Filled}
 use Rattle.fill.specs.Filling.{straight}
 use Rattle.process.specs.Finishing.{UsedReady, ConvertReady, ConvertEnsures, CommitReady, totals, finished_state, FinishedBy, adjusted_as}
@@ -51,25 +53,12 @@ StateFinished s d c x = ChangedBy (finished_state d c) d.stream (s.waiting.0 + l
 -- the stream x with the positions of an answer c and what it leaves of the tail, w frames waiting, and the totals b
 abbrev pub committed : SonicStream → Adjusted → ℕ → Balance → SonicStream
 committed x c w b =
-    record {
-      rate = x.rate;
-      channels = x.channels;
-      speed = x.speed;
-      pitch = x.pitch;
-      volume = x.volume;
-      sample_period = x.sample_period;
-      input_play_time = x.input_play_time;
-      time_error = x.time_error;
+    record x {
       old_rate_position = c.at.old;
       new_rate_position = c.at.new;
-      prev_period = x.prev_period;
-      prev_min_diff = x.prev_min_diff;
-      held = x.held;
       tail = c.left;
       waiting = record { 0 = w };
       balance = b;
-      step_over = x.step_over;
-      ties = x.ties;
     }
 
 -- the counts n and m of samples removed and kept are k and l
@@ -99,7 +88,7 @@ module _ {s : SonicStream} {d : Filled} {a : Areas} where
     done-is input stage = simp length-frames_of (rw r.used.period_is)
 
     -- a total passes 64 bits: the areas stay as they are
-    pub commit-passed : past (totals d) ≡ true → FinishedBy s d (adjusted_as s c a) a a Work.TotalFull
+    pub commit-passed : past (totals d) ≡ true → FinishedBy s d (adjusted_as s c a) a a (Err TotalFull)
     commit-passed e = record { input = refl; stage = refl; kept = refl; fits = rw length-frames_of r.fits; passed = e }
 
     -- the areas go from a to b
@@ -108,7 +97,7 @@ module _ {s : SonicStream} {d : Filled} {a : Areas} where
         → FrontRemoved (c.from.0 * s.channels) (c.left.0 * s.channels) a.stage b.stage
         → Behind s.channels s.waiting.0 c.made.0 a.output b.output
         (map (map (scaled s.volume)) (new_frames s.channels s.waiting.0 c.made.0 a.output))
-        → FinishedBy s d (adjusted_as s c a) a b (Work.Done d.told (committed d.stream c (s.waiting.0 + c.made.0) t))
+        → FinishedBy s d (adjusted_as s c a) a b (Ok (record { told = d.told; stream = committed d.stream c (s.waiting.0 + c.made.0) t }))
     commit-done b t within input stage behind =
         record {
           told = refl;
@@ -125,7 +114,7 @@ module _ (s : SonicStream) (new : ℕ) (a : Areas) (r : ConvertReady s new a) wh
   -- they stand in the output already
   pub straight-done : straight s ≡ true
       → ConvertEnsures s new a a.output
-      (Adjustment.Done (record { made = record { 0 = new }; from = record { 0 = 0 }; left = s.tail; at = record { old = s.old_rate_position; new = s.new_rate_position } }))
+      (Some (record { made = record { 0 = new }; from = record { 0 = 0 }; left = s.tail; at = record { old = s.old_rate_position; new = s.new_rate_position } }))
   unfolding adjust_rate
   straight-done e =
       rw e
@@ -136,7 +125,7 @@ module _ (s : SonicStream) (new : ℕ) (a : Areas) (r : ConvertReady s new a) wh
         within = omega arith;
       })
 
-  pub staged_done : straight s ≡ false → (exit : List ℤ) (x : Adjustment)
+  pub staged_done : straight s ≡ false → (exit : List ℤ) (x : Option Adjusted)
       → AdjustEnsures s.channels s.rate s.pitch (record { old = s.old_rate_position; new = s.new_rate_position }) s.tail.0 new s.waiting.0
       a.stage a.output exit x → ConvertEnsures s new a exit x
   staged_done e exit x h = rw e h
@@ -186,11 +175,12 @@ module _ (s : SonicStream) (d : Filled) (c : Conversion) (a : Areas) (middle : L
   adjusted-is : adjusted_as s x between ≡ c
   adjusted-is = λ i. record { made = j.behind.made i; rest = j.rest i; at = j.at i }
 
-  from_start : (b : Areas) (w : Work) → FinishedBy s d c between b w → FinishedBy s d c a b w
-  from_start b Work.StageFull h = h
-  from_start b Work.OutputFull h =
+  from_start : (b : Areas) (w : Result Wrote Refusal) → FinishedBy s d c between b w → FinishedBy s d c a b w
+  from_start b (Ok w) h =
+      record { told = h.told; within = h.within; stream = h.stream; rest = h.rest; tail = h.tail; behind = behind-again j.behind h.behind }
+  from_start b (Err OutputFull) h =
       (h.0, h.1, record { kept = h.2.kept ∙ j.behind.kept; over = rw (← j.behind.long) h.2.over })
-  from_start b Work.TotalFull h =
+  from_start b (Err TotalFull) h =
       record {
         input = h.input;
         stage = h.stage;
@@ -198,9 +188,8 @@ module _ (s : SonicStream) (d : Filled) (c : Conversion) (a : Areas) (middle : L
         fits = rw (← j.behind.long) h.fits;
         passed = h.passed;
       }
-  from_start b (Work.Done o t) h =
-      record { told = h.told; within = h.within; stream = h.stream; rest = h.rest; tail = h.tail; behind = behind-again j.behind h.behind }
+  from_start b (Err _) h = absurd h
 
-  pub finish-done : (b : Areas) (w : Work)
+  pub finish-done : (b : Areas) (w : Result Wrote Refusal)
       → FinishedBy s d (adjusted_as s x (areas a.input a.stage middle [])) (areas a.input a.stage middle []) b w → FinishedBy s d c a b w
   finish-done b w h = from_start b w (subst (λ (z : Conversion). FinishedBy s d z between b w) adjusted-is h)

@@ -1,4 +1,4 @@
--- A call's whole work, from the area that was filled and the finish: finish-ready, work-done, work-over, work-full. Assumes nothing.
+-- A call's whole work, from the area that was filled and the finish: finish-ready, work-done, work-refused. Assumes nothing.
 use mathlib.Core.Path.{◌≡◌, refl, sym, ap, ◌∙◌, subst}
 use mathlib.Core.Bool.{Bool, true, false, cond}
 use mathlib.Core.List.{List, [], map}
@@ -25,13 +25,15 @@ use Rattle.stream.specs.Order.{StateReady, StreamReady}
 use Rattle.stream.specs.Refusals.{stage_needed}
 use Rattle.stream.proofs.Needed.{needed-straight, needed-joining}
 use Rattle.stream.proofs.Streams.{changed-back, tail-alike, balance-alike, ready-stream, ready-tail, ready-balance}
-use Rattle.fill.specs.declared.Told.{Told}
-use Rattle.process.specs.declared.Work.{Work}
+use Rattle.process.specs.declared.Wrote.{Wrote}
+use Rattle.stream.specs.declared.refusal.Refusal.{Refusal}
+use Rattle.stream.specs.declared.refusal.Refusal.TheVariants.{StageFull, OutputFull, TotalFull}
+use Rattle.std.proofs.Common.{Result, Ok, Err}
 use Rattle.fill.specs.declared.Filled.{Filled}
 use Rattle.fill.specs.Taking.{Taken, taken}
 use Rattle.process.specs.Process.{Made, counting, finished, process}
 use Rattle.fill.specs.declared.destination.Destination.{Destination}
-use Rattle.fill.specs.Filling.{straight, destination_of, destination_in, filled_area, other_area, FillReady, FilledAs}
+use Rattle.fill.specs.Filling.{straight, destination_of, destination_in, filled_area, other_area, FillReady, FilledAs, FillEnsures}
 use Rattle.fill.proofs.Filling.{ready-limits}
 use Rattle.process.specs.Finishing.{FinishReady, totals, finished_state, FinishedAs, FinishedBy, conversion_of, FinishEnsures}
 use Rattle.process.specs.Working.{Unchanged, WorkedAs, WorkedBy, WorkEnsures}
@@ -215,13 +217,13 @@ module _ (s : SonicStream) (d : Filled) (a b : Areas)
       waiting_kept : frames_of s.channels s.waiting.0 b.output ≡ frames_of s.channels s.waiting.0 a.output
       waiting_kept = frames_of-cong s.channels s.waiting.0 b.output a.output kept.waiting
 
-      worked : (o : Told) (x : SonicStream) → FinishedAs s d c before after o x → WorkedAs s (finished t c) a e o x
+      worked : (w : Wrote) → FinishedAs s d c before after w → WorkedAs s (finished t c) a e w
       unfolding finished counting t
-      worked o x h =
+      worked w h =
           record {
             told = h.told ∙ f.told;
-            stream = stream_is x h.stream;
-            ready = rw (stream_is x h.stream) (stream-ready (s.waiting.0 + length (finished t c).frames));
+            stream = stream_is w.stream h.stream;
+            ready = rw (stream_is w.stream h.stream) (stream-ready (s.waiting.0 + length (finished t c).frames));
             stage_fits = stage_fits;
             output_fits = rw (scaled-length, ← longs.1) h.behind.fits;
             totals_fit = ap past (sym totals-are) ∙ h.within;
@@ -240,15 +242,15 @@ module _ (s : SonicStream) (d : Filled) (a b : Areas)
             waiting = frames_of-cong s.channels s.waiting.0 e.output a.output (output ∙ kept.waiting);
           }
 
-      worked-by : (w : Work) → FinishedBy s d c before after w → WorkedBy s (finished t c) a e w
+      worked-by : (r : Result Wrote Refusal) → FinishedBy s d c before after r → WorkedBy s (finished t c) a e r
       unfolding finished
-      worked-by Work.StageFull h = absurd h
-      worked-by Work.OutputFull h = (unchanged h.0 h.1 h.2.kept, stage_fits, rw (scaled-length, ← longs.1) h.2.over)
-      worked-by Work.TotalFull h =
+      worked-by (Ok w) h = worked w h
+      worked-by (Err OutputFull) h = (unchanged h.0 h.1 h.2.kept, stage_fits, rw (scaled-length, ← longs.1) h.2.over)
+      worked-by (Err TotalFull) h =
           (unchanged h.input h.stage h.kept, stage_fits, rw (scaled-length, ← longs.1) h.fits, ap past (sym totals-are) ∙ h.passed)
-      worked-by (Work.Done o x) h = worked o x h
+      worked-by (Err _) h = absurd h
 
-      pub work-done : (w : Work) → FinishEnsures s d (areas a.input b.stage b.output []) (areas e.input e.stage e.output []) w
+      pub work-done : (w : Result Wrote Refusal) → FinishEnsures s d (areas a.input b.stage b.output []) (areas e.input e.stage e.output []) w
           → WorkEnsures s a e w
       unfolding c
       work-done w h = subst (λ (m : Made). WorkedBy s m a e w) (sym process-is) (worked-by w h)
@@ -288,8 +290,8 @@ module _ (s : SonicStream) (a b : Areas) (r : StreamReady s) (fit : FillReady s 
       let over : length a.stage / s.channels - s.tail.0 < length frames = rw e at h in
       rw (needed-joining s (length frames) e) (room-over s.channels s.tail.0 (length frames) (length a.stage) some over)
 
-  pub work-over : take ((destination_in s a).kept.0 * s.channels) (filled_area s b) ≡ take ((destination_in s a).kept.0 * s.channels) (filled_area s a)
-      → (destination_in s a).most.0 < length (taken (state_of s a.input a.stage)).frames → WorkEnsures s a b Work.StageFull
+  work-over : take ((destination_in s a).kept.0 * s.channels) (filled_area s b) ≡ take ((destination_in s a).kept.0 * s.channels) (filled_area s a)
+      → (destination_in s a).most.0 < length (taken (state_of s a.input a.stage)).frames → WorkEnsures s a b (Err StageFull)
   unfolding process finished
   work-over h over = (as-it-came h, over_by (straight s) refl over)
 
@@ -315,7 +317,12 @@ module _ (s : SonicStream) (a b : Areas) (r : StreamReady s) (fit : FillReady s 
       let stage : length a.stage < (s.tail.0 + length frames) * s.channels = rw e at over in
       absurd (not-le_of_lt stage (room-under s.channels s.tail.0 (length frames) (length a.stage) some fit.fit.tail within))
 
-  pub work-full : NoRoom s.channels (destination_in s a).kept.0 (filled_area s a) (filled_area s b) (taken (state_of s a.input a.stage)).frames
-      → length (taken (state_of s a.input a.stage)).frames ≤ (destination_in s a).most.0 → WorkEnsures s a b Work.OutputFull
+  work-full : NoRoom s.channels (destination_in s a).kept.0 (filled_area s a) (filled_area s b) (taken (state_of s a.input a.stage)).frames
+      → length (taken (state_of s a.input a.stage)).frames ≤ (destination_in s a).most.0 → WorkEnsures s a b (Err OutputFull)
   unfolding process finished
   work-full h few = let n = full_by (straight s) refl few h.over in (as-it-came h.kept, n.0, n.1)
+
+  pub work-refused : (e : Refusal) → FillEnsures s a b (Err e) → WorkEnsures s a b (Err e)
+  work-refused StageFull h = work-over h.0.0 h.0.1
+  work-refused OutputFull h = work-full h.0.0 h.0.1
+  work-refused _ h = absurd h.0

@@ -1,24 +1,25 @@
 -- What the functions of `finish` require and ensure. s is the stream at the call's start, d what filled the stage or
 -- the output; the areas go from a to b. Definitions only. Assumes nothing.
 use Rattle.std.specs.Prelude.{◌≡◌, true, false, cond, List, map, ℕ, ◌+◌, ◌-◌, ◌*◌, ◌^◌, ◌≤◌, ℤ, length, take, drop}
+use Rattle.std.specs.Prelude.{Option, Result, Ok, Err}
 use Rattle.frames.specs.Areas.{Areas}
 use Rattle.frames.specs.Framing.{frames_of, Behind, NoRoom}
 use Rattle.floats.specs.Settings.{sample_period}
 use Rattle.volume.specs.Volume.{scaled}
 use Rattle.rate.specs.declared.Adjusted.{Adjusted}
-use Rattle.rate.specs.declared.Adjustment.{Adjustment}
 use Rattle.rate.specs.Conversion.{Conversion, adjust_rate}
 use Rattle.rate.specs.Adjusting.{AdjustedBy, new_frames}
 use Rattle.stream.specs.declared.SonicStream.{SonicStream}
 use Rattle.stream.specs.declared.balance.Balance.{Balance}
+use Rattle.stream.specs.declared.refusal.Refusal.{Refusal}
+use Rattle.stream.specs.declared.refusal.Refusal.TheVariants.{OutputFull, TotalFull}
 use Rattle.stream.specs.Balance.{booked, past}
 use Rattle.stream.specs.State.{State, with_tail, with_balance}
 use Rattle.stream.specs.Stream.{ChangedBy}
 use Rattle.stream.specs.Order.{StreamReady}
-use Rattle.fill.specs.declared.Told.{Told}
-use Rattle.process.specs.declared.Work.{Work}
 use Rattle.fill.specs.declared.Filled.{Filled}
 use Rattle.fill.specs.Filling.{straight, destination_in, filled_area}
+use Rattle.process.specs.declared.Wrote.{Wrote}
 
 -- ---- required
 
@@ -63,11 +64,10 @@ finished_state d c x = with_balance (with_tail x c.rest c.at) (totals d)
 
 -- done as the conversion c says: the frames used have left the input, and the tail frames consumed the stage; the
 -- frames made are scaled
-pub record FinishedAs (s : SonicStream) (d : Filled) (c : Conversion) (a b : Areas) (o : Told) (t : SonicStream)
-    : Type 0 where
-  pub told : o ≡ d.told
+pub record FinishedAs (s : SonicStream) (d : Filled) (c : Conversion) (a b : Areas) (w : Wrote) : Type 0 where
+  pub told : w.told ≡ d.told
   pub within : past (totals d) ≡ false
-  pub stream : ChangedBy (finished_state d c) d.stream (s.waiting.0 + length c.made) t
+  pub stream : ChangedBy (finished_state d c) d.stream (s.waiting.0 + length c.made) w.stream
   pub rest : frames_of s.channels (s.held.0 - d.used.0) b.input
       ≡ drop d.used.0 (frames_of s.channels s.held.0 a.input)
   pub tail : frames_of s.channels (length c.rest) b.stage ≡ c.rest
@@ -82,14 +82,14 @@ pub record TotalPassed (s : SonicStream) (d : Filled) (c : Conversion) (a b : Ar
   pub fits : (s.waiting.0 + length c.made) * s.channels ≤ length a.output
   pub passed : past (totals d) ≡ true
 
--- or its frames do not fit the output
-abbrev pub FinishedBy : SonicStream → Filled → Conversion → Areas → Areas → Work → Type 0
-FinishedBy s d c a b Work.StageFull = ⊥
-FinishedBy s d c a b Work.OutputFull =
+-- or its frames do not fit the output; there is no other refusal
+abbrev pub FinishedBy : SonicStream → Filled → Conversion → Areas → Areas → Result Wrote Refusal → Type 0
+FinishedBy s d c a b (Ok w) = FinishedAs s d c a b w
+FinishedBy s d c a b (Err OutputFull) =
     (b.input ≡ a.input) × (b.stage ≡ a.stage)
     × NoRoom s.channels s.waiting.0 a.output b.output c.made
-FinishedBy s d c a b Work.TotalFull = TotalPassed s d c a b
-FinishedBy s d c a b (Work.Done o t) = FinishedAs s d c a b o t
+FinishedBy s d c a b (Err TotalFull) = TotalPassed s d c a b
+FinishedBy s d c a b (Err _) = ⊥
 
 -- the conversion of `new` frames that stand where a call's frames go
 abbrev pub conversion_of : SonicStream → ℕ → Areas → Conversion
@@ -100,12 +100,12 @@ conversion_of s new a =
 
 -- it is done; what it leaves of the tail lies in the stage, within the tail and, at another pitch than 1.0, the new
 -- frames behind it
-abbrev pub ConvertEnsures : SonicStream → ℕ → Areas → List ℤ → Adjustment → Type 0
+abbrev pub ConvertEnsures : SonicStream → ℕ → Areas → List ℤ → Option Adjusted → Type 0
 ConvertEnsures s new a exit r =
     AdjustedBy s.channels s.waiting.0 (cond (straight s) s.tail.0 (s.tail.0 + new)) (conversion_of s new a)
     a.stage a.output exit r
 
-abbrev pub FinishEnsures : SonicStream → Filled → Areas → Areas → Work → Type 0
+abbrev pub FinishEnsures : SonicStream → Filled → Areas → Areas → Result Wrote Refusal → Type 0
 FinishEnsures s d a b r = FinishedBy s d (conversion_of s d.frames.0 a) a b r
 
 -- the conversion that lies in stage and output: the frames made, the frames left of the tail, the positions
@@ -117,5 +117,5 @@ adjusted_as s c a =
       at = c.at;
     }
 
-abbrev pub CommitEnsures : SonicStream → Filled → Adjusted → Areas → Areas → Work → Type 0
+abbrev pub CommitEnsures : SonicStream → Filled → Adjusted → Areas → Areas → Result Wrote Refusal → Type 0
 CommitEnsures s d c a b r = FinishedBy s d (adjusted_as s c a) a b r

@@ -9,11 +9,11 @@ ghost use Rattle.stream.specs.Order.{StreamReady};
 ghost use Rattle.process.specs.Finishing.{ConvertReady, FinishReady, CommitReady};
 ghost use Rattle.process.specs.Finishing.{ConvertEnsures, CommitEnsures, FinishEnsures};
 
-use crate::Work;
+use crate::Wrote;
 use fill::Filled;
 use frames::Frames;
-use rate::{Adjusted, Adjustment, Position};
-use stream::{Booked, SonicStream};
+use rate::{Adjusted, Position};
+use stream::{Refusal, SonicStream};
 
 // The frames made by this call, at the volume.
 fn scale_made(stream: SonicStream, made: Frames, output: &mut [i16])
@@ -24,10 +24,9 @@ fn scale_made(stream: SonicStream, made: Frames, output: &mut [i16])
         (new_frames stream.channels stream.waiting.0 made.0 output.old)) }
 {
     let channels = stream.channels as usize;
-    let waiting = stream.waiting;
     volume::scale_samples(
         output,
-        waiting.samples(channels),
+        stream.waiting.samples(channels),
         made.samples(channels),
         stream.volume,
     );
@@ -42,68 +41,60 @@ fn commit(
     input: &mut [i16],
     stage: &mut [i16],
     output: &mut [i16],
-) -> Work
+) -> Result<Wrote, Refusal>
     requires { CommitReady stream filled adjusted (areas input.old stage.old output.old []) }
     ensures { CommitEnsures stream filled adjusted
         (areas input.old stage.old output.old [])
         (areas input.new stage.new output.new []) result }
 {
     let channels = stream.channels as usize;
-    let mut after = filled.stream;
-    let booked = after.balance.book(filled.balance);
-    let Booked::Within(balance) = booked else {
-        return Work::TotalFull;
-    };
-    let used = filled.used;
-    let rest = after.held;
-    let made = adjusted.made;
-    let from = adjusted.from;
-    let left = adjusted.left;
-    let at = adjusted.at;
-    scale_made(stream, made, output);
-    frames::remove_front(input, used.samples(channels), rest.samples(channels));
-    frames::remove_front(stage, from.samples(channels), left.samples(channels));
-    let waiting = stream.waiting.0 + made.0;
-    after.old_rate_position = at.old;
-    after.new_rate_position = at.new;
-    after.tail = left;
-    after.waiting.0 = waiting;
-    after.balance = balance;
-    let told = filled.told;
-    Work::Done(told, after)
+    let after = filled.stream;
+    let balance = after.balance.book(filled.balance).ok_or(Refusal::TotalFull)?;
+    scale_made(stream, adjusted.made, output);
+    frames::remove_front(input, filled.used.samples(channels), after.held.samples(channels));
+    frames::remove_front(stage, adjusted.from.samples(channels), adjusted.left.samples(channels));
+    Ok(Wrote {
+        told: filled.told,
+        stream: SonicStream {
+            old_rate_position: adjusted.at.old,
+            new_rate_position: adjusted.at.new,
+            tail: adjusted.left,
+            waiting: Frames(stream.waiting.0 + adjusted.made.0),
+            balance,
+            ..after
+        },
+    })
 }
 
 // The new frames at the pitch, behind the frames waiting in the output. At pitch 1.0 they stand there already, and the
 // tail stays.
-fn convert(stream: SonicStream, new: Frames, stage: &[i16], output: &mut [i16]) -> Adjustment
+fn convert(stream: SonicStream, new: Frames, stage: &[i16], output: &mut [i16]) -> Option<Adjusted>
     requires { ConvertReady stream new.0 (areas [] stage.now output.old []) }
     ensures { ConvertEnsures stream new.0 (areas [] stage.now output.old [])
         output.new result }
 {
-    let tail = stream.tail;
-    let waiting = stream.waiting;
     let at = Position {
         old: stream.old_rate_position,
         new: stream.new_rate_position,
     };
     if stream.pitch == 1.0 {
-        return Adjustment::Done(Adjusted {
+        return Some(Adjusted {
             made: new,
             from: Frames(0),
-            left: tail,
+            left: stream.tail,
             at,
         });
     }
     rate::adjust_rate(
         stage,
-        tail,
+        stream.tail,
         new,
         stream.channels as usize,
         stream.rate,
         stream.pitch,
         at,
         output,
-        waiting,
+        stream.waiting,
     )
 }
 
@@ -114,15 +105,12 @@ pub(crate) fn finish(
     input: &mut [i16],
     stage: &mut [i16],
     output: &mut [i16],
-) -> Work
+) -> Result<Wrote, Refusal>
     requires { FinishReady stream filled (areas input.old stage.old output.old []) }
     ensures { FinishEnsures stream filled
         (areas input.old stage.old output.old [])
         (areas input.new stage.new output.new []) result }
 {
-    let new = filled.frames;
-    match convert(stream, new, stage, output) {
-        Adjustment::Full => Work::OutputFull,
-        Adjustment::Done(adjusted) => commit(stream, filled, adjusted, input, stage, output),
-    }
+    let adjusted = convert(stream, filled.frames, stage, output).ok_or(Refusal::OutputFull)?;
+    commit(stream, filled, adjusted, input, stage, output)
 }

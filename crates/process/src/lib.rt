@@ -13,55 +13,51 @@ ghost use Rattle.fill.specs.Filling.{FillReady};
 ghost use Rattle.process.specs.Streams.{joined_stream};
 ghost use Rattle.process.specs.Working.{WorkEnsures};
 
-use fill::Fill;
 pub use fill::{Outcome, Told};
 use frames::Frames;
-use stream::SonicStream;
+use stream::{Refusal, SonicStream};
 
-// A call's work: no room in the stage, no room in the output, a total past 64 bits, or done.
+// What an accepted write or flush gives: what is told of it, and the stream after it.
 #[derive(Clone, Copy)]
-pub enum Work {
-    StageFull,
-    OutputFull,
-    TotalFull,
-    Done(Told, SonicStream),
+pub struct Wrote {
+    pub told: Told,
+    pub stream: SonicStream,
 }
 
 // The stream when n frames have joined its input, with the sample period that its rate gives.
-pub fn joined(mut stream: SonicStream, period: f32, n: Frames) -> SonicStream
+pub fn joined(stream: SonicStream, period: f32, n: Frames) -> SonicStream
     requires { (stream.held.0 + n.0 ≤ 2 ^ 24) × (period ≡ sample_period stream.rate) }
     ensures { result ≡ joined_stream n.0 stream }
 {
-    let held = stream.held.0 + n.0;
-    stream.input_play_time = floats::times::play_time_grown(
-        stream.input_play_time,
-        n,
-        period,
-        stream.speed,
-        stream.pitch,
-    );
-    stream.sample_period = period;
-    stream.held.0 = held;
-    stream
+    SonicStream {
+        sample_period: period,
+        input_play_time: floats::times::play_time_grown(
+            stream.input_play_time,
+            n,
+            period,
+            stream.speed,
+            stream.pitch,
+        ),
+        held: Frames(stream.held.0 + n.0),
+        ..stream
+    }
 }
 
-// A call's work on the frames held. Unless it is done the kept parts stay as they came.
+// A call's work on the frames held: refused for a full stage, a full output or a total past 64 bits. Then the kept
+// parts stay as they came.
 pub fn process_stream_input(
     stream: SonicStream,
     input: &mut [i16],
     stage: &mut [i16],
     output: &mut [i16],
     scratch: &mut [i16],
-) -> Work
+) -> Result<Wrote, Refusal>
     requires stream_ready { StreamReady stream }
     requires fill_ready { FillReady stream (areas input.old stage.old output.old scratch.old) }
     ensures { WorkEnsures stream
         (areas input.old stage.old output.old scratch.old)
         (areas input.new stage.new output.new scratch.new) result }
 {
-    match fill::fill_area(stream, input, stage, output, scratch) {
-        Fill::TooMany => Work::StageFull,
-        Fill::Full => Work::OutputFull,
-        Fill::Done(filled) => finish::finish(stream, filled, input, stage, output),
-    }
+    let filled = fill::fill_area(stream, input, stage, output, scratch)?;
+    finish::finish(stream, filled, input, stage, output)
 }

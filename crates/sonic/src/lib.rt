@@ -4,9 +4,8 @@
 // `read/specs/Reading.antt`.
 #![tactic(auto)]
 
-pub use adding::Wrote;
 pub use flush::flush;
-pub use process::{Outcome, Told};
+pub use process::{Outcome, Told, Wrote};
 pub use read::{Gave, read_f32};
-pub use stream::{Available, Balance, Changed, Opened, Setting, SonicStream, Ties, refusals};
+pub use stream::{Balance, NotOpened, Refusal, Refused, Setting, SonicStream, Ties};
 pub use write::{write_f32, write_i16};

@@ -1,33 +1,32 @@
--- A write by its parts: the tests before its samples are stored, and its answer by the work on them. Definitions only.
--- Assumes nothing.
-use Rattle.std.specs.Prelude.{◌≡◌, ℕ, ◌/◌}
+-- A write or a flush by its parts: the tests before its samples are stored, and its answer by the work on them.
+-- Definitions only. Assumes nothing.
+use Rattle.std.specs.Prelude.{◌≡◌, true, false, ℕ, ◌/◌, Float, Result, Ok, Err}
+use Rattle.frames.specs.declared.Frames.{Frames}
 use Rattle.frames.specs.Areas.{Areas}
+use Rattle.floats.specs.Settings.{sample_period}
 use Rattle.stream.specs.declared.SonicStream.{SonicStream}
-use Rattle.stream.specs.Refusals.{stage_full, output_full, total_full}
-use Rattle.process.specs.declared.Work.{Work}
+use Rattle.stream.specs.declared.refusal.Refused.{Refused}
+use Rattle.stream.specs.Refusals.{is_in_order, areas_bad}
+use Rattle.process.specs.declared.Wrote.{Wrote}
 use Rattle.process.specs.Process.{Made}
-use Rattle.adding.specs.declared.Wrote.{Wrote}
 use Rattle.adding.specs.Calls.{CallResult, call_by, refusal_of, CallEnsures}
 use Rattle.adding.specs.Adding.{AddReady, AddEnsures}
-use Rattle.write_parts.specs.declared.Begun.{Begun}
 
--- what the tests say of a write of so many samples: it is refused with this number, whatever its work m would be and
--- its answer c to that; or refusals 3 to 5 are not met, and it adds n frames
-abbrev pub BegunAs : SonicStream → ℕ → Areas → Begun → Type 0
-BegunAs s count a (Begun.Refused number) =
-    (m : Made) (c : CallResult) → CallEnsures s.channels (call_by (refusal_of s a (count / s.channels) m) s a c)
-    (Wrote.Refused number s) a
-BegunAs s count a (Begun.Fits period n) = AddReady s period a n.0 × (n.0 ≡ count / s.channels)
+-- a call that adds so many frames is refused with e before its work, whatever that would be, m, and its answer c to it
+abbrev pub RefusedEarly : SonicStream → ℕ → Areas → Refused → Type 0
+RefusedEarly s added a e = (m : Made) (c : CallResult) → CallEnsures s.channels (call_by (refusal_of s a added m) s a c) (Err e) a
 
--- the answer by the work's: the stream after the work is handed back
-abbrev pub answer_of : SonicStream → Work → Wrote
-answer_of s Work.StageFull = Wrote.Refused stage_full s
-answer_of s Work.OutputFull = Wrote.Refused output_full s
-answer_of s Work.TotalFull = Wrote.Refused total_full s
-answer_of s (Work.Done told t) = Wrote.Done told t
+-- refusals 3 and 4 are not met, and the period is that of the rate; or one is, whatever the call adds
+abbrev pub EnteredAs : SonicStream → Areas → Result Float Refused → Type 0
+EnteredAs s a (Ok period) = (is_in_order s ≡ true) × (areas_bad s a ≡ false) × (period ≡ sample_period s.rate)
+EnteredAs s a (Err e) = (added : ℕ) → RefusedEarly s added a e
 
--- the answer r after the work on n frames more, which left the areas a as b
-pub record WorkAnswered (s : SonicStream) (n : ℕ) (a b : Areas) (r : Wrote) : Type 0 where
-  pub work : Work
-  pub worked : AddEnsures s n a b work
-  pub answer_is : r ≡ answer_of s work
+-- of a write of so many samples refusals 3 to 5 are not met, and it adds n frames; or one is
+abbrev pub BegunAs : SonicStream → ℕ → Areas → Result (Float × Frames) Refused → Type 0
+BegunAs s count a (Ok (period, n)) = AddReady s period a n.0 × (n.0 ≡ count / s.channels)
+BegunAs s count a (Err e) = RefusedEarly s (count / s.channels) a e
+
+-- what the work on n frames more gives, which left the areas a as b; refused, with the entering stream
+abbrev pub WorkAnswered : SonicStream → ℕ → Areas → Areas → Result Wrote Refused → Type 0
+WorkAnswered s n a b (Ok w) = AddEnsures s n a b (Ok w)
+WorkAnswered s n a b (Err e) = AddEnsures s n a b (Err e.refusal) × (e.stream ≡ s)
