@@ -13,8 +13,7 @@ use crate::destination::{Destination, destination_of};
 use crate::{Filled, Outcome, Told, balance_of, removed};
 use frames::{Frames, Samples};
 use period::PeriodRecord;
-use search::Ties;
-use stream::{Balance, Refusal, SonicStream};
+use stream::{Balance, Refusal, SonicStream, Ties};
 use stretch::{Stretch, StretchCall};
 
 // What the steps of a stretch gave; a stall removes no input and counts no step.

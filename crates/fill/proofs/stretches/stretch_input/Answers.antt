@@ -19,11 +19,11 @@ use Rattle.fill.proofs.Stretching.{StretchDue, StretchAnswered, call_with, room_
 use Rattle.fill.proofs.Stretching.{stretched-over, stretched-used, stretched-full, stretched-filled}
 use Rattle.fill.proofs.Destinations.{room-is, fits}
 use Rattle.fill.proofs.stretches.stretch_input.Goals as goal
-use Rattle.fill.proofs.stretches.stretch_input.Goals.{After-destination_of-to, After-samples-count, After-scratch-1, After-stretch_frames, After-stretch_frames-arg-4-1, After-struct_known-in-Made-1, After-ties_of, In-Made, Start}
+use Rattle.fill.proofs.stretches.stretch_input.Goals.{After-destination_of-to, After-samples-count, After-scratch-1, After-stretch_frames, After-stretch_frames-arg-4-1, After-struct_known-in-Made-1, After-from, In-Made, Start}
 
 -- ---- places
 
-abbrev chosen : After-samples-count → After-ties_of
+abbrev chosen : After-samples-count → After-from
 chosen c = c.before
 
 abbrev start : After-samples-count → Start
@@ -94,8 +94,8 @@ answer_is c r e =
     let told = answer.stretch_frames.ensures in
     let l : List ℤ = take (n.samples-count.result.0 - 0) (lent s).input in
     let room = room_in x (to s).kept.0 (filled_area x (lent s)) in
-    let ties = (chosen n).ties_of.result in
-    subst (λ (t : Ties). Answer answer t (take (x.held.0 * x.channels) (lent s).input) room r) (chosen n).ties_of.ensures
+    let ties = (chosen n).from.result in
+    subst (λ (t : Ties). Answer answer t (take (x.held.0 * x.channels) (lent s).input) room r) (chosen n).from.ensures
     (subst (λ (k : ℕ). Answer answer ties (take k (lent s).input) room r) (held-samples n)
     (subst (λ (k : ℕ). Answer answer ties l k r) (room-is x (lent s)) (subst (Answer answer ties l (to s).room.0) e (told.0, told.1))))
 
@@ -135,7 +135,7 @@ stretch_frames-requires c =
     let fit = s.requires.stream_ready.1.fit in
     let held = subst (λ (k : ℕ). x.held.0 * x.channels ≤ length (take k (lent s).input)) (sym (held-samples n)) (lent-long (due s)) in
     record {
-      stream_ready = (s.requires.stream_ready.0, call-ready (due s) (chosen n).ties_of.result, refl, refl);
+      stream_ready = (s.requires.stream_ready.0, call-ready (due s) (chosen n).from.result, refl, refl);
       channels_in_bounds = (
         held,
         s.requires.stream_ready.1.scratch_fits,
