@@ -1,3 +1,4 @@
+pub mod Results
 pub mod Branches
 pub mod Filling
 mod Destinations

@@ -6,7 +6,7 @@ use frames::{Frames, Samples};
 use stream::SonicStream;
 
 // Where a call's frames go: behind `kept` frames of an area, which has room for `room` more; and how many there may be.
-#[derive(Clone, Copy, Debug, PartialEq, Eq)]
+#[derive(Clone, Copy)]
 pub struct Destination {
     pub kept: Frames,
     pub room: Frames,

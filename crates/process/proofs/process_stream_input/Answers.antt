@@ -13,7 +13,7 @@ finish-requires c =
     let last = c.fill_area.new in
     let middle = areas s.input.now last.stage last.output last.scratch in
     let is = c.in_ok-filled.ensures in
-    finish-ready s.stream c.in_ok-filled.field-0 lent middle is.0 is.1 c.requires.stream_ready c.requires.fill_ready
+    finish-ready s.stream c.in_ok-filled.filled lent middle is.0 is.1 c.requires.stream_ready c.requires.fill_ready
 
 pub returns-in_err-filled : goal.returns-in_err-filled
 returns-in_err-filled c =
@@ -34,4 +34,4 @@ returns c =
     let is = c.in_ok-filled.ensures in
     let end = c.finish.new in
     let after = areas end.input end.stage end.output middle.scratch in
-    work-done s.stream c.in_ok-filled.field-0 lent middle is.0 is.1 c.requires.stream_ready c.requires.fill_ready after c.finish.result c.finish.ensures
+    work-done s.stream c.in_ok-filled.filled lent middle is.0 is.1 c.requires.stream_ready c.requires.fill_ready after c.finish.result c.finish.ensures

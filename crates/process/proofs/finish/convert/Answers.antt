@@ -1,48 +1,36 @@
 -- `process::finish::convert` meets its contract. Assumes nothing.
-use mathlib.Core.List.{[]}
-use native.Mathlib.Omega.{arith}
+use Rattle.std.proofs.Common.{[], arith}
 use lib.Ieee.{of_bits}
-use Rattle.frames.specs.Areas.{Areas, areas}
+use Rattle.frames.specs.Areas.{areas}
 use Rattle.stream.specs.Stream.{state_of}
 use Rattle.process.proofs.Finishing.{staged-placed, straight-done, staged_done}
 use Rattle.process.proofs.finish.convert.Goals as goal
-use Rattle.process.proofs.finish.convert.Goals.{Else-stream, Start}
-
--- ---- places
-
-abbrev start : Else-stream → Start
-start c = c.before.before.before.before
-
-abbrev lent : Start → Areas
-lent s = areas [] s.args.stage.now s.args.output.now []
 
 pub returns-then-stream : goal.returns-then-stream
 unfolding of_bits
 returns-then-stream c =
-    let s = c.before.before.before.before in
-    straight-done s.args.stream s.args.new.0 (lent s) s.requires c.if-stream.true
+    let lent = areas [] c.args.stage.now c.args.output.now [] in
+    straight-done c.args.stream c.args.new.0 lent c.requires c.if-stream.true
 
 pub adjust_rate-requires : goal.adjust_rate-requires
 unfolding of_bits state_of
 adjust_rate-requires c =
-    let other = c.before.before in
-    let s = start other in
-    let o = s.requires.ready.state in
+    let lent = areas [] c.args.stage.now c.args.output.now [] in
+    let o = c.requires.ready.state in
     record {
       exact = omega (arith, o.limits.rate_high);
-      other = other.if-stream.false;
+      other = c.if-stream.false;
       order = o.position;
       lent = record {
         some = o.limits.channels_low;
-        holds = staged-placed s.args.stream s.args.new.0 (lent s) s.requires other.if-stream.false;
-        waits = s.requires.waiting_fits;
+        holds = staged-placed c.args.stream c.args.new.0 lent c.requires c.if-stream.false;
+        waits = c.requires.waiting_fits;
       };
     }
 
 pub returns : goal.returns
 unfolding of_bits
 returns c =
-    let call = c.adjust_rate in
-    let other = c.before.before.before.before in
-    let s = start other in
-    staged_done s.args.stream s.args.new.0 (lent s) s.requires other.if-stream.false call.new.output call.result call.ensures
+    let lent = areas [] c.args.stage.now c.args.output.now [] in
+    staged_done c.args.stream c.args.new.0 lent c.requires c.if-stream.false c.adjust_rate.new.output c.adjust_rate.result
+    c.adjust_rate.ensures
