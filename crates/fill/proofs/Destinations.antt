@@ -1,5 +1,5 @@
 -- Where a call's frames go, by the areas. Here:
---   room-is, fits, few, short, room-there     counts there
+--   room-is, fits, few, short, room-there, target-fits     counts there
 --   copied-straight, copied-staged, put-straight, put-staged     what a copy and a stretch do there
 -- Assumes nothing.
 use mathlib.Core.Path.{◌≡◌, refl, subst}
@@ -65,6 +65,13 @@ module _ (s : SonicStream) (a : Areas) where
         let to = destination_in s a in
         let all = room-under s.channels to.kept.0 to.room.0 (length (filled_area s a)) some fits.kept_fit (le_of_eq room-is) in
         omega (arith, add-mul to.kept.0 to.room.0 s.channels, all)
+
+-- ---- the target of a stretch u, at the place at, where b says whether its frames go straight out
+
+pub target-fits : (s : SonicStream) (a : Areas) (u : StretchCall) (to : Destination) (at : ℕ) (b : Bool) → AreasFit s a → 0 < s.channels
+    → to ≡ destination_in s a → at ≡ to.kept.0 * u.channels → u.channels ≡ s.channels → straight s ≡ b
+    → (at + to.room.0 * u.channels ≤ length (cond b a.output a.stage)) × (to.most.0 ≤ 2 ^ 24)
+target-fits s a u to at b fit some is place same e = rw (place, same, is, ← e) (room-there s a fit some, few s a fit)
 
 -- ---- a copy, behind k frames of the area
 

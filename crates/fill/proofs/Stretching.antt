@@ -1,7 +1,7 @@
 -- Stretched frames, in the words of the contracts: how they fill the area. Here:
 --   StretchDue                                  what a stretch of the frames held asks for
 --   call-ready, lent-long                the call that the code makes, and the samples that it lends
---   StretchAnswered                             what `change_speed` answers
+--   StretchAnswered, answered-as                what `change_speed` answers
 --   stretched-over, stretched-used, stretched-full, stretched-filled     by the answer
 -- Assumes nothing.
 use mathlib.Core.Path.{◌≡◌, refl, sym, ap, ◌∙◌, subst}
@@ -14,6 +14,7 @@ use lib.Dec.{T, ltb}
 use lib.IntN.{ℤ}
 use lib.Ieee.{Float, binary32, fits}
 use lib.ListN.{length, take, drop, length-take}
+use Rattle.frames.specs.Areas.{Areas, areas}
 use Rattle.frames.specs.Framing.{Frame, flat}
 use Rattle.frames.proofs.Framing.{length-frames_of, flat-frames_of}
 use Rattle.frames.proofs.Room.{room-under}
@@ -44,8 +45,9 @@ use Rattle.stream.specs.declared.refusal.Refusal.{Refusal}
 use Rattle.stream.specs.declared.refusal.Refusal.TheVariants.{StageFull, OutputFull}
 use Rattle.fill.specs.Taking.{Taken, removed, stretched, stepped, call_at, place_of, speed_at, taken, counted}
 use Rattle.fill.specs.Filling.{speed_of}
-use Rattle.fill.specs.Filling.{place_for, surplus, SteppedAs, FilledBy}
+use Rattle.fill.specs.Filling.{destination_in, filled_area, place_for, surplus, SteppedAs, StretchEnsures, FilledBy}
 use Rattle.fill.proofs.Branches.{speed_fits, taken-stretched}
+use Rattle.fill.proofs.Destinations.{room-is}
 use Rattle.fill.proofs.Filling.{AreaFits, FillsWith, ready-limits, held_few, speed-same}
 
 -- ---- the call
@@ -102,6 +104,18 @@ module _ {s : SonicStream} {x : Float} {kept : ℕ} {input area : List ℤ} (d :
 
   pub lent-long : s.held.0 * s.channels ≤ length (lent_of s input)
   lent-long = omega (arith, length-take (s.held.0 * s.channels) input, d.fit.held)
+
+-- what is ensured of a stretch that was lent n samples of the input, of areas that go from a to b
+pub answered-as : (s : SonicStream) (x : Float) (a b : Areas) (ties : Ties) (n : ℕ) (r : Option Stretch) → ties ≡ ties_of s.ties → n ≡ s.held.0 * s.channels
+    → StretchEnsures s (call_with s x ties) (areas (take n a.input) a.stage a.output a.scratch) b r
+    → StretchAnswered s x (destination_in s a).kept.0 (destination_in s a).most.0 a.input (filled_area s a) (filled_area s b) r
+answered-as s x a b ties n r chosen count told =
+    let to = destination_in s a in
+    let Answer : Ties → ℕ → ℕ → Type 0 = λ t k room.
+    (r ≡ change_speed (call_with s x t) (take k a.input) (place_for s) to.most.0)
+    × AreaAfter (call_with s x t) (take k a.input) (place_for s) room to.most.0 (filled_area s a) (filled_area s b) (to.kept.0 * s.channels) in
+    subst (λ (t : Ties). Answer t (s.held.0 * s.channels) (room_in s to.kept.0 (filled_area s a))) chosen
+    (subst (λ (k : ℕ). Answer ties k (room_in s to.kept.0 (filled_area s a))) count (subst (Answer ties n) (room-is s a) (told.0, told.1)))
 
 -- the call and the samples lent are those of the state, whatever the tail is
 

@@ -43,8 +43,8 @@ pub(crate) fn copy_input(
     stage: &mut [i16],
     output: &mut [i16],
 ) -> Result<Filled, Refusal>
-    requires stream_ready { StreamReady stream × AreasFit stream (areas input.now stage.old output.old []) }
-    requires le_held { (1 ≤ stream.held.0) × (speed_changes (speed_of stream) ≡ false) }
+    requires ready { StreamReady stream × AreasFit stream (areas input.now stage.old output.old []) }
+    requires copies { (1 ≤ stream.held.0) × (speed_changes (speed_of stream) ≡ false) }
     ensures { FillEnsures stream
         (areas input.now stage.old output.old [])
         (areas input.now stage.new output.new []) result }

@@ -4,7 +4,6 @@ ghost use Rattle.frames.specs.Areas.{areas};
 ghost use Rattle.floats.specs.Settings.{sample_period};
 ghost use Rattle.floats.specs.Write.{speed_changes};
 ghost use Rattle.period.specs.Rates.{max_required};
-ghost use Rattle.stretch.specs.Steps.{StretchReady};
 ghost use Rattle.stream.specs.Order.{StreamReady};
 ghost use Rattle.fill.specs.Filling.{speed_of, destination_of, AreasFit, FillReady};
 ghost use Rattle.fill.specs.Filling.{SteppedAs, StretchEnsures, FillEnsures};
@@ -14,7 +13,7 @@ use crate::{Filled, Outcome, Told, balance_of, removed};
 use frames::{Frames, Samples};
 use period::PeriodRecord;
 use stream::{Balance, Refusal, SonicStream, Ties};
-use stretch::{Stretch, StretchCall};
+use stretch::{ReadyCall, Stretch, StretchCall, Target};
 
 // What the steps of a stretch gave; a stall removes no input and counts no step.
 fn stepped(stream: SonicStream, stretch: Stretch) -> Filled
@@ -57,40 +56,37 @@ fn stepped(stream: SonicStream, stretch: Stretch) -> Filled
 // The stretch of the frames held, whose samples are lent, to its destination.
 fn stretch_frames(
     stream: SonicStream,
-    call: StretchCall,
+    ready: ReadyCall,
     samples: &[i16],
     stage: &mut [i16],
     output: &mut [i16],
     to: Destination,
     scratch: &mut [i16],
 ) -> Option<Stretch>
-    requires stream_ready { StreamReady stream × StretchReady call × (call.rate ≡ stream.rate)
-        × (call.channels ≡ stream.channels) }
-    requires channels_in_bounds { (call.held.0 * call.channels ≤ length samples.now)
+    requires of_stream { StreamReady stream × (ready.call.rate ≡ stream.rate)
+        × (ready.call.channels ≡ stream.channels) }
+    requires lent { (ready.call.held.0 * ready.call.channels ≤ length samples.now)
         × (max_required stream.rate ≤ length scratch.old)
         × AreasFit stream (areas samples.now stage.old output.old scratch.old)
         × (to ≡ destination_of stream (length stage.old) (length output.old)) }
-    ensures { StretchEnsures stream call
+    ensures { StretchEnsures stream ready.call
         (areas samples.now stage.old output.old scratch.old)
         (areas samples.now stage.new output.new scratch.new) result }
 {
-    let kept = to.kept;
-    let room = to.room;
-    let most = to.most;
-    let place = kept.samples(call.channels);
+    let target = Target {
+        to: to.kept.samples(ready.call.channels),
+        room: to.room,
+        most: to.most,
+    };
+    let error = stream.time_error;
     let prev = PeriodRecord {
         period: stream.prev_period,
         min_diff: stream.prev_min_diff,
     };
-    let error = stream.time_error;
     if stream.pitch == 1.0 {
-        return stretch::change_speed(
-            samples, call, error, prev, output, place, room, most, scratch,
-        );
+        return stretch::change_speed(samples, ready, error, prev, output, target, scratch);
     }
-    stretch::change_speed(
-        samples, call, error, prev, stage, place, room, most, scratch,
-    )
+    stretch::change_speed(samples, ready, error, prev, stage, target, scratch)
 }
 
 // The stretch at the local speed.
@@ -102,32 +98,33 @@ pub(crate) fn stretch_input(
     output: &mut [i16],
     scratch: &mut [i16],
 ) -> Result<Filled, Refusal>
-    requires stream_ready { StreamReady stream
+    requires ready { StreamReady stream
         × FillReady stream (areas input.now stage.old output.old scratch.old) }
-    requires rate_bound { (max_required stream.rate ≤ stream.held.0) × (speed ≡ speed_of stream)
+    requires stretches { (max_required stream.rate ≤ stream.held.0) × (speed ≡ speed_of stream)
         × (speed_changes speed ≡ true) }
     ensures { FillEnsures stream
         (areas input.now stage.old output.old scratch.old)
         (areas input.now stage.new output.new scratch.new) result }
 {
     let channels = stream.channels as usize;
-    let held = stream.held;
-    let call = StretchCall {
-        channels,
-        rate: stream.rate as usize,
-        sample_period: stream.sample_period,
-        speed,
-        input_play_time: stream.input_play_time,
-        held,
-        step_over: stream.step_over > 0,
-        ties: Ties::from(stream.ties),
+    let ready = ReadyCall {
+        call: StretchCall {
+            channels,
+            rate: stream.rate as usize,
+            sample_period: stream.sample_period,
+            speed,
+            input_play_time: stream.input_play_time,
+            held: stream.held,
+            step_over: stream.step_over > 0,
+            ties: Ties::from(stream.ties),
+        },
     };
-    let count = held.samples(channels).0;
+    let count = stream.held.samples(channels).0;
     let to = destination_of(stream, Samples(stage.len()), Samples(output.len()));
-    let free = to.room.0;
-    let made = stretch_frames(stream, call, &input[0..count], stage, output, to, scratch)
-        .ok_or(Refusal::StageFull)?;
-    if free < made.made.0 {
+    let made = stretch_frames(stream, ready, &input[..count], stage, output, to, scratch).ok_or(
+        Refusal::StageFull,
+    )?;
+    if to.room.0 < made.made.0 {
         return Err(Refusal::OutputFull);
     }
     Ok(stepped(stream, made))

@@ -52,8 +52,12 @@ fn flush_frames(
     ensures order_after { OrderAfter result }
 {
     let channels = stream.channels as usize;
-    let expected =
-        floats::times::expected_frames(stream.held, stream.tail, stream.speed, stream.pitch);
+    let expected = floats::times::expected_frames(
+        stream.held,
+        stream.tail,
+        stream.speed,
+        stream.pitch,
+    );
     frames::silence(n.samples(channels), input, stream.held.samples(channels));
     let wrote = end_write(stream, period, n, input, stage, output, scratch)?;
     Ok(Wrote {

@@ -49,10 +49,21 @@ fn commit(
 {
     let channels = stream.channels as usize;
     let after = filled.stream;
-    let balance = after.balance.book(filled.balance).ok_or(Refusal::TotalFull)?;
+    let balance = after
+        .balance
+        .book(filled.balance)
+        .ok_or(Refusal::TotalFull)?;
     scale_made(stream, adjusted.made, output);
-    frames::remove_front(input, filled.used.samples(channels), after.held.samples(channels));
-    frames::remove_front(stage, adjusted.from.samples(channels), adjusted.left.samples(channels));
+    frames::remove_front(
+        input,
+        filled.used.samples(channels),
+        after.held.samples(channels),
+    );
+    frames::remove_front(
+        stage,
+        adjusted.from.samples(channels),
+        adjusted.left.samples(channels),
+    );
     Ok(Wrote {
         told: filled.told,
         stream: SonicStream {

@@ -28,9 +28,21 @@ fn write<S: Sample>(
         (areas input.new stage.new output.new scratch.new) }
     ensures order_after { OrderAfter result }
 {
-    let (period, n) = begin_write(stream, Samples(samples.len()), input, stage, output, scratch)?;
+    let (period, n) = begin_write(
+        stream,
+        Samples(samples.len()),
+        input,
+        stage,
+        output,
+        scratch,
+    )?;
     let channels = stream.channels as usize;
-    S::store(samples, n.samples(channels), input, stream.held.samples(channels));
+    S::store(
+        samples,
+        n.samples(channels),
+        input,
+        stream.held.samples(channels),
+    );
     end_write(stream, period, n, input, stage, output, scratch)
 }
 

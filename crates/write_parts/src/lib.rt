@@ -73,6 +73,8 @@ pub fn end_write(
         (areas input.old stage.old output.old scratch.old)
         (areas input.new stage.new output.new scratch.new) result }
 {
-    process_added(stream, period, n, input, stage, output, scratch)
-        .map_err(|refusal| Refused { refusal, stream })
+    process_added(stream, period, n, input, stage, output, scratch).map_err(|refusal| Refused {
+        refusal,
+        stream,
+    })
 }

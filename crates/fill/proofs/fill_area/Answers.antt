@@ -7,7 +7,7 @@ use native.Mathlib.Omega.{arith}
 use lib.Ieee.{Float}
 use Rattle.floats.specs.Write.{local_speed, speed_changes}
 use Rattle.period.specs.Rates.{max_required}
-use Rattle.frames.specs.Areas.{Areas, areas}
+use Rattle.frames.specs.Areas.{areas}
 use Rattle.stream.specs.declared.SonicStream.{SonicStream}
 use Rattle.stream.specs.Order.{StreamReady}
 use Rattle.fill.specs.Filling.{speed_of, destination_in, filled_area, AreasFit}
@@ -52,8 +52,8 @@ stretch_input-requires c =
     let x = c.args.stream in
     let long : max_required x.rate ≤ x.held.0 = omega (arith, c.if-n-max_required.false, c.max_required.ensures) in
     record {
-      stream_ready = c.requires;
-      rate_bound = (long, speed_is x c.local_speed-speed.result c.requires.0 c.local_speed-speed.ensures, sym c.speed_changes.ensures ∙ c.if-speed_changes.true);
+      ready = c.requires;
+      stretches = (long, speed_is x c.local_speed-speed.result c.requires.0 c.local_speed-speed.ensures, sym c.speed_changes.ensures ∙ c.if-speed_changes.true);
     }
 
 pub copy_input-requires : goal.copy_input-requires
@@ -70,6 +70,6 @@ copy_input-requires c =
     } in
     let changes = c.speed_changes.ensures ∙ ap speed_changes (speed_is x c.local_speed-speed.result c.requires.0 c.local_speed-speed.ensures) in
     record {
-      stream_ready = (c.requires.0, same);
-      le_held = (omega (arith, c.if-n-eq0.false), sym changes ∙ c.if-speed_changes.false);
+      ready = (c.requires.0, same);
+      copies = (omega (arith, c.if-n-eq0.false), sym changes ∙ c.if-speed_changes.false);
     }

@@ -1,8 +1,7 @@
 -- `process::process_stream_input` meets its contract: the areas, the goals that it answers. Assumes nothing.
-use mathlib.Core.Path.{◌≡◌, refl}
-use Rattle.std.proofs.Common.{Ok, Err}
+use mathlib.Core.Path.{refl}
 use Rattle.std.proofs.lemmas.Result.{err_from_is_err_and}
-use Rattle.frames.specs.Areas.{Areas, areas}
+use Rattle.frames.specs.Areas.{areas}
 use Rattle.process.proofs.Working.{finish-ready, work-done, work-refused}
 use Rattle.process.proofs.process_stream_input.Goals as goal
 

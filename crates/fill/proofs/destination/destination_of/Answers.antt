@@ -1,5 +1,4 @@
 -- `fill::destination::destination_of` meets its contract. Assumes nothing.
-use Prim.Native.Nat.{◌-◌}
 use lib.Ieee.{of_bits}
 use Rattle.fill.proofs.destination.destination_of.Goals as goal
 

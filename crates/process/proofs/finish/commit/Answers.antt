@@ -1,5 +1,5 @@
 -- `process::finish::commit` meets its contract. Assumes nothing.
-use Rattle.std.proofs.Common.{◌≡◌, false, [], List, ◌+◌, sym, ◌∙◌, arith}
+use Rattle.std.proofs.Common.{[], List, ◌+◌, sym, ◌∙◌, arith}
 use Rattle.std.proofs.lemmas.Result.{err_from_is_err_and}
 use lib.IntN.{ℤ}
 use Rattle.frames.specs.Areas.{areas}
