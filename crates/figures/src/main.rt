@@ -5,34 +5,21 @@
 use frames::{Frames, Samples};
 use period::PeriodRecord;
 use search::Ties;
-use stretch::{Stretch, StretchCall, Stretched};
+use stretch::{ReadyCall, Stretch, StretchCall, Target};
 
 const RATE: u32 = 8000;
 
 // The frames that a search at this rate looks at.
 const REQUIRED: usize = 246;
 
-fn print_text(rt: &impl Print, text: &str) {
-    let _ = rt.print(text);
-}
-
-fn print_number(rt: &impl Print, label: &str, n: u64) {
-    let _ = print!(rt; "{label}{n}");
-}
-
-fn print_sample(rt: &impl Print, label: &str, sample: i16) {
-    let _ = println!(rt; "{label}{sample}");
-}
-
+// Each part is written by a call of its own.
 fn print_stretch(rt: &impl Print, answer: Stretch) {
-    let made = answer.made.0;
-    let used = answer.used.0;
-    print_number(rt, " frames made ", made as u64);
-    print_number(rt, ", used ", used as u64);
+    let _ = print!(rt; " frames made {}", answer.made.0);
+    let _ = print!(rt; ", used {}", answer.used.0);
     if answer.stalled {
-        print_text(rt, ", stalled");
+        let _ = rt.print(", stalled");
     }
-    print_text(rt, "\n");
+    let _ = rt.print("\n");
 }
 
 // A stretch of as much silence as one step needs, at a local speed.
@@ -40,46 +27,39 @@ fn print_step(rt: &impl Print, label: &str, speed: f32) {
     let input = [0i16; REQUIRED];
     let mut stage = [0i16; REQUIRED];
     let mut scratch = [0i16; REQUIRED];
-    let rate = RATE as usize;
-    let sample_period = floats::settings::sample_period(RATE);
-    let call = StretchCall {
-        channels: 1,
-        rate,
-        sample_period,
-        speed,
-        input_play_time: 1.0,
-        held: Frames(REQUIRED),
-        step_over: false,
-        ties: Ties::Smallest,
+    let ready = ReadyCall {
+        call: StretchCall {
+            channels: 1,
+            rate: RATE as usize,
+            sample_period: floats::settings::sample_period(RATE),
+            speed,
+            input_play_time: 1.0,
+            held: Frames(REQUIRED),
+            step_over: false,
+            ties: Ties::Smallest,
+        },
     };
     let prev = PeriodRecord {
         period: 0,
         min_diff: 0,
     };
-    print_text(rt, label);
-    match stretch::change_speed(
-        &input,
-        call,
-        0.0,
-        prev,
-        &mut stage,
-        Samples(0),
-        Frames(REQUIRED),
-        Frames(REQUIRED),
-        &mut scratch,
-    ) {
-        Stretched::TooMany => {
-            print_text(rt, " too many\n");
-        }
-        Stretched::Made(answer) => {
-            print_stretch(rt, answer);
+    let target = Target {
+        to: Samples(0),
+        room: Frames(REQUIRED),
+        most: Frames(REQUIRED),
+    };
+    let _ = rt.print(label);
+    match stretch::change_speed(&input, ready, 0.0, prev, &mut stage, target, &mut scratch) {
+        Some(answer) => print_stretch(rt, answer),
+        None => {
+            let _ = rt.print(" too many\n");
         }
     }
 }
 
 fn main(rt: HostRuntime) {
-    print_sample(&rt, "sample 1.0: ", floats::samples::sample_in(1.0));
-    print_sample(&rt, "sample -0.5: ", floats::samples::sample_in(-0.5));
+    let _ = println!(&rt; "sample 1.0: {}", floats::samples::sample_in(1.0));
+    let _ = println!(&rt; "sample -0.5: {}", floats::samples::sample_in(-0.5));
     print_step(&rt, "s = 21:", 21.0);
     print_step(&rt, "s = 22:", 22.0);
     print_step(&rt, "s = 0.25:", 0.25);

@@ -9,7 +9,6 @@ use native.Mathlib.Omega.{arith}
 use lib.IntN.{ℤ}
 use lib.ListN.{length, take, length-append}
 use lib.Seq.{paste, paste-zero}
-use Rattle.frames.specs.declared.Frames.{Frames}
 use Rattle.period.specs.Rates.{max_required}
 use Rattle.period.specs.Pitch.{PrevInOrder}
 use Rattle.stretch.specs.declared.StretchCall.{StretchCall}

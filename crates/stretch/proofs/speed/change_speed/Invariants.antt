@@ -1,8 +1,6 @@
 -- `stretch::speed::change_speed` meets its contract: between two turns what is made and what is due make up the whole (`Between`), and each
 -- turn uses a frame at least. Assumes nothing.
-use mathlib.Core.Path.{◌≡◌}
 use Prim.Native.Nat.{◌-◌}
-use lib.ListN.{length}
 use Rattle.stretch.proofs.Between.{Going}
 use Rattle.stretch.proofs.speed.change_speed.Given as goal
 

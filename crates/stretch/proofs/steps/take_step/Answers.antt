@@ -12,7 +12,7 @@ use Rattle.period.specs.Rates.{max_required}
 use Rattle.stretch.specs.declared.StretchCall.{StretchCall}
 use Rattle.stretch.specs.declared.Place.{Place}
 use Rattle.stretch.specs.declared.Step.{Step}
-use Rattle.stretch.specs.Steps.{next_step, frames_out, periods_passed, stalls, prev_after, place_after, after, turn_for, area_for, StretchReady, Sound}
+use Rattle.stretch.specs.Steps.{next_step, frames_out, periods_passed, stalls, place_after, after, turn_for, area_for, StretchReady, Sound}
 use Rattle.stretch.proofs.Soundness.{next_step-sound, frames_out-le}
 use Rattle.stretch.proofs.steps.take_step.Goals as goal
 
@@ -29,11 +29,6 @@ pub frames_out-n-requires : goal.frames_out-n-requires
 frames_out-n-requires c =
     few c.args.input.now c.args.place c.args.ready.ready c.requires.prev_in_order c.requires.rate_bound.0 c.next_step-due.ensures.0
 
-pub overflow_add-made : goal.overflow_add-made
-overflow_add-made c =
-    let n = few c.args.input.now c.args.place c.args.ready.ready c.requires.prev_in_order c.requires.rate_bound.0 c.next_step-due.ensures.0 in
-    record { fits = omega (arith, n, c.frames_out-n.ensures, c.requires.rate_bound.4) }
-
 pub returns-then-target-made : goal.returns-then-target-made
 unfolding turn_for area_for
 returns-then-target-made c =
@@ -42,6 +37,11 @@ returns-then-target-made c =
     let is = c.next_step-due.ensures.0 in
     let t = lt-ltb c.args.target.most.0 (c.args.made.0 + frames_out step) (omega (arith, c.frames_out-n.ensures, ap frames_out is, c.if-target-made.true)) in
     (sym (rw t), sym (rw t), subst (PrevInOrder u.rate) c.next_step-due.ensures.1 c.next_step-due.ensures.3)
+
+pub overflow_add-made : goal.overflow_add-made
+overflow_add-made c =
+    let n = few c.args.input.now c.args.place c.args.ready.ready c.requires.prev_in_order c.requires.rate_bound.0 c.next_step-due.ensures.0 in
+    record { fits = omega (arith, n, c.frames_out-n.ensures, c.requires.rate_bound.4) }
 
 pub write_fitting-requires : goal.write_fitting-requires
 write_fitting-requires c =
