@@ -1,11 +1,13 @@
 -- Lists of bytes laid into a destination, one behind another. Assumes nothing.
 use mathlib.Core.Path.{◌≡◌, refl, ap, sym, ◌∙◌}
 use mathlib.Core.List.{List, [], ◌∷◌, ◌++◌}
-use Prim.Native.Nat.{ℕ, ◌+◌, ◌≤◌}
-use native.Mathlib.Numerals.{add-one}
-use lib.ListN.{length, set, length-append}
-use lib.Seq.{paste, sets-eq}
+use Prim.Native.Nat.{ℕ, ◌+◌, ◌/◌, ◌%◌, ◌≤◌}
+use native.Mathlib.Omega.{arith}
+use Rattle.std.specs.Int.{w32, to_le_bytes}
+use lib.ListN.{length, length-append}
+use lib.Seq.{paste}
 use Rattle.frames.proofs.Pasted.{paste-append}
+use Rattle.chunks.specs.Numbers.{four_bytes}
 
 -- f is d with the bytes s laid from byte `to` on
 pub record Laid (d : List ℕ) (to : ℕ) (s f : List ℕ) : Type 0 where
@@ -22,6 +24,8 @@ behind {d} {e} {s} {to} l r f q h =
           ∙ ap (paste d to (s ++ r)) (sym (length-append s r));
     }
 
--- two stores
-pub two-laid : (d : List ℕ) (at a b : ℕ) → at + 2 ≤ length d → set (set d at a) (at + 1) b ≡ paste d at (a ∷ (b ∷ [])) 2
-two-laid d at a b h = ap (λ (k : ℕ). set (set d at a) k b) (add-one at) ∙ sets-eq (a ∷ (b ∷ [])) d at h
+-- the library's four bytes of a number
+pub four-same : (n : ℕ) → to_le_bytes w32 n ≡ four_bytes n
+four-same n =
+    let high : n / 16777216 ≡ n / 65536 / 256 = omega arith in
+    ap (λ (k : ℕ). n % 256 ∷ (n / 256 % 256 ∷ (n / 65536 % 256 ∷ (k % 256 ∷ [])))) high

@@ -19,10 +19,10 @@ fn format_in(chunk: &[u8]) -> Format
     ensures { result ≡ format_in chunk.now }
 {
     Format {
-        tag: u16_at(chunk, 8),
-        channels: u16_at(chunk, 10),
+        tag: u32::from(u16_at(chunk, 8)),
+        channels: u32::from(u16_at(chunk, 10)),
         rate: u32_at(chunk, 12),
-        bits: u16_at(chunk, 22),
+        bits: u32::from(u16_at(chunk, 22)),
     }
 }
 
@@ -32,7 +32,7 @@ pub(crate) fn format_after(chunk: &[u8], size: usize, format: Option<Format>) ->
     requires { (8 ≤ length chunk.now) × (16 ≤ size → 24 ≤ length chunk.now) }
     ensures { result ≡ format_after chunk.now size format }
 {
-    if format.is_none() && u32_at(chunk, 0) == FMT && size >= LEAST_SIZE {
+    if format.is_none() && chunk.starts_with(&FMT) && size >= LEAST_SIZE {
         Some(format_in(chunk))
     } else {
         format

@@ -1,8 +1,8 @@
-// Ids, as the numbers of their four bytes.
-pub const RIFF: u32 = 0x4646_4952;
+// Ids, as their four bytes.
+pub const RIFF: [u8; 4] = *b"RIFF";
 
-pub(crate) const WAVE: u32 = 0x4556_4157;
+pub(crate) const WAVE: [u8; 4] = *b"WAVE";
 
-pub(crate) const FMT: u32 = 0x2074_6d66;
+pub(crate) const FMT: [u8; 4] = *b"fmt ";
 
-pub(crate) const DATA: u32 = 0x6174_6164;
+pub(crate) const DATA: [u8; 4] = *b"data";

@@ -15,7 +15,7 @@ pub use formats::is_read;
 pub use head::{HEAD_BYTES, MOST_BYTES, put_head};
 pub use ids::RIFF;
 use ids::{DATA, WAVE};
-pub use numbers::{put_u16, u32_at};
+pub use numbers::{put, u32_at};
 use stream::Refusal;
 
 // The bytes of a file's head, and those of a chunk that are looked at: its head, and 16 of a fmt chunk.
@@ -53,7 +53,7 @@ pub fn head_of(chunk: &[u8]) -> ChunkHead
     ensures { result ≡ chunk_head chunk.now }
 {
     ChunkHead {
-        is_data: u32_at(chunk, 0) == DATA,
+        is_data: chunk.starts_with(&DATA),
         size: u32_at(chunk, 4) as usize,
     }
 }
@@ -63,7 +63,7 @@ pub fn head_of(chunk: &[u8]) -> ChunkHead
 pub fn is_wave(bytes: &[u8]) -> bool
     ensures { result ≡ is_wave bytes.now }
 {
-    bytes.len() >= FILE_HEAD && u32_at(bytes, 0) == RIFF && u32_at(bytes, 8) == WAVE
+    bytes.len() >= FILE_HEAD && bytes.starts_with(&RIFF) && bytes[8..].starts_with(&WAVE)
 }
 
 // A chunk of this size, behind whose head the file has `room` bytes. A data chunk needs no padding.
@@ -77,7 +77,7 @@ fn sized_chunk(
     requires { (8 ≤ length rest.now) × (min 24 (8 + room) ≤ length rest.now) × (size < 2 ^ 32) }
     ensures { result ≡ sized_chunk rest.now size room format }
 {
-    if u32_at(rest, 0) == DATA {
+    if rest.starts_with(&DATA) {
         if size > room {
             return Err(Refusal::BadSize);
         }

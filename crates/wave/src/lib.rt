@@ -68,7 +68,8 @@ fn put_samples(dest: &mut [u8], samples: &[i16])
         (2 * length samples.now) }
 {
     for (i, sample) in samples.iter().enumerate() {
-        chunks::put_u16(dest, chunks::HEAD_BYTES + 2 * i, pcm::pair(*sample));
+        let bytes = pcm::pair(*sample).to_le_bytes();
+        chunks::put(dest, chunks::HEAD_BYTES + 2 * i, bytes);
     }
 }
 

@@ -28,13 +28,13 @@ loop-i-preserved c =
     let inside : l.i < length samples = omega arith in
     let held = to_z-of_z {w = w16} {z = v} (record { sfits = search rules }) in
     let pair : c.pair.result ≡ pair_of v = c.pair.ensures ∙ ap pair_of held in
-    let put = c.put_u16.ensures ∙ ap (λ (n : ℕ). paste l.dest (44 + 2 * l.i) (two_bytes n) 2) pair in
+    let put = rw (c.to_le_bytes-bytes.ensures, pair) at c.put.ensures in
     let ready = sample_bytes (take l.i samples) in
     let count : length ready ≡ 2 * l.i = bytes-length (take l.i samples) ∙ ap (λ (n : ℕ). 2 * n) (length-take-le l.i samples (omega arith)) in
     let behind = paste-append d ready (two_bytes (pair_of v)) 44 (2 * l.i) 2 count refl (omega arith) in
     let more : 2 * l.i + 2 ≡ 2 * (l.i + 1) = omega arith in
     record {
-      long = c.put_u16.auto.dest ∙ l.invariant.long;
+      long = c.put.auto.dest ∙ l.invariant.long;
       put =
           put ∙ ap (λ (e : List ℕ). paste e (44 + 2 * l.i) (two_bytes (pair_of v)) 2) l.invariant.put ∙ behind
           ∙ ap (paste d 44 (ready ++ two_bytes (pair_of v))) more
