@@ -4,12 +4,13 @@
 
 pub mod names;
 
-ghost use Rattle.std.specs.Prelude.{◌≡◌};
+ghost use Rattle.std.specs.Prelude.{◌≡◌, ◌≤◌, IfSome};
 ghost use Rattle.period.specs.Rates.{InLimits};
-ghost use Rattle.outputs.specs.Tracks.{track_bytes};
+ghost use Rattle.outputs.specs.Tracks.{most_bytes, track_bytes};
 
 use plans::Plan;
-use ports::{Outgoing, standing};
+use ports::Outgoing;
+use ports::standing::Stream;
 use std::fs::{OpenFile, OpenOptions};
 use std::io::{Error, ErrorKind, IsTerminal, Seek, SeekFrom, Stdout, Write};
 use std::os::unix::fs::FileTypeExt;
@@ -19,28 +20,32 @@ use std::{fs, io};
 // The size that sox writes where it cannot know another, as to a pipe.
 const UNKNOWN: u32 = 0x7fff_f000;
 
-// What stands for the bytes of a track that is longer than a WAVE file can tell.
-const TOO_LONG: u32 = 0xffff_ffff;
-
-// What became of the sizes: they are set; they are not, for what the system says, `NotSeekable` of a pipe and of a file
-// that appends; or the track is longer than they can tell.
-#[derive(Clone, Copy)]
-pub enum Sizes {
-    Set,
+// Why the sizes are not set: what the system says, `NotSeekable` of a pipe and of a file that appends; or the track is
+// longer than they can tell.
+#[derive(Clone, Copy, Debug)]
+pub enum SizesError {
     Unset(Error),
     TooLong,
 }
 
-// The bytes of a track.
-fn track_bytes(frames: u64, plan: Plan) -> u32
+impl From<Error> for SizesError {
+    fn from(error: Error) -> SizesError {
+        SizesError::Unset(error)
+    }
+}
+
+// The bytes of a track, if the sizes of a WAVE file can tell them.
+fn track_bytes(frames: u64, plan: Plan) -> Option<u32>
     requires { InLimits plan.rate plan.channels }
-    ensures { result ≡ track_bytes plan frames }
+    ensures exact { result ≡ track_bytes plan frames }
+    ensures told { IfSome result (λ bytes. bytes ≤ most_bytes) }
 {
     let frame = 2 * (plan.channels as u64);
-    if frames > (chunks::MOST_BYTES as u64) / frame {
-        return TOO_LONG;
+    let bytes = frames.checked_mul(frame)?;
+    if bytes > chunks::MOST_BYTES as u64 {
+        return None;
     }
-    (frames * frame) as u32
+    Some(bytes as u32)
 }
 
 // What is said of a file that cannot be sought.
@@ -50,12 +55,12 @@ fn unsought() -> Error {
 
 // Where standard output stands, if it is of a kind that can be sought, and does not append.
 fn standard_place(files: &impl Files, stdout: &Stdout) -> io::Result<u64> {
-    let kind = fs::metadata(files, standing::OUTPUT)?.file_type();
+    let kind = fs::metadata(files, Stream::Output.name())?.file_type();
     let is_device = kind.is_char_device() && !stdout.is_terminal();
     if !kind.is_file() && !is_device {
         return Err(unsought());
     }
-    match standing::of_output(files) {
+    match Stream::Output.place(files) {
         Some(place) if !place.appends => Ok(place.at),
         _ => Err(unsought()),
     }
@@ -71,15 +76,16 @@ pub fn place(files: &impl Files, output: &mut Outgoing) -> io::Result<u64> {
 }
 
 // Writes the head of a track whose length is not known yet.
-pub fn write_head<W: Write>(to: &mut W, plan: Plan) -> bool
+pub fn write_head<W: Write>(to: &mut W, plan: Plan) -> io::Result<()>
     requires { InLimits plan.rate plan.channels }
 {
     let mut head = [0u8; chunks::HEAD_BYTES];
     chunks::put_head(&mut head, plan.rate as u32, plan.channels as u32, UNKNOWN);
-    to.write_all(&head).is_ok()
+    to.write_all(&head)
 }
 
-// The bytes of a file, or 0 if that is not known.
+// The bytes of a file, or 0 if that is not known. No Option: where it is set again, and where it is compared, 0 would
+// stand for None.
 fn length<F: OpenFile>(file: &F) -> u64 {
     file.metadata().map_or(0, |told| told.len())
 }
@@ -92,24 +98,22 @@ fn put_at<F: Write + Seek>(file: &mut F, head: &[u8], place: u64) -> io::Result<
 
 // Sets the sizes in a head that was written at this place of a file. What is written to a file that appends goes to its
 // end: that is taken away again.
-fn set_sizes<F: Write + Seek + OpenFile>(file: &mut F, head: &[u8], place: u64) -> Sizes {
+fn set_sizes<F: Write + Seek + OpenFile>(file: &mut F, head: &[u8], place: u64) -> io::Result<()> {
     let end = length(file);
-    if let Err(e) = put_at(file, head, place) {
-        return Sizes::Unset(e);
-    }
+    put_at(file, head, place)?;
     if length(file) != end {
         let _ = file.set_len(end);
-        return Sizes::Unset(unsought());
+        return Err(unsought());
     }
-    Sizes::Set
+    Ok(())
 }
 
 // The same in the file of standard output, which is opened anew for that.
-fn set_standard_sizes(files: &impl Files, head: &[u8], place: u64) -> Sizes {
-    match OpenOptions::new().write(true).open(files, standing::OUTPUT) {
-        Ok(mut file) => set_sizes(&mut file, head, place),
-        Err(e) => Sizes::Unset(e),
-    }
+fn set_standard_sizes(files: &impl Files, head: &[u8], place: u64) -> io::Result<()> {
+    let mut file = OpenOptions::new()
+        .write(true)
+        .open(files, Stream::Output.name())?;
+    set_sizes(&mut file, head, place)
 }
 
 // Sets the sizes of a track of so many frames, whose head was written at this place, if that is known.
@@ -119,22 +123,17 @@ pub fn end(
     frames: u64,
     place: io::Result<u64>,
     plan: Plan,
-) -> Sizes
+) -> Result<(), SizesError>
     requires { InLimits plan.rate plan.channels }
 {
-    let size = track_bytes(frames, plan);
-    if size > chunks::MOST_BYTES {
-        return Sizes::TooLong;
-    }
-    let at = match place {
-        Ok(at) => at,
-        Err(e) => return Sizes::Unset(e),
-    };
+    let size = track_bytes(frames, plan).ok_or(SizesError::TooLong)?;
+    let at = place?;
     let mut head = [0u8; chunks::HEAD_BYTES];
     chunks::put_head(&mut head, plan.rate as u32, plan.channels as u32, size);
     match output {
-        Outgoing::Standard(_) => set_standard_sizes(files, &head, at),
-        Outgoing::Named(file) => set_sizes(file, &head, at),
-        Outgoing::Closed => Sizes::Unset(unsought()),
+        Outgoing::Standard(_) => set_standard_sizes(files, &head, at)?,
+        Outgoing::Named(file) => set_sizes(file, &head, at)?,
+        Outgoing::Closed => return Err(SizesError::Unset(unsought())),
     }
+    Ok(())
 }
