@@ -9,20 +9,7 @@ use Rattle.jobs.specs.declared.Job.{Job}
 
 -- a job at the rate and with the channels of a WAVE file
 unfoldable pub with_format : Job → ℕ → ℕ → Job
-with_format j rate channels =
-    record {
-      rate = rate;
-      channels = channels;
-      speed = j.speed;
-      pitch = j.pitch;
-      volume = j.volume;
-      step_over = j.step_over;
-      ties = j.ties;
-      map = j.map;
-      input = j.input;
-      output = j.output;
-      raw = j.raw;
-    }
+with_format j rate channels = record j { rate = rate; channels = channels }
 
 -- a stream with one setting changed
 abbrev pub with_one : SonicStream → Setting → SonicStream

@@ -1,64 +1,42 @@
 // The arguments behind the options: none, `--help`, `--version`, or the names of the input and the output, and the
 // numbers rate, channels, speed, pitch and volume, where rate and channels, and volume, may be left out.
-ghost use Rattle.std.specs.Prelude.{◌≡◌, ◌≤◌};
+ghost use Rattle.std.specs.Prelude.{◌≡◌, ◌≤◌, IfOk, Ok};
 ghost use Rattle.stream.specs.Refusals.{within};
 ghost use Rattle.jobs.specs.Arguments.{asked_of, AskedInRange};
 
 use crate::options::{Options, given, is_option};
-use crate::words::{count, read_word};
-use crate::{Asked, Job};
-use decimal::{Digits, Value};
+use crate::words::{TEXT, count, read_word};
+use crate::{Asked, Job, Misuse};
 use std::env::Env;
 use stream::{SonicStream, Ties};
 
-// The most bytes of an argument.
-const TEXT: usize = 32;
-
-// The whole number that an argument is; 0, which no argument may be, for anything else.
+// The whole number that an argument is. Anything else is 0, which `checked` refuses in its turn, as a number out of its
+// range: `asked_of` says of a whole job which number is told.
 fn whole(env: &impl Env, place: usize) -> u32 {
     let mut text = [0u8; TEXT];
-    let n = read_word(env, place, &mut text);
-    match decimal::read_whole(&text[..n]) {
-        Digits::Refused => 0,
-        Digits::Number(k) => { if k <= 0xffff_ffff { k as u32 } else { 0 } }
-    }
+    decimal::read_whole(read_word(env, place, &mut text))
+        .and_then(|n| u32::try_from(n).ok())
+        .unwrap_or(0)
 }
 
-// The decimal number that an argument is; 0, which no argument may be, for anything else.
+// The decimal number that an argument is, and 0 for anything else, in the same way.
 fn value(env: &impl Env, place: usize) -> f32 {
     let mut text = [0u8; TEXT];
-    let n = read_word(env, place, &mut text);
-    match decimal::read_value(&text[..n]) {
-        Value::Refused => 0.0,
-        Value::Nearest(x) => x,
-    }
+    decimal::read_value(read_word(env, place, &mut text)).unwrap_or(0.0)
 }
 
 // Whether an argument is made of digits and points: a number, if perhaps a wrong one. Any other that stands first is a
 // name.
 fn is_number(env: &impl Env, place: usize) -> bool {
     let mut text = [0u8; TEXT];
-    let n = read_word(env, place, &mut text);
-    n > 0 && are_digits(&text[..n])
-}
-
-fn are_digits(text: &[u8]) -> bool {
-    let mut i: usize = 0;
-    while i < text.len() {
-        let b = text[i];
-        if b != b'.' && (b < b'0' || b > b'9') {
-            return false;
-        }
-        i += 1;
-    }
-    true
+    let word = read_word(env, place, &mut text);
+    !word.is_empty() && word.iter().all(|b| *b == b'.' || b.is_ascii_digit())
 }
 
 // Whether an argument is this word.
-pub(crate) fn is_word(env: &impl Env, place: usize, word: &[u8]) -> bool {
+fn is_word(env: &impl Env, place: usize, word: &[u8]) -> bool {
     let mut text = [0u8; TEXT];
-    let n = read_word(env, place, &mut text);
-    &text[..n] == word
+    read_word(env, place, &mut text) == word
 }
 
 // Whether the first argument asks for the status on a descriptor.
@@ -69,38 +47,38 @@ pub fn wants_status(env: &impl Env) -> bool {
 fn is_within(x: f32, low: f32, high: f32) -> bool
     ensures { result ≡ within low high x }
 {
-    x >= low && x <= high
+    (low..=high).contains(&x)
 }
 
 // The job, if each argument is in its range.
-fn checked(job: Job) -> Asked
+fn checked(job: Job) -> Result<Job, Misuse>
     ensures { result ≡ asked_of job }
 {
-    if job.rate < SonicStream::MIN_RATE || job.rate > SonicStream::MAX_RATE {
-        return Asked::Wrong(1);
+    if stream::rate_bad(job.rate) {
+        return Err(Misuse::Rate);
     }
-    if job.channels < SonicStream::MIN_CHANNELS || job.channels > SonicStream::MAX_CHANNELS {
-        return Asked::Wrong(2);
+    if stream::channels_bad(job.channels) {
+        return Err(Misuse::Channels);
     }
     if !is_within(job.speed, SonicStream::MIN_SPEED, SonicStream::MAX_SPEED) {
-        return Asked::Wrong(3);
+        return Err(Misuse::Speed);
     }
     if !is_within(job.pitch, SonicStream::MIN_PITCH, SonicStream::MAX_PITCH) {
-        return Asked::Wrong(4);
+        return Err(Misuse::Pitch);
     }
     if !is_within(job.volume, SonicStream::MIN_VOLUME, SonicStream::MAX_VOLUME) {
-        return Asked::Wrong(5);
+        return Err(Misuse::Volume);
     }
-    Asked::Run(job)
+    Ok(job)
 }
 
-// The numbers that stand behind so many arguments, and how many there are; and the place of the names, 0 if there are
-// none.
-#[derive(Clone, Copy)]
+// The numbers that stand behind so many arguments, and how many there are; and the place of the names, if there are
+// any.
+#[derive(Clone, Copy, Debug, PartialEq, Eq)]
 struct Numbers {
     before: usize,
     count: usize,
-    names: usize,
+    names: Option<usize>,
 }
 
 // The job of these numbers: rate and channels, if there are four or five, speed and pitch, and the volume, if there are
@@ -109,36 +87,33 @@ fn job(env: &impl Env, options: Options, numbers: Numbers) -> Job
     requires { numbers.before ≤ 11 }
 {
     let with_rate = numbers.count > 3;
-    let before = if with_rate {
-        numbers.before + 2
+    let (rate, channels, before) = if with_rate {
+        let before = numbers.before + 2;
+        (whole(env, before - 1), whole(env, before), before)
     } else {
-        numbers.before
+        (8000, 1, numbers.before)
     };
-    let some = numbers.count > 0;
-    let with_volume = numbers.count == 3 || numbers.count == 5;
+    let (speed, pitch) = if numbers.count > 0 {
+        (value(env, before + 1), value(env, before + 2))
+    } else {
+        (20.0, 0.5)
+    };
+    let volume = if matches!(numbers.count, 3 | 5) {
+        value(env, before + 3)
+    } else {
+        1.0
+    };
     Job {
-        rate: if with_rate {
-            whole(env, numbers.before + 1)
-        } else {
-            8000
-        },
-        channels: if with_rate {
-            whole(env, numbers.before + 2)
-        } else {
-            1
-        },
-        speed: if some { value(env, before + 1) } else { 20.0 },
-        pitch: if some { value(env, before + 2) } else { 0.5 },
-        volume: if with_volume {
-            value(env, before + 3)
-        } else {
-            1.0
-        },
+        rate,
+        channels,
+        speed,
+        pitch,
+        volume,
         step_over: !options.as_original,
         ties: Ties::from(options.longest_period as u32),
         map: options.map,
         input: numbers.names,
-        output: if numbers.names > 0 { numbers.before } else { 0 },
+        output: numbers.names.map(|_| numbers.before),
         raw: options.raw,
     }
 }
@@ -149,68 +124,57 @@ fn numbers_of(env: &impl Env, options: Options, count: usize) -> Numbers
     ensures { result.before ≤ 11 }
 {
     let first = options.before + 1;
-    let names = if first < count && !is_number(env, first) {
-        first
+    let with_names = first < count && !is_number(env, first);
+    let before = if with_names {
+        first + 1
     } else {
-        0
+        options.before
     };
-    let before = if names > 0 { first + 1 } else { first - 1 };
     Numbers {
         before,
-        count: if count > before + 1 {
-            count - 1 - before
-        } else {
-            0
-        },
-        names,
+        count: count.saturating_sub(before + 1),
+        names: with_names.then_some(first),
     }
 }
 
-// Whether one of the arguments from a place on begins as options do.
-fn has_option(env: &impl Env, from: usize, count: usize) -> bool {
-    let mut place = from;
-    while place < count {
-        if is_option(env, place) {
-            return true;
-        }
-        place += 1;
-    }
-    false
-}
-
-// What the names and numbers behind the options ask for.
-fn asked(env: &impl Env, options: Options, count: usize) -> Asked
+// The job that the names and numbers behind the options ask for.
+fn asked(env: &impl Env, options: Options, count: usize) -> Result<Job, Misuse>
     requires { options.before ≤ 9 }
-    ensures { AskedInRange result }
+    ensures { IfOk result (λ job. asked_of job ≡ Ok job) }
 {
     let numbers = numbers_of(env, options, count);
-    if numbers.names > 0 && (options.raw || numbers.count > 3 || count < numbers.before + 1) {
-        return Asked::Wrong(8);
+    let too_many = numbers.count > 3 || count < numbers.before + 1;
+    if numbers.names.is_some() && (options.raw || too_many) {
+        return Err(Misuse::Names);
     }
     if numbers.count == 1 || numbers.count > 5 {
-        return Asked::Wrong(0);
+        return Err(Misuse::Count);
     }
     checked(job(env, options, numbers))
 }
 
 // What the arguments ask for, behind `--status` if that is the first.
-pub fn read(env: &impl Env, with_status: bool) -> Asked
-    ensures { AskedInRange result }
+pub fn read(env: &impl Env, with_status: bool) -> Result<Asked, Misuse>
+    ensures { IfOk result AskedInRange }
 {
     let count = count(env);
     let options = given(env, with_status);
     let first = options.before + 1;
-    if options.map > 0 && (options.map >= count || is_option(env, options.map)) {
-        return Asked::Wrong(7);
+    if options
+        .map
+        .is_some_and(|map| map >= count || is_option(env, map))
+    {
+        return Err(Misuse::Map);
     }
     if count == first + 1 && is_word(env, first, b"--help") {
-        return Asked::Help;
+        return Ok(Asked::Help);
     }
     if count == first + 1 && is_word(env, first, b"--version") {
-        return Asked::Version;
+        return Ok(Asked::Version);
     }
-    if has_option(env, first, count) {
-        return Asked::Wrong(6);
+    if (first..count).any(|place| is_option(env, place)) {
+        return Err(Misuse::Option);
     }
-    asked(env, options, count)
+    let job = asked(env, options, count)?;
+    Ok(Asked::Run(job))
 }

@@ -10,12 +10,12 @@ mod words;
 pub use arguments::{read, wants_status};
 pub use settling::{open, settle, with_format};
 use stream::Ties;
-pub use words::{NAME, name};
+pub use words::name;
 
 // What a run is to do: the opening and the settings of its stream; the places of the arguments that name the map's
-// file, 0 if none is wanted, the input's and the output's, 0 for standard input and output; and whether the input is
-// raw PCM whatever it begins with.
-#[derive(Clone, Copy)]
+// file, if one is wanted, the input's and the output's, if they are not standard input and output; and whether the
+// input is raw PCM whatever it begins with.
+#[derive(Clone, Copy, Debug)]
 pub struct Job {
     pub rate: u32,
     pub channels: u32,
@@ -24,18 +24,35 @@ pub struct Job {
     pub volume: f32,
     pub step_over: bool,
     pub ties: Ties,
-    pub map: usize,
-    pub input: usize,
-    pub output: usize,
+    pub map: Option<usize>,
+    pub input: Option<usize>,
+    pub output: Option<usize>,
     pub raw: bool,
 }
 
-// Wrong has the place of the number that cannot be used; 0 for a wrong count of them, 6 for an option that is not known
-// or stands where none may, 7 for a map without a name, 8 for what does not go with names.
-#[derive(Clone, Copy)]
+// What the arguments ask for.
+#[derive(Clone, Copy, Debug)]
 pub enum Asked {
     Help,
     Version,
-    Wrong(usize),
     Run(Job),
+}
+
+// Why the arguments cannot be used.
+#[derive(Clone, Copy, Debug, PartialEq, Eq)]
+pub enum Misuse {
+    // A wrong count of numbers.
+    Count,
+    // A number that is none, or out of its range.
+    Rate,
+    Channels,
+    Speed,
+    Pitch,
+    Volume,
+    // An option that is not known, or stands where none may.
+    Option,
+    // A map without a name.
+    Map,
+    // What does not go with names.
+    Names,
 }

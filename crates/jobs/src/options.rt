@@ -2,62 +2,71 @@
 // in any order, each once or not at all.
 ghost use Rattle.std.specs.Prelude.{◌+◌, ◌≤◌};
 
-use crate::arguments::is_word;
-use crate::words::begins;
+use crate::words::{TEXT, begins, read_word};
 use std::env::Env;
 
+// How many options there are.
+const OPTIONS: usize = 4;
+
 // What was found so far: whether to stop as the original does, whether to find the longest of several periods with the
-// same mean, whether the input is raw PCM, the place of the map's name, 0 if there is none, and the arguments that
-// stand before the next one, without the program's name.
-#[derive(Clone, Copy)]
+// same mean, whether the input is raw PCM, the place of the map's name, if there is one, and the arguments that stand
+// before the next one, without the program's name.
+#[derive(Clone, Copy, Debug, PartialEq, Eq)]
 pub struct Options {
     pub as_original: bool,
     pub longest_period: bool,
     pub raw: bool,
-    pub map: usize,
+    pub map: Option<usize>,
     pub before: usize,
 }
 
 // One option more, if the next argument is one that was not given yet.
-fn one_more(env: &impl Env, mut found: Options) -> Options
+fn one_more(env: &impl Env, found: Options) -> Options
     requires { found.before ≤ 8 }
     ensures { result.before ≤ found.before + 2 }
 {
-    let next = found.before + 1;
-    if !found.as_original && is_word(env, next, b"--as-original") {
-        found.as_original = true;
-        found.before = next;
-        return found;
+    let before = found.before + 1;
+    let mut text = [0u8; TEXT];
+    match read_word(env, before, &mut text) {
+        b"--as-original" if !found.as_original => Options {
+            as_original: true,
+            before,
+            ..found
+        },
+        b"--longest-period" if !found.longest_period => Options {
+            longest_period: true,
+            before,
+            ..found
+        },
+        b"--raw" if !found.raw => Options {
+            raw: true,
+            before,
+            ..found
+        },
+        b"--map" if found.map.is_none() => Options {
+            map: Some(before + 1),
+            before: before + 1,
+            ..found
+        },
+        _ => found,
     }
-    if !found.longest_period && is_word(env, next, b"--longest-period") {
-        found.longest_period = true;
-        found.before = next;
-        return found;
-    }
-    if !found.raw && is_word(env, next, b"--raw") {
-        found.raw = true;
-        found.before = next;
-        return found;
-    }
-    if found.map == 0 && is_word(env, next, b"--map") {
-        found.map = next + 1;
-        found.before = next + 1;
-    }
-    found
 }
 
 // The options, behind `--status` if that is the first argument.
 pub(crate) fn given(env: &impl Env, with_status: bool) -> Options
     ensures { result.before ≤ 9 }
 {
-    let none = Options {
+    let mut found = Options {
         as_original: false,
         longest_period: false,
         raw: false,
-        map: 0,
-        before: if with_status { 1 } else { 0 },
+        map: None,
+        before: with_status as usize,
     };
-    one_more(env, one_more(env, one_more(env, one_more(env, none))))
+    for _i in 0..OPTIONS {
+        found = one_more(env, found);
+    }
+    found
 }
 
 // Whether an argument begins as options do.

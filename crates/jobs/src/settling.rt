@@ -5,51 +5,40 @@ ghost use Rattle.stream.specs.Settings.{open_call};
 ghost use Rattle.jobs.specs.Settings.{with_format, with_one, settled};
 
 use crate::Job;
-use stream::{Changed, Opened, Setting, SonicStream};
+use stream::{NotOpened, Setting, SonicStream};
 
 // The same job with the rate and channels of a WAVE file.
 pub fn with_format(job: Job, rate: u32, channels: u32) -> Job
     ensures { result ≡ with_format job rate channels }
 {
-    let choice = job.ties;
     Job {
         rate,
         channels,
-        speed: job.speed,
-        pitch: job.pitch,
-        volume: job.volume,
-        step_over: job.step_over,
-        ties: choice,
-        map: job.map,
-        input: job.input,
-        output: job.output,
-        raw: job.raw,
+        ..job
     }
 }
 
 // Opens the stream of a job.
-pub fn open(job: Job) -> Opened
+pub fn open(job: Job) -> Result<SonicStream, NotOpened>
     ensures { result ≡ open_call job.rate job.channels job.ties }
 {
-    let ties = job.ties;
-    SonicStream::with_ties(job.rate, job.channels, ties)
+    SonicStream::with_ties(job.rate, job.channels, job.ties)
 }
 
 // A stream with one setting changed.
 fn set(stream: SonicStream, setting: Setting) -> SonicStream
     requires { is_in_order stream ≡ true }
-    ensures { (is_in_order result ≡ true) × (result ≡ with_one stream setting) }
+    ensures in_order { is_in_order result ≡ true }
+    ensures changed { result ≡ with_one stream setting }
 {
-    match stream.set(setting) {
-        Changed::Refused(_, same) => same,
-        Changed::Done(changed) => changed,
-    }
+    stream.set(setting).unwrap()
 }
 
 // A fresh stream with the job's settings.
 pub fn settle(fresh: SonicStream, job: Job) -> SonicStream
     requires { is_in_order fresh ≡ true }
-    ensures { (is_in_order result ≡ true) × (result ≡ settled fresh job) }
+    ensures in_order { is_in_order result ≡ true }
+    ensures settled { result ≡ settled fresh job }
 {
     let faster = set(fresh, Setting::Speed(job.speed));
     let pitched = set(faster, Setting::Pitch(job.pitch));

@@ -1,6 +1,8 @@
 // The usage, on standard output, and what is said of bad usage.
 #![tactic(auto)]
 
+use jobs::Misuse;
+
 pub fn version(rt: &impl Print) {
     say::line(rt, "skim (kelpladder) 0.4.0");
 }
@@ -134,40 +136,24 @@ fn say_report(rt: &impl Print) {
     );
 }
 
-// Which number cannot be used; 0 for a wrong count of them, 6 and 7 for options, 8 for names.
-pub fn wrong_argument(rt: &impl Eprint, place: usize) {
-    match place {
-        0 => say::text(
-            rt,
-            "skim: give two to five numbers behind the options, or none\n",
-        ),
-        1 => say::text(
-            rt,
-            "skim: RATE has to be a whole number from 1000 to 500000\n",
-        ),
-        2 => say::text(rt, "skim: CHANNELS has to be a whole number from 1 to 32\n"),
-        3 => say::text(
-            rt,
-            "skim: SPEED has to be a number from 0.05 to 20, as 20 or 1.25\n",
-        ),
-        4 => say::text(
-            rt,
-            "skim: PITCH has to be a number from 0.05 to 20, as 2 or 0.5\n",
-        ),
-        5 => say::text(
-            rt,
-            "skim: VOLUME has to be a number from 0.01 to 100, as 2 or 0.5\n",
-        ),
-        6 => say::text(
-            rt,
-            "skim: before the numbers may stand --status, the first, and the options that --help tells, each once\n",
-        ),
-        7 => say::text(rt, "skim: --map has to be followed by the name of a file\n"),
-        _ => say::text(
-            rt,
-            "skim: with names give IN.wav OUT.wav and SPEED PITCH [VOLUME] or no numbers, and no --raw\n",
-        ),
-    }
+// What of the arguments cannot be used.
+pub fn wrong_argument(rt: &impl Eprint, misuse: Misuse) {
+    let told = match misuse {
+        Misuse::Count => "skim: give two to five numbers behind the options, or none\n",
+        Misuse::Rate => "skim: RATE has to be a whole number from 1000 to 500000\n",
+        Misuse::Channels => "skim: CHANNELS has to be a whole number from 1 to 32\n",
+        Misuse::Speed => "skim: SPEED has to be a number from 0.05 to 20, as 20 or 1.25\n",
+        Misuse::Pitch => "skim: PITCH has to be a number from 0.05 to 20, as 2 or 0.5\n",
+        Misuse::Volume => "skim: VOLUME has to be a number from 0.01 to 100, as 2 or 0.5\n",
+        Misuse::Option => {
+            "skim: before the numbers may stand --status, the first, and the options that --help tells, each once\n"
+        }
+        Misuse::Map => "skim: --map has to be followed by the name of a file\n",
+        Misuse::Names => {
+            "skim: with names give IN.wav OUT.wav and SPEED PITCH [VOLUME] or no numbers, and no --raw\n"
+        }
+    };
+    say::text(rt, told);
 }
 
 pub fn no_room(rt: &impl Eprint) {

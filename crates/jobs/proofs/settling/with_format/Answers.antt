@@ -1,5 +1,4 @@
--- `jobs::settling::with_format` meets its contract. Assumes nothing.
-use mathlib.Core.Path.{refl}
+use Rattle.std.proofs.Common.{refl}
 use Rattle.jobs.specs.Settings.{with_format}
 use Rattle.jobs.proofs.settling.with_format.Goals as goal
 
