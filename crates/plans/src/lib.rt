@@ -2,7 +2,7 @@
 // is answered; that no call of a job served is refused, but for a total past 64 bits, is proved in the crate `serving`.
 #![tactic(auto)]
 
-ghost use Rattle.std.specs.Prelude.{◌*◌, ◌≤◌};
+ghost use Rattle.std.specs.Prelude.{◌≡◌, ◌*◌, ◌≤◌};
 ghost use Rattle.period.specs.Rates.{InLimits};
 ghost use Rattle.plans.specs.declared.TheConstants.{INPUT_AREA, BLOCK_SAMPLES};
 
@@ -50,4 +50,24 @@ pub struct Plan {
     pub ghost full_fits: { full ≤ 3 * required },
     pub ghost calls_fit: { 3 * required ≤ limit },
     pub ghost limit_fits: { limit ≤ INPUT_AREA },
+}
+
+// The rate and the channels of a plan: those of a stream's opening, in their limits.
+#[derive(Clone, Copy, Debug, PartialEq, Eq)]
+pub struct Opening {
+    pub rate: u64,
+    pub channels: usize,
+    pub ghost limits: { InLimits rate channels },
+}
+
+impl Plan {
+    pub fn opening(self) -> Opening
+        ensures rate_is { result.rate ≡ self.rate }
+        ensures channels_is { result.channels ≡ self.channels }
+    {
+        Opening {
+            rate: self.rate,
+            channels: self.channels,
+        }
+    }
 }
