@@ -3,7 +3,8 @@ use mathlib.Core.Path.{◌≡◌, refl, sym, subst}
 use mathlib.Core.Bool.{true}
 use mathlib.Core.Logic.{◌⊎◌, inl, inr}
 use mathlib.Core.List.{List, map}
-use Prim.Native.Nat.{ℕ, zero, suc, ◌+◌, ◌*◌, ◌/◌, ◌≤◌}
+use Rattle.std.specs.Prelude.{Option, None, Some, Result}
+use Prim.Native.Nat.{ℕ, ◌+◌, ◌*◌, ◌/◌, ◌≤◌}
 use native.Mathlib.Omega.{arith}
 use lib.IntN.{pos}
 use lib.Ieee.{Float}
@@ -16,10 +17,13 @@ use Rattle.period.specs.Rates.{max_required}
 use Rattle.stream.specs.declared.SonicStream.{SonicStream}
 use Rattle.stream.specs.State.{State}
 use Rattle.stream.specs.Stream.{state_of, stream_of}
-use Rattle.stream.specs.Refusals.{accepted, total_full, is_in_order}
+use Rattle.stream.specs.declared.refusal.Refusal.{Refusal}
+use Rattle.stream.specs.declared.refusal.Refusal.TheVariants.{TotalFull}
+use Rattle.stream.specs.declared.refusal.Refused.{Refused}
+use Rattle.stream.specs.Refusals.{is_in_order}
 use Rattle.fill.specs.declared.Told.{Told}
 use Rattle.process.specs.Process.{whole_frames, write_work, flush_work, expected, cleared}
-use Rattle.adding.specs.declared.Wrote.{Wrote}
+use Rattle.process.specs.declared.Wrote.{Wrote}
 use Rattle.adding.specs.Calls.{refused_call, accepted_call, call_by, refusal_of, write_call, flush_call, OrderAfter}
 use Rattle.adding.proofs.Adding.{work_of}
 use Rattle.plans.specs.Plans.{output_area, block_samples, is_small, limit_of, served}
@@ -27,15 +31,17 @@ use Rattle.serving.specs.Steady.{Steady, AreasSized, SameJob, WriteWent, FlushWe
 use Rattle.serving.proofs.Served.{small_same, limit-same, made-fits, work-fits, work-same, work-steady}
 use Rattle.serving.proofs.Fresh.{steady-unheld}
 
--- by the number of its refusal, 0 or 12
-by_number : (P : Told → SonicStream → Type 0) (number : ℕ) (s : SonicStream) (a : Areas) (o : Told) (state : State) (frames : List Frame)
-    → (number ≡ accepted) ⊎ (number ≡ total_full)
+-- by its refusal: none, or that of a total
+by_refusal : (P : Told → SonicStream → Type 0) (refusal : Option Refusal) (s : SonicStream) (a : Areas) (o : Told) (state : State) (frames : List Frame)
+    → (refusal ≡ None) ⊎ (refusal ≡ Some TotalFull)
     → (is_in_order (stream_of state (s.waiting.0 + length frames)) ≡ true → P o (stream_of state (s.waiting.0 + length frames)))
-    → (r : Wrote) → r ≡ (call_by number s a (accepted_call s a o state frames)).answer → OrderAfter r → NeverRefused s P r
+    → (r : Result Wrote Refused) → r ≡ (call_by refusal s a (accepted_call s a o state frames)).answer → OrderAfter r → NeverRefused s P r
 unfolding accepted_call refused_call
-by_number P zero s a o state frames c done r e = subst (λ (x : Wrote). OrderAfter x → NeverRefused s P x) (sym e) done
-by_number P (suc k) s a o state frames (inl z) done r e = absurd (omega arith)
-by_number P (suc k) s a o state frames (inr z) done r e = subst (λ (x : Wrote). OrderAfter x → NeverRefused s P x) (sym e) (λ _. (z, refl))
+by_refusal P None s a o state frames c done r e = subst (λ (x : Result Wrote Refused). OrderAfter x → NeverRefused s P x) (sym e) done
+by_refusal P (Some refusal) s a o state frames (inl z) done r e = cc
+by_refusal P (Some refusal) s a o state frames (inr z) done r e =
+    let is : refusal ≡ TotalFull = cc in
+    subst (λ (x : Result Wrote Refused). OrderAfter x → NeverRefused s P x) (sym e) (λ _. (is, refl))
 
 whole_is : (channels : ℕ) (samples : List Float) → length (whole_frames channels samples) ≡ length samples / channels
 unfolding whole_frames
@@ -52,11 +58,11 @@ module _ (s : SonicStream) (y : Steady s) (a : Areas) (z : AreasSized (is_small 
 
     added-served : (P : Told → SonicStream → Type 0) (state : State) (frames : List Frame)
         → (is_in_order (stream_of state (s.waiting.0 + length frames)) ≡ true → P (work_of s a fs).told (stream_of state (s.waiting.0 + length frames)))
-        → (r : Wrote) → r ≡ (call_by (refusal_of s a n (work_of s a fs)) s a (accepted_call s a (work_of s a fs).told state frames)).answer
+        → (r : Result Wrote Refused) → r ≡ (call_by (refusal_of s a n (work_of s a fs)) s a (accepted_call s a (work_of s a fs).told state frames)).answer
         → OrderAfter r → NeverRefused s P r
     added-served P state frames done =
-        by_number P (refusal_of s a n (work_of s a fs)) s a (work_of s a fs).told state frames
-        (subst (λ (k : ℕ). (refusal_of s a k (work_of s a fs) ≡ accepted) ⊎ (refusal_of s a k (work_of s a fs) ≡ total_full)) count
+        by_refusal P (refusal_of s a n (work_of s a fs)) s a (work_of s a fs).told state frames
+        (subst (λ (k : ℕ). (refusal_of s a k (work_of s a fs) ≡ None) ⊎ (refusal_of s a k (work_of s a fs) ≡ Some TotalFull)) count
         (work-fits s y a z waits fs within)) done
 
     -- so many of its frames behind those waiting
@@ -83,7 +89,7 @@ module _ (s : SonicStream) (y : Steady s) (a : Areas) (z : AreasSized (is_small 
 
   -- a write
   pub write-served : (samples : List Float) → s.held.0 + length samples / s.channels ≤ limit_of s
-      → (r : Wrote) → r ≡ (write_call s samples a).answer → OrderAfter r → NeverRefused s (WriteWent s (length samples / s.channels)) r
+      → (r : Result Wrote Refused) → r ≡ (write_call s samples a).answer → OrderAfter r → NeverRefused s (WriteWent s (length samples / s.channels)) r
   unfolding write_call write_work state_of
   write-served samples few r e =
       let whole : List (List Float) = whole_frames s.channels samples in
@@ -94,7 +100,7 @@ module _ (s : SonicStream) (y : Steady s) (a : Areas) (z : AreasSized (is_small 
 
   -- a flush
   pub flush-served : s.held.0 + 2 * max_required s.rate ≤ limit_of s
-      → (r : Wrote) → r ≡ (flush_call s a).answer → OrderAfter r → NeverRefused s (FlushWent s) r
+      → (r : Result Wrote Refused) → r ≡ (flush_call s a).answer → OrderAfter r → NeverRefused s (FlushWent s) r
   unfolding flush_call flush_work state_of
   flush-served few r e =
       let n : ℕ = 2 * max_required s.rate in

@@ -1,8 +1,9 @@
 -- Streams that are steady before any call that is lent areas: fresh-opened, fresh_set, steady-unheld; and one of which frames were read: steady-read.
 -- Assumes nothing.
 use mathlib.Core.Path.{◌≡◌, refl, ◌∙◌}
-use mathlib.Core.Bool.{Bool, true, false, cond, true≢false}
+use mathlib.Core.Bool.{Bool, true, false, cond}
 use mathlib.Core.List.{[]}
+use Rattle.std.specs.Prelude.{Result, Ok, Err}
 use Prim.Native.Nat.{ℕ, ◌*◌, ◌≤◌}
 use native.Mathlib.Nat.{le_trans, mul-le-mul_right}
 use native.Mathlib.Omega.{arith}
@@ -11,10 +12,11 @@ use Rattle.search.specs.declared.Ties.{Ties}
 use Rattle.stream.specs.declared.SonicStream.{SonicStream}
 use Rattle.stream.specs.declared.Setting.{Setting}
 use Rattle.stream.specs.declared.Setting.TheVariants.{Speed, Pitch, Volume, StepOver}
-use Rattle.stream.specs.declared.Opened.{Opened}
+use Rattle.stream.specs.declared.refusal.Refusal.TheVariants.{BadRate, BadChannels}
+use Rattle.stream.specs.declared.refusal.NotOpened.{NotOpened}
 use Rattle.stream.specs.Stream.{state_of, stream_of, unlent, zero_stream}
 use Rattle.stream.specs.Settings.{fresh, open_call, with_setting}
-use Rattle.stream.specs.Refusals.{bad_rate, bad_channels, rate_bad, channels_bad}
+use Rattle.stream.specs.Refusals.{rate_bad, channels_bad}
 use Rattle.stream.proofs.Stays.{open-in-order, setting-in-order, waiting-in-order}
 use Rattle.stream.proofs.Streams.{held-is, tail_is}
 use Rattle.plans.specs.Plans.{output_area, is_small, served}
@@ -23,17 +25,16 @@ use Rattle.serving.proofs.Served.{pace-ready, small_same, limit-same}
 
 -- ---- opened and set
 
-pub fresh-opened : (rate channels : ℕ) (ties : Ties) (s : SonicStream) → open_call rate channels ties ≡ Opened.Done s → Fresh s
+pub fresh-opened : (rate channels : ℕ) (ties : Ties) (s : SonicStream) → open_call rate channels ties ≡ Ok s → Fresh s
 unfolding open_call fresh stream_of
 fresh-opened rate channels ties s e = go (rate_bad rate) (channels_bad channels) e
   where
     go : (a b : Bool)
-        → cond a (Opened.Refused bad_rate rate zero_stream)
-        (cond b (Opened.Refused bad_channels channels zero_stream) (Opened.Done (stream_of (fresh rate channels ties) 0)))
-        ≡ Opened.Done s
+        → ◌≡◌ {A = Result SonicStream NotOpened} (cond a (Err (record { refusal = BadRate; given = rate; stream = zero_stream }))
+        (cond b (Err (record { refusal = BadChannels; given = channels; stream = zero_stream })) (Ok (stream_of (fresh rate channels ties) 0)))) (Ok s)
         → Fresh s
-    go true b h = let z : true ≡ false = cc in absurd (true≢false z)
-    go false true h = let z : true ≡ false = cc in absurd (true≢false z)
+    go true b h = cc
+    go false true h = cc
     go false false h =
         let same : stream_of (fresh rate channels ties) 0 ≡ s = cc in
         record {

@@ -1,5 +1,6 @@
 -- A read of a steady stream is never refused, and leaves it steady: read-served. Assumes nothing.
 use mathlib.Core.Path.{◌≡◌}
+use Rattle.std.specs.Prelude.{None}
 use Prim.Native.Nat.{ℕ, ◌-◌, ◌*◌}
 use native.Mathlib.Omega.{arith}
 use mathlib.Core.List.{List, []}
@@ -19,12 +20,12 @@ use Rattle.serving.specs.Steady.{Steady, ReadWent}
 use Rattle.serving.proofs.Fresh.{steady-read}
 
 module _ (s : SonicStream) (y : Steady s) (output : List ℤ) (z : length output ≡ output_area (is_small s)) where
-  not-refused : read_refusal s output ≡ 0
+  not-refused : read_refusal s output ≡ None
   unfolding read_refusal output_bad
   not-refused =
       rw (y.in_order, le-ltb max_area (length output) (omega (arith, z, output-most (is_small s))), le-ltb (length output) (s.waiting.0 * s.channels) (omega (arith, z, y.waiting_fits)))
 
-  went : (n : ℕ) (waiting : List Frame) → ReadWent s (read_by 0 s n waiting).answer
+  went : (n : ℕ) (waiting : List Frame) → ReadWent s (read_by None s n waiting).answer
   unfolding stream_of state_of
   went n waiting = let k = steady-read s (s.waiting.0 - n) (omega arith) y in (k.0, k.1, held-is s [] [])
 

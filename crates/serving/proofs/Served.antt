@@ -8,6 +8,7 @@ use mathlib.Core.Path.{◌≡◌, refl, sym, ap, ◌∙◌}
 use mathlib.Core.Bool.{Bool, true, false, cond}
 use mathlib.Core.Logic.{◌⊎◌, inl, inr, ⊎_elim}
 use mathlib.Core.List.{List}
+use Rattle.std.specs.Prelude.{None, Some}
 use Prim.Native.Nat.{ℕ, ◌+◌, ◌-◌, ◌*◌, ◌/◌, ◌≤◌, ◌<◌}
 use native.Mathlib.Nat.{le_trans, mul-le-mul_right, min-le_left}
 use native.Mathlib.Omega.{arith}
@@ -26,7 +27,8 @@ use Rattle.rate.proofs.Halving.{rates-within}
 use Rattle.stream.specs.declared.SonicStream.{SonicStream}
 use Rattle.stream.specs.State.{State}
 use Rattle.stream.specs.Stream.{state_of, stream_of}
-use Rattle.stream.specs.Refusals.{accepted, total_full, is_in_order}
+use Rattle.stream.specs.declared.refusal.Refusal.TheVariants.{TotalFull}
+use Rattle.stream.specs.Refusals.{is_in_order}
 use Rattle.stream.proofs.InOrder.{tests-of, limits_of, within-range, ranges-of, state-ready}
 use Rattle.stream.proofs.AreaTests.{AreasGood}
 use Rattle.stream.proofs.Streams.{held-is, tail_is}
@@ -209,7 +211,7 @@ module _ (s : SonicStream) (y : Steady s) (a : Areas) (z : AreasSized (is_small 
   output_fits : (s.waiting.0 + length m.frames) * s.channels ≤ length a.output
   output_fits = rw z.output (made-fits (length m.frames) (omega arith))
 
-  pub work-fits : (refusal_of s a (length fs) (work_of s a fs) ≡ accepted) ⊎ (refusal_of s a (length fs) (work_of s a fs) ≡ total_full)
+  pub work-fits : (refusal_of s a (length fs) (work_of s a fs) ≡ None) ⊎ (refusal_of s a (length fs) (work_of s a fs) ≡ Some TotalFull)
   work-fits = total-alone s a n m call-accepted stage_fits output_fits
 
   -- ---- the stream after it

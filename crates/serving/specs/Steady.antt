@@ -1,15 +1,17 @@
 -- What holds of a served job's stream between its calls, and of the answer of a call. Definitions only.
 -- Assumes nothing.
-use Rattle.std.specs.Prelude.{◌≡◌, Bool, true, ◌⊎◌, ℕ, ◌+◌, ◌*◌, ◌≤◌, ◌<◌, length}
+use Rattle.std.specs.Prelude.{◌≡◌, Bool, true, ◌⊎◌, ℕ, ◌+◌, ◌*◌, ◌≤◌, ◌<◌, length, Result, Ok, Err}
 use Rattle.frames.specs.Areas.{Areas}
 use Rattle.floats.specs.Numbers.{zero}
 use Rattle.period.specs.Rates.{max_required}
 use Rattle.stream.specs.declared.SonicStream.{SonicStream}
-use Rattle.stream.specs.Refusals.{total_full, is_in_order}
+use Rattle.stream.specs.declared.refusal.Refusal.TheVariants.{TotalFull}
+use Rattle.stream.specs.declared.refusal.Refused.{Refused}
+use Rattle.stream.specs.Refusals.{is_in_order}
 use Rattle.fill.specs.declared.Told.{Told}
 use Rattle.fill.specs.declared.Outcome.TheVariants.{Stalled}
 use Rattle.read.specs.declared.Gave.{Gave}
-use Rattle.adding.specs.declared.Wrote.{Wrote}
+use Rattle.process.specs.declared.Wrote.{Wrote}
 use Rattle.plans.specs.Plans.{input_area, stage_area, output_area, scratch_area, tail_frames}
 use Rattle.plans.specs.Plans.{is_small, held_most, limit_of}
 use Rattle.plans.specs.Plans.{served}
@@ -68,11 +70,11 @@ pub record FlushWent (s : SonicStream) (o : Told) (t : SonicStream) : Type 0 whe
   pub none : t.held.0 ≡ 0
 
 -- the call on s is refused for a total past 64 bits, or done as P says
-abbrev pub NeverRefused : SonicStream → (Told → SonicStream → Type 0) → Wrote → Type 0
-NeverRefused s P (Wrote.Refused number t) = (number ≡ total_full) × (t ≡ s)
-NeverRefused s P (Wrote.Done o t) = P o t
+abbrev pub NeverRefused : SonicStream → (Told → SonicStream → Type 0) → Result Wrote Refused → Type 0
+NeverRefused s P (Err e) = (e.refusal ≡ TotalFull) × (e.stream ≡ s)
+NeverRefused s P (Ok w) = P w.told w.stream
 
 -- after a read of s, which is never refused: as many frames are held
-abbrev pub ReadWent : SonicStream → Gave → Type 0
-ReadWent s (Gave.Refused number t) = ⊥
-ReadWent s (Gave.Done n t) = Steady t × SameJob s t × (t.held.0 ≡ s.held.0)
+abbrev pub ReadWent : SonicStream → Result Gave Refused → Type 0
+ReadWent s (Err e) = ⊥
+ReadWent s (Ok g) = Steady g.stream × SameJob s g.stream × (g.stream.held.0 ≡ s.held.0)
