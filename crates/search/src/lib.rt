@@ -4,7 +4,7 @@
 
 mod outward;
 
-ghost use Rattle.std.specs.Prelude.{◌≡◌, ◌+◌, ◌*◌, ◌/◌, ◌≤◌, length};
+ghost use Rattle.std.specs.Prelude.{◌≡◌, ◌+◌, ◌*◌, ◌/◌, ◌≤◌, nat_abs, ◌-ℤ◌, length};
 ghost use Rattle.search.specs.Ties.{ties_of, ties_number, other};
 ghost use Rattle.search.specs.Search.{diffs, candidate, lesser, greater, found_of, find_pitch_period_in_range};
 ghost use Rattle.search.specs.Search.{widest_gap, Searchable};
@@ -99,7 +99,16 @@ pub struct Neighbours {
     pub next: Candidate,
 }
 
-// The sum of `count` differences of a period, |x[i] − x[i + period]|, from difference `from` on.
+// |a − b|. Of 32 bits: with i16's own `abs_diff` the compiler widens the sums of `contest` to 64 bits, and 62 differences
+// take 24.4 ns instead of 19.4.
+fn gap(a: i16, b: i16) -> u32
+    ensures value { result ≡ nat_abs (a -ℤ b) }
+    ensures bound { result ≤ widest_gap }
+{
+    i32::from(a).abs_diff(i32::from(b))
+}
+
+// The sum of `count` differences of a period, from difference `from` on.
 fn gaps_from(samples: &[i16], period: usize, from: usize, count: usize) -> u32
     requires within { from + count ≤ period }
     requires searchable { Searchable (length samples.now) period period }
@@ -107,8 +116,8 @@ fn gaps_from(samples: &[i16], period: usize, from: usize, count: usize) -> u32
     ensures bound { result ≤ widest_gap * count }
 {
     let mut sum: u32 = 0;
-    for i in from..from + count {
-        sum += u32::from(samples[i].abs_diff(samples[i + period]));
+    for i in 0..count {
+        sum += gap(samples[from + i], samples[from + i + period]);
     }
     sum
 }
@@ -134,11 +143,13 @@ fn neighbours_from(samples: &[i16], period: usize) -> Neighbours
     let mut this: u32 = 0;
     let mut next: u32 = 0;
     for i in 0..period {
-        let sample = samples[i];
-        this += u32::from(sample.abs_diff(samples[i + period]));
-        next += u32::from(sample.abs_diff(samples[i + after]));
+        let a = samples[i];
+        let b = samples[i + period];
+        let c = samples[i + after];
+        this += gap(a, b);
+        next += gap(a, c);
     }
-    next += u32::from(samples[period].abs_diff(samples[period + after]));
+    next += gap(samples[period], samples[period + after]);
     Neighbours {
         this: Candidate {
             period,

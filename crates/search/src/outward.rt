@@ -25,14 +25,17 @@ fn contest(samples: &[i16], ties: Ties, old: Candidate, period: usize) -> Candid
 {
     let limit = old.diff * period + ties as usize;
     let mut sum: usize = 0;
-    for block in 0..period / BLOCK {
-        sum += gaps_from(samples, period, block * BLOCK, BLOCK) as usize;
+    // Counted by hand: after a `for` over the whole blocks the compiler takes the rest one by one, as it knows that it
+    // is short. A period of 17 then takes 12.0 ns instead of 10.0, one of 62 takes 21.8 instead of 19.4.
+    let mut i: usize = 0;
+    while i + BLOCK <= period {
+        sum += gaps_from(samples, period, i, BLOCK) as usize;
+        i += BLOCK;
         if limit <= sum * old.period {
             return old;
         }
     }
-    let rest = period % BLOCK;
-    sum += gaps_from(samples, period, period - rest, rest) as usize;
+    sum += gaps_from(samples, period, i, period - i) as usize;
     lesser(ties, old, Candidate { period, diff: sum })
 }
 
@@ -64,7 +67,8 @@ pub fn best_in_range(samples: &[i16], low: usize, high: usize, near: usize, ties
     best
 }
 
-// Of the periods low..=high the one with the greatest D(q)/q.
+// Of the periods low..=high the one with the greatest D(q)/q. Not one function with `upward`: a closure for the step
+// would want a clause for when it may be called and one for what it gives, longer than the loop.
 fn worst_in_range(samples: &[i16], low: usize, high: usize) -> Candidate
     requires { Searchable (length samples.now) low high }
     ensures { result ≡ worst samples.now low high }

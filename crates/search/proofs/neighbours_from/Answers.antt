@@ -9,8 +9,8 @@ loop-i-preserved c =
     let x = c.args.samples.now in
     let p = c.args.period in
     let i = c.loop-i.i in
-    let this : c.from-this.result ≡ nat_abs (get_or x i (pos 0) -ℤ get_or x (i + p) (pos 0)) = grind (arith, to_z-of_z) in
-    let next : c.from-next.result ≡ nat_abs (get_or x i (pos 0) -ℤ get_or x (i + (p + 1)) (pos 0)) = grind (arith, to_z-of_z) in
+    let this : c.gap-this.result ≡ nat_abs (get_or x i (pos 0) -ℤ get_or x (i + p) (pos 0)) = grind (arith, to_z-of_z) in
+    let next : c.gap-next.result ≡ nat_abs (get_or x i (pos 0) -ℤ get_or x (i + (p + 1)) (pos 0)) = grind (arith, to_z-of_z) in
     (sum_more c.loop-i.invariant.0 (omega arith) this (omega arith), sum_more c.loop-i.invariant.1 (omega arith) next (omega arith))
 
 pub returns-clause-this : goal.returns-clause-this
@@ -20,5 +20,5 @@ pub returns-clause-next : goal.returns-clause-next
 returns-clause-next c =
     let x = c.args.samples.now in
     let p = c.args.period in
-    let last : c.from-next-2.result ≡ nat_abs (get_or x p (pos 0) -ℤ get_or x (p + (p + 1)) (pos 0)) = grind (arith, to_z-of_z) in
+    let last : c.gap-next-2.result ≡ nat_abs (get_or x p (pos 0) -ℤ get_or x (p + (p + 1)) (pos 0)) = grind (arith, to_z-of_z) in
     sum-whole (sum_more (sum-at (omega arith) c.loop-i.invariant.1) (omega arith) last (omega arith))
