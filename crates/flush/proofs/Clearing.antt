@@ -2,8 +2,8 @@
 --   take-shorter, expected-front     the first e of the frames made, behind those waiting
 --   expected-is                      e
 --   cleared_after, cleared-is, cleared-in-order, cleared-ready     the stream handed back
---   flush-out-of-order, flush-areas-bad, flush-input-full         its contract, refused before its work
---   silent, flush_answer, flush-answered                           the frames that it adds; its contract, by the work's
+--   flush-early, flush-input-full                 its contract, refused before its work
+--   silent, flush-refused, flush-done             the frames that it adds; its contract, by the answer to its work
 -- Assumes nothing.
 use mathlib.Core.Path.{◌≡◌, refl, sym, ap, ◌∙◌}
 use mathlib.Core.Bool.{true, false}
@@ -22,10 +22,9 @@ use Rattle.period.specs.Rates.{max_required}
 use Rattle.stream.specs.declared.SonicStream.{SonicStream}
 use Rattle.stream.specs.State.{State}
 use Rattle.stream.specs.Stream.{state_of, stream_of, unlent}
+use Rattle.stream.specs.declared.refusal.Refusal.TheVariants.{InputFull}
+use Rattle.stream.specs.declared.refusal.Refused.{Refused}
 use Rattle.stream.specs.Refusals.{
-  bad_stream,
-  bad_areas,
-  input_full,
   limits_in_order,
   period_in_order,
   settings_in_order,
@@ -35,16 +34,16 @@ use Rattle.stream.specs.Refusals.{
   areas_bad,
   too_short,
 }
-use Rattle.fill.specs.declared.Told.{Told}
-use Rattle.process.specs.declared.Work.{Work}
+use Rattle.std.proofs.Common.{Ok, Err}
+use Rattle.process.specs.declared.Wrote.{Wrote}
 use Rattle.process.specs.Process.{Made, joined, flush_work, expected, cleared}
 use Rattle.process.specs.Streams.{joined_stream}
 use Rattle.process.specs.Working.{WorkedAs}
-use Rattle.adding.specs.declared.Wrote.{Wrote}
 use Rattle.adding.specs.Calls.{accepted_call, flush_call}
 use Rattle.adding.specs.Adding.{Accepted, AddEnsures}
-use Rattle.adding.proofs.Answers.{CallAnswered, call-done, stream-refused, areas-refused, input-refused}
-use Rattle.adding.proofs.Adding.{answer_by, work_of, worked-in-order, added-answered}
+use Rattle.adding.proofs.Answers.{CallAnswered, call-done, input-refused}
+use Rattle.adding.proofs.Adding.{work_of, worked-in-order, added-refused, added-worked, added-none}
+use Rattle.write_parts.specs.Writing.{RefusedEarly, WorkAnswered}
 
 take-shorter : {A : Type 0} (e : ℕ) (l : List A) → take (length (take e l)) l ≡ take e l
 take-shorter zero l = refl
@@ -86,10 +85,10 @@ unfolding is_in_order limits_in_order period_in_order settings_in_order prev_in_
 cleared-in-order t x w w' is e = rw is (rw is at e)
 
 -- what `cleared` asks of the stream after the work
-pub cleared-ready : (s t : SonicStream) (n : ℕ) (a b : Areas) (o : Told) → AddEnsures s n a b (Work.Done o t)
-    → (s.waiting.0 ≤ t.waiting.0) × (t.sample_period ≡ sample_period t.rate)
+pub cleared-ready : (s : SonicStream) (n : ℕ) (a b : Areas) (w : Wrote) → AddEnsures s n a b (Ok w)
+    → (s.waiting.0 ≤ w.stream.waiting.0) × (w.stream.sample_period ≡ sample_period w.stream.rate)
 unfolding joined state_of stream_of
-cleared-ready s t n a b o w = (omega (arith, ap (λ (x : SonicStream). x.waiting.0) w.stream), w.ready.period_is)
+cleared-ready s n a b w r = (omega (arith, ap (λ (x : SonicStream). x.waiting.0) r.stream), r.ready.period_is)
 
 -- ---- refused before its work
 
@@ -97,19 +96,15 @@ module _ (s : SonicStream) (a : Areas) where
   abbrev work : Made
   work = flush_work (state_of s a.input a.stage)
 
-  pub flush-out-of-order : is_in_order s ≡ false → CallAnswered s.channels (flush_call s a) (Wrote.Refused bad_stream s) a
+  pub flush-early : (e : Refused) → ((added : ℕ) → RefusedEarly s added a e) → CallAnswered s.channels (flush_call s a) (Err e) a
   unfolding flush_call
-  flush-out-of-order e = stream-refused s a _ work _ e
+  flush-early e h = (h _ work _, tt)
 
-  module _ (o : is_in_order s ≡ true) where
-    pub flush-areas-bad : areas_bad s a ≡ true → CallAnswered s.channels (flush_call s a) (Wrote.Refused bad_areas s) a
-    unfolding flush_call
-    flush-areas-bad e = areas-refused s a _ work _ o e
-
-    pub flush-input-full : (n : ℕ) → n ≡ 2 * max_required s.rate → areas_bad s a ≡ false
-        → too_short s.channels (s.held.0 + n) a.input ≡ true → CallAnswered s.channels (flush_call s a) (Wrote.Refused input_full s) a
-    unfolding flush_call
-    flush-input-full n count g e = rw (← count) (input-refused s a n work _ o g e)
+  pub flush-input-full : (n : ℕ) → n ≡ 2 * max_required s.rate → is_in_order s ≡ true → areas_bad s a ≡ false
+      → too_short s.channels (s.held.0 + n) a.input ≡ true
+      → CallAnswered s.channels (flush_call s a) (Err (record { refusal = InputFull; stream = s })) a
+  unfolding flush_call
+  flush-input-full n count o g e = rw (← count) (input-refused s a n work _ o g e)
 
 -- ---- by its work
 
@@ -117,28 +112,40 @@ module _ (s : SonicStream) (a : Areas) where
 abbrev pub silent : SonicStream → ℕ → List Frame
 silent s n = replicate n (replicate s.channels (pos 0))
 
-abbrev pub flush_answer : SonicStream → ℕ → Work → Wrote
-flush_answer s e r = answer_by s (cleared_after s e) r
-
 module _ (s : SonicStream) (a b : Areas) (n : ℕ) (p : Accepted s a n) (count : n ≡ 2 * max_required s.rate) (input : List ℤ)
     (h : Behind s.channels s.held.0 n a.input input (silent s n)) (e : ℕ)
     (few : e ≡ expected_frames s.held.0 s.tail.0 s.speed s.pitch) where
   abbrev made : Made
   made = work_of s a (silent s n)
 
-  done : (o : Told) (t : SonicStream) → WorkedAs (joined_stream n s) made (areas input a.stage a.output a.scratch) b o t
-      → CallAnswered s.channels (accepted_call s a made.told (cleared made.state) (take e made.frames)) (Wrote.Done o (cleared_after s e t)) b
-  unfolding cleared frames_of joined state_of stream_of
-  done o t w =
-      let order = worked-in-order s t a (silent s n) _ p.in_order w.stream w.ready in
-      let output = expected-front s.channels s.waiting.0 e a.output b.output made.frames w.waiting in
-      call-done s _ a b o made.told (cleared made.state) (take e made.frames) w.told
-      (cleared-is s t made.state e made.frames w.stream) (cleared-in-order t made.state _ _ w.stream order) refl refl output
+  -- the areas that the work begins with
+  abbrev begun : Areas
+  begun = areas input a.stage a.output a.scratch
 
-  pub flush-answered : (r : Work) → AddEnsures s n (areas input a.stage a.output a.scratch) b r
-      → CallAnswered s.channels (flush_call s a) (flush_answer s e r) b
+  pub flush-refused : (r : Refused) → WorkAnswered s n (areas input a.stage a.output a.scratch) b (Err r)
+      → CallAnswered s.channels (flush_call s a) (Err r) b
   unfolding flush_call flush_work state_of
-  flush-answered r w =
+  flush-refused r w =
       rw (expected-is s a, ← few, ← count)
-      (added-answered s a b n p input (silent s n) h (accepted_call s a made.told (cleared made.state) (take e made.frames))
-      (cleared_after s e) done r w)
+      (added-refused s a b n p input (silent s n) h (accepted_call s a made.told (cleared made.state) (take e made.frames)) r w.1 w.0)
+
+  -- what is handed back
+  abbrev kept : Wrote → Wrote
+  kept w = record { told = w.told; stream = cleared_after s e w.stream }
+
+  done : (w : Wrote) → WorkedAs (joined_stream n s) made begun b w
+      → CallAnswered s.channels (accepted_call s a made.told (cleared made.state) (take e made.frames)) (Ok (kept w)) b
+  unfolding cleared frames_of joined state_of stream_of
+  done w r =
+      let t = w.stream in
+      let order = worked-in-order s t a (silent s n) _ p.in_order r.stream r.ready in
+      let output = expected-front s.channels s.waiting.0 e a.output b.output made.frames r.waiting in
+      call-done s a b (kept w) made.told (cleared made.state) (take e made.frames) r.told
+      (cleared-is s t made.state e made.frames r.stream) (cleared-in-order t made.state _ _ r.stream order) refl refl output
+
+  pub flush-done : (w : Wrote) → AddEnsures s n (areas input a.stage a.output a.scratch) b (Ok w)
+      → CallAnswered s.channels (flush_call s a) (Ok (record { told = w.told; stream = cleared_after s e w.stream })) b
+  unfolding flush_call flush_work state_of
+  flush-done w r =
+      rw (expected-is s a, ← few, ← count, added-none s a b n p input (silent s n) h w r)
+      (done w (added-worked s a b n p input (silent s n) h w r))

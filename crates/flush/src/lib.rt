@@ -28,7 +28,7 @@ fn cleared(stream: SonicStream, waiting: Frames, expected: Frames) -> SonicStrea
         time_error: 0.0,
         held: Frames(0),
         tail: Frames(0),
-        waiting: Frames(waiting.0 + made.min(expected.0)),
+        waiting: Frames(waiting.0 + expected.0.min(made)),
         ..stream
     }
 }
