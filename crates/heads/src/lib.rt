@@ -178,9 +178,9 @@ pub fn begin<R: Read>(
 {
     let mut head = [0u8; chunks::FILE_HEAD];
     let first = filled(reader, &mut head[..4])?;
-    let number = chunks::u32_at(&head, 0);
-    if !named && number != chunks::RIFF {
-        return Ok(Input::Raw(Source::begun(number, first)));
+    let is_riff = head.starts_with(&chunks::RIFF);
+    if !named && !is_riff {
+        return Ok(Input::Raw(Source::begun(chunks::u32_at(&head, 0), first)));
     }
     let others = filled(reader, &mut head[4..])?;
     if others < 8 || !chunks::is_wave(&head) {
