@@ -37,7 +37,7 @@ pub fn name<'a>(env: &impl Env, place: usize, text: &'a mut [u8]) -> Result<&'a 
     let n = match env.arg(place, text) {
         Ok(n) => n,
         Err(FillError::NotPresent) => 0,
-        Err(FillError::TooLong) => return Err(naming::too_long()),
+        Err(FillError::TooLong) => return Err(Error::from_raw_os_error(naming::TOO_LONG)),
     };
     str::from_utf8(&text[..n]).map_err(|_| Error::new(
         ErrorKind::InvalidFilename,

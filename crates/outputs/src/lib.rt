@@ -5,10 +5,10 @@
 pub mod names;
 
 ghost use Rattle.std.specs.Prelude.{◌≡◌, ◌≤◌, IfSome};
-ghost use Rattle.period.specs.Rates.{InLimits};
+ghost use Rattle.outputs.specs.declared.SizesError.TheVariants.{Unset};
 ghost use Rattle.outputs.specs.Tracks.{most_bytes, track_bytes};
 
-use plans::Plan;
+use plans::Opening;
 use ports::Outgoing;
 use ports::standing::Stream;
 use std::fs::{OpenFile, OpenOptions};
@@ -29,18 +29,19 @@ pub enum SizesError {
 }
 
 impl From<Error> for SizesError {
+    ghost from_gives = { λ error sizes. sizes ≡ Unset error };
+
     fn from(error: Error) -> SizesError {
         SizesError::Unset(error)
     }
 }
 
 // The bytes of a track, if the sizes of a WAVE file can tell them.
-fn track_bytes(frames: u64, plan: Plan) -> Option<u32>
-    requires { InLimits plan.rate plan.channels }
-    ensures exact { result ≡ track_bytes plan frames }
+fn track_bytes(frames: u64, opening: Opening) -> Option<u32>
+    ensures exact { result ≡ track_bytes opening.channels frames }
     ensures told { IfSome result (λ bytes. bytes ≤ most_bytes) }
 {
-    let frame = 2 * (plan.channels as u64);
+    let frame = 2 * (opening.channels as u64);
     let bytes = frames.checked_mul(frame)?;
     if bytes > chunks::MOST_BYTES as u64 {
         return None;
@@ -76,11 +77,14 @@ pub fn place(files: &impl Files, output: &mut Outgoing) -> io::Result<u64> {
 }
 
 // Writes the head of a track whose length is not known yet.
-pub fn write_head<W: Write>(to: &mut W, plan: Plan) -> io::Result<()>
-    requires { InLimits plan.rate plan.channels }
-{
+pub fn write_head<W: Write>(to: &mut W, opening: Opening) -> io::Result<()> {
     let mut head = [0u8; chunks::HEAD_BYTES];
-    chunks::put_head(&mut head, plan.rate as u32, plan.channels as u32, UNKNOWN);
+    chunks::put_head(
+        &mut head,
+        opening.rate as u32,
+        opening.channels as u32,
+        UNKNOWN,
+    );
     to.write_all(&head)
 }
 
@@ -122,14 +126,17 @@ pub fn end(
     output: &mut Outgoing,
     frames: u64,
     place: io::Result<u64>,
-    plan: Plan,
-) -> Result<(), SizesError>
-    requires { InLimits plan.rate plan.channels }
-{
-    let size = track_bytes(frames, plan).ok_or(SizesError::TooLong)?;
+    opening: Opening,
+) -> Result<(), SizesError> {
+    let size = track_bytes(frames, opening).ok_or(SizesError::TooLong)?;
     let at = place?;
     let mut head = [0u8; chunks::HEAD_BYTES];
-    chunks::put_head(&mut head, plan.rate as u32, plan.channels as u32, size);
+    chunks::put_head(
+        &mut head,
+        opening.rate as u32,
+        opening.channels as u32,
+        size,
+    );
     match output {
         Outgoing::Standard(_) => set_standard_sizes(files, &head, at)?,
         Outgoing::Named(file) => set_sizes(file, &head, at)?,

@@ -1,5 +1,8 @@
 // A file that is named: it is written beside its name, and gets it when it is whole. `process` is the number of this
 // process.
+ghost use Rattle.std.specs.Prelude.{◌≡◌};
+ghost use Rattle.outputs.specs.declared.names.MadeError.TheVariants.{Failed};
+
 use ports::naming;
 use std::fs::{OpenFile, OpenOptions};
 use std::io::{Cursor, Error, ErrorKind, Write};
@@ -14,6 +17,8 @@ pub enum MadeError {
 }
 
 impl From<Error> for MadeError {
+    ghost from_gives = { λ error made. made ≡ Failed error };
+
     fn from(error: Error) -> MadeError {
         MadeError::Failed(error)
     }
@@ -32,7 +37,7 @@ fn free(files: &impl Files, name: &str) -> io::Result<bool> {
 fn part_of<'a>(name: &str, process: u32, part: &'a mut [u8]) -> io::Result<&'a str> {
     let mut text = Cursor::new(part);
     if write!(text, "{name}.{process}.part").is_err() {
-        return Err(naming::too_long());
+        return Err(Error::from_raw_os_error(naming::TOO_LONG));
     }
     let end = text.position() as usize;
     let bytes = text.into_inner().get(..end).unwrap_or(b"");
@@ -54,11 +59,7 @@ fn create<R: Files>(files: &R, process: u32, name: &str) -> io::Result<R::File> 
 }
 
 // Makes the file of this name.
-pub fn open<R: Files>(
-    files: &R,
-    process: u32,
-    name: &str,
-) -> Result<R::File, MadeError> {
+pub fn open<R: Files>(files: &R, process: u32, name: &str) -> Result<R::File, MadeError> {
     if !free(files, name)? {
         return Err(MadeError::Special);
     }

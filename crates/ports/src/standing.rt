@@ -1,5 +1,8 @@
 // Where a stream stands in its file, and how that was opened, which std does not say: /proc/self/fdinfo tells it, in a
 // text that begins with a line of the position, in decimal, and a line of flags, in octal.
+ghost use Rattle.std.specs.Prelude.{◌≡◌};
+ghost use Rattle.ports.specs.Streams.{name_of};
+
 use std::io::Read;
 use std::rt::Files;
 use std::{fs, str};
@@ -56,7 +59,9 @@ fn told_in(files: &impl Files, path: &str) -> Option<Place> {
 
 impl Stream {
     // Its name, which opens its file anew.
-    pub fn name(self) -> &'static str {
+    pub fn name(self) -> &'static str
+        ensures { result.now ≡ name_of self }
+    {
         match self {
             Stream::Input => "/proc/self/fd/0",
             Stream::Output => "/proc/self/fd/1",
