@@ -1,11 +1,14 @@
-// What the skim tool tells, piece by piece; `waves` has what is told of WAVE files. That a write failed is not told.
+// What the skim tool tells, piece by piece; `waves` has what is told of WAVE files, and `status` how a run ends. That a
+// write failed is not told.
 #![tactic(auto)]
 
+mod status;
 pub mod waves;
 
+pub use status::Status;
 use std::io::{Cursor, Error, Write};
 use std::str;
-use stream::refusals;
+use stream::Refusal;
 
 // Says a text on standard error.
 pub fn text(rt: &impl Eprint, text: &str) {
@@ -37,25 +40,7 @@ pub fn failure(rt: &impl Eprint, name: &str, error: &Error) {
 }
 
 // A refusal's number, and what it means.
-pub fn refused(rt: &impl Eprint, refusal: u32) {
-    number(rt, "skim: refused with number ", refusal as u64);
-    match refusal {
-        refusals::BAD_RATE => text(rt, ": the rate is out of range\n"),
-        refusals::BAD_CHANNELS => text(rt, ": the channels are out of range\n"),
-        refusals::BAD_STREAM => text(rt, ": the stream is not in order\n"),
-        refusals::BAD_AREAS => text(rt, ": an area is too short for what the stream holds\n"),
-        refusals::INPUT_FULL => text(rt, ": the input area is full\n"),
-        refusals::STAGE_FULL => text(rt, ": the stage area is full\n"),
-        refusals::OUTPUT_FULL => text(rt, ": the output area is full\n"),
-        refusals::NOT_WAVE => text(rt, ": the file does not begin with RIFF and WAVE\n"),
-        refusals::BAD_SIZE => text(rt, ": a chunk of the WAVE file ends past the file\n"),
-        refusals::BAD_FORMAT => text(
-            rt,
-            ": the WAVE file has no samples that are read: 16-bit PCM, 1000 to 500000 Hz, 1 to 32 channels\n",
-        ),
-        _ => text(
-            rt,
-            ": a total of frames skipped or inserted would pass 64 bits\n",
-        ),
-    }
+pub fn refused(rt: &impl Eprint, refusal: Refusal) {
+    number(rt, "skim: refused with number ", u32::from(refusal) as u64);
+    let _ = eprintln!(rt; ": {refusal}");
 }

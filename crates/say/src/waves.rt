@@ -1,8 +1,11 @@
 // What is told of WAVE files.
-use crate::{failure, number, refused, text};
+ghost use Rattle.std.specs.Prelude.{◌≡◌};
+ghost use Rattle.say.specs.declared.status.Status.TheVariants.{Incomplete};
+
+use crate::{Status, failure, number, refused, text};
 use chunks::Format;
 use std::io::{Error, ErrorKind};
-use stream::refusals;
+use stream::Refusal;
 
 // The least size that programs write to a pipe, since they cannot know the right one: 0x7ffff000 by sox, 2^32 − 1 by
 // ffmpeg.
@@ -43,14 +46,14 @@ fn say_size(rt: &impl Eprint, size: u64) {
 }
 
 // The format of samples that are not read, and commands that make 16-bit PCM of them.
-fn say_format(rt: &impl Eprint, format: Format) {
-    if !format.found {
+fn say_format(rt: &impl Eprint, format: Option<Format>) {
+    let Some(format) = format else {
         text(
             rt,
             "skim: it has no fmt chunk of 16 bytes or more before its data chunk, or neither\n",
         );
         return;
-    }
+    };
     if chunks::is_read(format) {
         text(rt, "skim: it has no data chunk\n");
         return;
@@ -77,23 +80,23 @@ fn say_format(rt: &impl Eprint, format: Format) {
 }
 
 // A file that is refused before anything is written: the number and what it means, what helps, and the last line.
-// Answers the status.
-pub fn say_refused(rt: &impl Eprint, refusal: u32, format: Format, size: u64) -> u64 {
+pub fn say_refused(rt: &impl Eprint, refusal: Refusal, format: Option<Format>, size: u64) -> Status
+    ensures { result ≡ Incomplete }
+{
     refused(rt, refusal);
-    if refusal == refusals::BAD_SIZE {
-        say_size(rt, size);
+    match refusal {
+        Refusal::BadSize => say_size(rt, size),
+        Refusal::BadFormat => say_format(rt, format),
+        _ => (),
     }
-    if refusal == refusals::BAD_FORMAT {
-        say_format(rt, format);
-    }
-    number(rt, "skim: refusal=", refusal as u64);
+    number(rt, "skim: refusal=", u32::from(refusal) as u64);
     text(rt, " status=1\n");
-    1
+    Status::Incomplete
 }
 
 // A data chunk of which so many bytes did not come.
 pub fn say_cut(rt: &impl Eprint, size: u64, left: u64) {
-    refused(rt, refusals::BAD_SIZE);
+    refused(rt, Refusal::BadSize);
     say_size(rt, size);
     number(
         rt,
