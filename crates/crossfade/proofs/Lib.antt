@@ -1,4 +1,3 @@
-pub mod Reciprocal
 pub mod WeightedMean
 pub mod Crossfading
 pub mod Figures

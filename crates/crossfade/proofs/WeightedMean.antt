@@ -1,7 +1,7 @@
 -- A weighted mean of two samples, step by step as the code computes it: each step fits its type, and the mean is a sample.
 -- `Ramp` names once what a crossfade's sample is given. In order: bounds; what the code computes; its steps.
 -- Assumes nothing.
-use mathlib.Core.Path.{◌≡◌, ◌∙◌, subst}
+use mathlib.Core.Path.{◌≡◌, ap, ◌∙◌, subst}
 use Prim.Native.Nat.{ℕ, suc, ◌+◌, ◌-◌, ◌*◌, ◌/◌, ◌≤◌, ◌<◌}
 use native.Mathlib.Nat.{le_of_lt, mul-le-mul_right, div-le_of_le-mul, div-lt_iff_lt-mul, mul_comm}
 use native.Mathlib.Omega.{arith}
@@ -113,3 +113,8 @@ module _ {down up : ℤ} {k t : ℕ} (r : Ramp down up k t) where
   -- the mean
   pub mean-fits : SFits w16 (mean down up k t)
   mean-fits = record { sfits = mag-quot (sum down up k t) k sum-mag (omega (arith, r.inside)) }
+
+  -- as `divide` gives it
+  pub mean-reads : {share : ℤ} → SFits w32 share
+      → share ≡ quot_z (i32 (i32 (i32 (i16 down) *ℤ i32 (to_z w32 k -ℤ to_z w32 t)) +ℤ i32 (i32 (i16 up) *ℤ to_z w32 t))) (pos k) → i32 share ≡ mean down up k t
+  mean-reads fits e = to_z-of_z fits ∙ e ∙ ap (λ (z : ℤ). quot_z z (pos k)) sum-reads

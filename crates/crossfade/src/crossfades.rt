@@ -4,157 +4,94 @@ ghost use Rattle.std.specs.Prelude.{◌≡◌, ◌+◌, ◌*◌, ◌≤◌, ◌<
 ghost use Rattle.std.specs.Int.Signed.{quot_z};
 ghost use Rattle.std.proofs.Math.Seq.{paste};
 ghost use Rattle.crossfade.specs.Crossfade.{crossfade_sample, crossfade_frame, overlap_add};
-ghost use Rattle.laws.specs.Reciprocal.{reciprocal_of};
 ghost use Rattle.search.specs.Search.{longest_period};
 
 use frames::{Frames, Samples};
+use reciprocals::Reciprocal;
 
-// The parts of 1 in which a reciprocal is counted.
-const RECIPROCAL_PARTS: u64 = 0x1000_0000_0000;
-
-// The reciprocal of k.
-fn reciprocal_of(k: usize) -> u64
-    ensures { result ≡ reciprocal_of k }
-{
-    let n = k as u64;
-    if n == 0 { 1 } else { RECIPROCAL_PARTS / n + 1 }
+// A crossfade of k frames of the input: those from the place `down` on fade into those from the place `up` on.
+#[derive(Clone, Copy)]
+struct Crossfade<'a> {
+    k: Reciprocal,
+    channels: usize,
+    input: &'a [i16],
+    down: Samples,
+    up: Samples,
+    ghost short: { k.of ≤ longest_period },
+    ghost down_within: { down.0 + k.of * channels ≤ length input.now },
+    ghost up_within: { up.0 + k.of * channels ≤ length input.now },
 }
 
-// |sum|
-fn size_of(sum: i32) -> u64
-    requires { nat_abs sum < 0x8000_0000 }
-    ensures { result ≡ nat_abs sum }
+// A sum of k samples divided by k, toward zero.
+fn divide(sum: i32, k: Reciprocal) -> i32
+    requires { (1 ≤ k.of) × (k.of ≤ longest_period) × (nat_abs sum ≤ 32768 * k.of) }
+    ensures { result ≡ quot_z sum (pos k.of) }
 {
-    if sum < 0 {
-        (0 - sum) as u64
-    } else {
-        sum as u64
-    }
-}
-
-// A sum of k samples divided by k, toward zero: a multiplication by the reciprocal of k.
-fn divide(sum: i32, k: usize, reciprocal: u64) -> i32
-    requires { (1 ≤ k) × (k ≤ longest_period) × (nat_abs sum ≤ 32768 * k) × (reciprocal ≡ reciprocal_of k) }
-    ensures { result ≡ quot_z sum (pos k) }
-{
-    let share = (size_of(sum) * reciprocal / RECIPROCAL_PARTS) as i32;
-    if sum < 0 { 0 - share } else { share }
+    let share = k.divide(sum.unsigned_abs() as u64) as i32;
+    if sum < 0 { -share } else { share }
 }
 
 // A sample at step t of a crossfade of k steps.
-fn crossfade_sample(down: i16, up: i16, k: usize, t: usize, reciprocal: u64) -> i16
-    requires { (t < k) × (k ≤ longest_period) × (reciprocal ≡ reciprocal_of k) }
-    ensures { result ≡ crossfade_sample down up k t }
+fn crossfade_sample(down: i16, up: i16, t: usize, k: Reciprocal) -> i16
+    requires { (t < k.of) × (k.of ≤ longest_period) }
+    ensures { result ≡ crossfade_sample down up k.of t }
 {
-    let n = k as i32;
+    let n = k.of as i32;
     let m = t as i32;
     let sum = (down as i32) * (n - m) + (up as i32) * m;
-    divide(sum, k, reciprocal) as i16
+    divide(sum, k) as i16
 }
 
-// Writes the frame at step t of a crossfade of k steps, which stands at the places `down` and `up` of the input, at the
-// place `to` of the area.
-fn crossfade_frame(
-    k: usize,
-    t: usize,
-    reciprocal: u64,
-    channels: usize,
-    input: &[i16],
-    down: Samples,
-    up: Samples,
-    area: &mut [i16],
-    to: Samples,
-)
-    requires t_lt_k { (t < k) × (k ≤ longest_period) × (reciprocal ≡ reciprocal_of k) }
-    requires channels_in_bounds { (down.0 + channels ≤ length input.now) × (up.0 + channels ≤ length input.now)
-        × (to.0 + channels ≤ length area.old) }
+// Writes frame t of a crossfade at the place `to` of the area.
+fn crossfade_frame(fade: Crossfade, t: usize, area: &mut [i16], to: Samples)
+    requires t_lt_k { t < fade.k.of }
+    requires channels_in_bounds { to.0 + fade.channels ≤ length area.old }
     ensures { area.new ≡ paste area.old to.0
-        (crossfade_frame k t (drop down.0 input.now) (drop up.0 input.now) channels)
-        channels }
+        (crossfade_frame fade.entry.k.of t (drop (fade.entry.down.0 + t * fade.entry.channels) fade.entry.input.now)
+        (drop (fade.entry.up.0 + t * fade.entry.channels) fade.entry.input.now) fade.entry.channels)
+        fade.entry.channels }
 {
-    let from = down.0;
-    let into = up.0;
+    let past = t * fade.channels;
+    let from = fade.down.0 + past;
+    let into = fade.up.0 + past;
     let at = to.0;
-    let mut i: usize = 0;
-    while i < channels {
-        let a = input[from + i];
-        let b = input[into + i];
-        let sample = crossfade_sample(a, b, k, t, reciprocal);
+    for i in 0..fade.channels {
+        let a = fade.input[from + i];
+        let b = fade.input[into + i];
+        let sample = crossfade_sample(a, b, t, fade.k);
         area[at + i] = sample;
-        i += 1;
     }
 }
 
 // `overlap_add` for any number of channels, frame by frame: each is a step.
-fn crossfade_frames(
-    k: Frames,
-    reciprocal: u64,
-    channels: usize,
-    input: &[i16],
-    down: Samples,
-    up: Samples,
-    area: &mut [i16],
-    to: Samples,
-)
-    requires k_le_longest_period { (k.0 ≤ longest_period) × (reciprocal ≡ reciprocal_of k.0) }
-    requires channels_in_bounds { (down.0 + k.0 * channels ≤ length input.now)
-        × (up.0 + k.0 * channels ≤ length input.now)
-        × (to.0 + k.0 * channels ≤ length area.old) }
+fn crossfade_frames(fade: Crossfade, area: &mut [i16], to: Samples)
+    requires { to.0 + fade.k.of * fade.channels ≤ length area.old }
     ensures { area.new ≡ paste area.old to.0
-        (overlap_add k.0 channels (drop down.0 input.now) (drop up.0 input.now))
-        (k.0 * channels) }
+        (overlap_add fade.entry.k.of fade.entry.channels (drop fade.entry.down.0 fade.entry.input.now) (drop fade.entry.up.0 fade.entry.input.now))
+        (fade.entry.k.of * fade.entry.channels) }
 {
-    let n = k.0;
-    let from = down.0;
-    let into = up.0;
     let at = to.0;
-    let mut past: usize = 0;
-    let mut t: usize = 0;
-    while t < n {
-        crossfade_frame(
-            n,
-            t,
-            reciprocal,
-            channels,
-            input,
-            Samples(from + past),
-            Samples(into + past),
-            area,
-            Samples(at + past),
-        );
-        past += channels;
-        t += 1;
+    for t in 0..fade.k.of {
+        crossfade_frame(fade, t, area, Samples(at + t * fade.channels));
     }
 }
 
 // `overlap_add` for one channel, sample by sample: each is a step.
-fn crossfade_mono(
-    count: Samples,
-    reciprocal: u64,
-    input: &[i16],
-    down: Samples,
-    up: Samples,
-    area: &mut [i16],
-    to: Samples,
-)
-    requires count_le_longest_period { (count.0 ≤ longest_period) × (reciprocal ≡ reciprocal_of count.0) }
-    requires count_in_bounds { (down.0 + count.0 ≤ length input.now) × (up.0 + count.0 ≤ length input.now)
-        × (to.0 + count.0 ≤ length area.old) }
+fn crossfade_mono(fade: Crossfade, area: &mut [i16], to: Samples)
+    requires one { fade.channels ≡ 1 }
+    requires count_in_bounds { to.0 + fade.k.of ≤ length area.old }
     ensures { area.new ≡ paste area.old to.0
-        (overlap_add count.0 1 (drop down.0 input.now) (drop up.0 input.now))
-        count.0 }
+        (overlap_add fade.entry.k.of 1 (drop fade.entry.down.0 fade.entry.input.now) (drop fade.entry.up.0 fade.entry.input.now))
+        fade.entry.k.of }
 {
-    let n = count.0;
-    let from = down.0;
-    let into = up.0;
+    let from = fade.down.0;
+    let into = fade.up.0;
     let at = to.0;
-    let mut i: usize = 0;
-    while i < n {
-        let a = input[from + i];
-        let b = input[into + i];
-        let sample = crossfade_sample(a, b, n, i, reciprocal);
-        area[at + i] = sample;
-        i += 1;
+    for t in 0..fade.k.of {
+        let a = fade.input[from + t];
+        let b = fade.input[into + t];
+        let sample = crossfade_sample(a, b, t, fade.k);
+        area[at + t] = sample;
     }
 }
 
@@ -177,10 +114,16 @@ pub fn overlap_add(
         (overlap_add k.0 channels (drop down.0 input.now) (drop up.0 input.now))
         (k.0 * channels) }
 {
-    let reciprocal = reciprocal_of(k.0);
+    let fade = Crossfade {
+        k: Reciprocal::new(k.0),
+        channels,
+        input,
+        down,
+        up,
+    };
     if channels == 1 {
-        crossfade_mono(k.samples(1), reciprocal, input, down, up, area, to);
+        crossfade_mono(fade, area, to);
     } else {
-        crossfade_frames(k, reciprocal, channels, input, down, up, area, to);
+        crossfade_frames(fade, area, to);
     }
 }

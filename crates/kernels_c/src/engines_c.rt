@@ -13,6 +13,7 @@ ghost use Rattle.crossfade.specs.Crossfade.{overlap_add};
 ghost use Rattle.volume.specs.Volume.{scaled};
 
 use frames::{Frames, Samples};
+use sinc::table::SincTable;
 
 // A search's answer.
 #[repr(C)]
@@ -120,7 +121,7 @@ pub extern "C" fn kernel_interpolate_frame(
         (interpolate_frame stage.now channels ratio width) channels }
 {
     sinc::interpolate_frame(
-        table,
+        SincTable { entries: table },
         stage,
         Samples(0),
         channels,

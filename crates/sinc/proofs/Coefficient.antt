@@ -1,15 +1,12 @@
 -- The coefficient of a tap: its table place and remainder, its size, and each step by which `find_sinc_coefficient` computes it.
--- In order: the reciprocal of N; place and remainder; a blend of two entries; the steps of the code; the size of a coefficient. Assumes nothing.
+-- In order: place and remainder; a blend of two entries; the steps of the code; the size of a coefficient. Assumes nothing.
 use mathlib.Core.Path.{◌≡◌, ap, ◌∙◌}
 use mathlib.Core.Bool.{Bool, true, false}
 use Prim.Native.Nat.{ℕ, ◌+◌, ◌-◌, ◌*◌, ◌/◌, ◌%◌, ◌≤◌, ◌<◌}
 use native.Mathlib.Nat.{
-  le_trans,
   add-mul,
   mul_comm,
-  mul-le-mul,
   mul-le-mul_right,
-  div-le_self,
   div-le_of_le-mul,
   div-lt_iff_lt-mul,
   div-add-mod',
@@ -22,7 +19,6 @@ use lib.Signed.{quot_z}
 use mir.Syntax.{w16, w64}
 use mir.Val.{SFits, to_z}
 use mir.Facts.{to_z-of_z, to_z_pos}
-use Rattle.laws.specs.Reciprocal.{reciprocal_parts, reciprocal_of}
 use Rattle.laws.proofs.Integers.{sfits-of-nat_abs, pos-sub}
 use Rattle.laws.proofs.Widening.{i16, i64, widened-reads}
 use Rattle.sinc.specs.SincTable.{sinc_table, sinc_table_size}
@@ -30,17 +26,6 @@ use Rattle.sinc.specs.Sinc.{sinc_filter_points, lobe_points, max_width, table_pl
 use Rattle.sinc.specs.Lobes.{below_zero, OnSide, EntriesOnSide}
 use Rattle.sinc.proofs.TableRule.{entry-abs}
 use Rattle.sinc.proofs.Lobes.{signed, nat_abs-signed, signed_add, signed-twice, quot-signed, side-mul, lobe-side}
-
--- ---- the reciprocal of N
-
-pub reciprocal-lt : (N : ℕ) → reciprocal_of N < 2 * reciprocal_parts
-reciprocal-lt N = omega (arith, div-le_self reciprocal_parts N)
-
--- it divides whatever is at most 65,534·N
-pub reciprocal-serves : (n N : ℕ) → N ≤ max_width → n ≤ 65534 * N → (n + N) * N ≤ reciprocal_parts
-reciprocal-serves n N narrow size =
-    let sum : n + N ≤ 1073725440 = omega arith in
-    le_trans (mul-le-mul sum narrow) (omega arith)
 
 -- ---- place and remainder
 

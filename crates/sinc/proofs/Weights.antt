@@ -1,8 +1,8 @@
--- Weights that stand from a place on: which are coefficients, a frame by them, and those of phases that are kept. Assumes nothing.
+-- Twelve weights: which are coefficients, and a frame by them. Assumes nothing.
 use mathlib.Core.Path.{◌≡◌, refl, ap, ◌∙◌}
 use mathlib.Core.Bool.{Bool, true, false}
 use mathlib.Core.List.{List}
-use Prim.Native.Nat.{ℕ, ◌+◌, ◌-◌, ◌*◌, ◌/◌, ◌%◌, ◌≤◌, ◌<◌}
+use Prim.Native.Nat.{ℕ, ◌+◌, ◌*◌, ◌<◌}
 use native.Mathlib.Omega.{arith}
 use borrow.Author.Tests.{ltb-true, ltb-false}
 use lib.Dec.{ltb}
@@ -10,8 +10,8 @@ use lib.IntN.{ℤ, pos}
 use lib.ListN.{length, get_or, set}
 use lib.Seq.{paste, get_or-set_same, get_or-set_other}
 use lib.Signed.{shr_z}
-use Rattle.sinc.specs.Sinc.{sinc_filter_points, sinc_coefficient, tap_sum, held_sample, interpolate, interpolate_frame}
-use Rattle.sinc.specs.Weights.{SmallWeights, weighted_sample, weighted_frame, CoefficientsAt, PhasesKept}
+use Rattle.sinc.specs.Sinc.{sinc_filter_points, tap_sum, held_sample, interpolate, interpolate_frame}
+use Rattle.sinc.specs.Weights.{SmallWeights, weighted_sample, weighted_frame, CoefficientsOf}
 use Rattle.sinc.proofs.Coefficient.{sinc_coefficient-abs}
 use Rattle.sinc.proofs.Tabulated.{tabulate-cong, tabulate-turn}
 use Rattle.sinc.proofs.Taps.{weighted_sum-cong}
@@ -36,40 +36,23 @@ filled-turn l n f v h filled e j k = go (ltb j n) refl
 -- ---- a frame by weights
 
 -- its sample of the channel c
-abbrev pub channel_sample : List ℤ → ℕ → List ℤ → ℕ → ℕ → ℤ
-channel_sample x channels weights at c = weighted_sample (λ i. get_or x (i * channels + c) (pos 0)) (λ i. get_or weights (at + i) (pos 0))
+abbrev pub channel_sample : List ℤ → ℕ → List ℤ → ℕ → ℤ
+channel_sample x channels weights c = weighted_sample (λ i. get_or x (i * channels + c) (pos 0)) (λ i. get_or weights i (pos 0))
 
 -- one sample more is written
-pub frame-turn : (out : List ℤ) (to : ℕ) (x : List ℤ) (channels : ℕ) (weights : List ℤ) (at c : ℕ) → to + c < length out → c < channels
-    → set (paste out to (weighted_frame x channels weights at) c) (to + c) (channel_sample x channels weights at c)
-    ≡ paste out to (weighted_frame x channels weights at) (c + 1)
+pub frame-turn : (out : List ℤ) (to : ℕ) (x : List ℤ) (channels : ℕ) (weights : List ℤ) (c : ℕ) → to + c < length out → c < channels
+    → set (paste out to (weighted_frame x channels weights) c) (to + c) (channel_sample x channels weights c)
+    ≡ paste out to (weighted_frame x channels weights) (c + 1)
 unfolding weighted_frame
-frame-turn out to x channels weights at c h k = tabulate-turn out to channels (channel_sample x channels weights at) c (pos 0) h k
+frame-turn out to x channels weights c h k = tabulate-turn out to channels (channel_sample x channels weights) c (pos 0) h k
 
--- ---- coefficients stand from `at` on
+-- ---- they are coefficients
 
-module _ {weights : List ℤ} {at r N : ℕ} (h : CoefficientsAt r N at weights) where
-  pub weights-small : r < N → SmallWeights at weights
+module _ {weights : List ℤ} {r N : ℕ} (h : CoefficientsOf r N weights) where
+  pub weights-small : r < N → SmallWeights weights
   weights-small k i l = rw (h.value i l) (sinc_coefficient-abs i r N l k)
 
-  pub weighted_frame-is : (x : List ℤ) (channels : ℕ) → weighted_frame x channels weights at ≡ interpolate_frame x channels r N
+  pub weighted_frame-is : (x : List ℤ) (channels : ℕ) → weighted_frame x channels weights ≡ interpolate_frame x channels r N
   unfolding weighted_frame weighted_sample interpolate_frame interpolate tap_sum
   weighted_frame-is x channels =
       tabulate-cong channels _ _ (λ c k. ap (λ (z : ℤ). held_sample (shr_z z 65536)) (weighted_sum-cong sinc_filter_points (λ i l. refl) h.value))
-
--- ---- the phases, one coefficient after the other
-
-abbrev pub phase_coefficient : ℕ → ℕ → ℕ → ℤ
-phase_coefficient step N m = sinc_coefficient (m % sinc_filter_points) (step * (m / sinc_filter_points + 1) - 1) N
-
--- all of them
-pub phases-filled : (step phases : ℕ) (kept : List ℤ) → sinc_filter_points * phases ≤ length kept
-    → Filled (sinc_filter_points * phases) (phase_coefficient step (step * phases)) kept → PhasesKept step phases kept
-phases-filled step phases kept h filled k l = record {
-  room = omega arith;
-  value = λ i q.
-      let m : ℕ = sinc_filter_points * k + i in
-      let phase : m / sinc_filter_points ≡ k = omega arith in
-      let tap : m % sinc_filter_points ≡ i = omega arith in
-      filled m (omega arith) ∙ (λ t. sinc_coefficient (tap t) (step * (phase t + 1) - 1) (step * phases));
-}

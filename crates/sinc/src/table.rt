@@ -1,4 +1,6 @@
 // The filter of the interpolation: 12 lobes of 50 points and the end. `specs/SincTable.antt` has the same list.
+ghost use Rattle.std.specs.Prelude.{◌≡◌};
+ghost use Rattle.sinc.specs.SincTable.{sinc_table};
 
 // The entries of the table.
 pub const SINC_TABLE_SIZE: usize = 601;
@@ -45,3 +47,10 @@ pub const SINC_TABLE: [i16; SINC_TABLE_SIZE] = [
     -37, -34, -32, -29, -26, -24, -21, -19, -17, -14, -12, -10, -9, -7, -6, -4, -3, -2, -2, -1, -1,
     0, 0, 0, 0, 0, 0, 0,
 ];
+
+// The table, lent.
+#[derive(Clone, Copy)]
+pub struct SincTable<'a> {
+    pub entries: &'a [i16],
+    ghost exact: { entries.now ≡ sinc_table },
+}

@@ -1,7 +1,7 @@
 -- `sinc::find_sinc_coefficient` meets its contract: each step fits by a fact of `Coefficient`. Assumes nothing.
-use mathlib.Core.Path.{◌≡◌, sym, ap, ◌∙◌, subst}
+use mathlib.Core.Path.{◌≡◌, refl, sym, ap, ◌∙◌, subst}
 use mathlib.Core.Bool.{Bool, true, false}
-use Prim.Native.Nat.{ℕ, ◌+◌, ◌/◌, ◌≤◌}
+use Prim.Native.Nat.{ℕ, ◌+◌, ◌/◌, ◌≤◌, ◌<◌}
 use native.Mathlib.Omega.{arith}
 use lib.IntN.{ℤ, pos, neg_ℤ, ◌-ℤ◌, +ℤ_idl}
 use lib.ListN.{length, get_or}
@@ -9,115 +9,78 @@ use mir.Syntax.{w32, w64}
 use mir.Val.{SFits, to_z}
 use mir.Facts.{to_z-of_z, to_z_pos, sfits_widen}
 use Rattle.laws.proofs.Integers.{sfits-of-nat_abs}
-use Rattle.laws.proofs.Widening.{i64, widened-fits}
+use Rattle.laws.proofs.Widening.{i64}
+use Rattle.sinc.specs.declared.table.SincTable.{SincTable}
 use Rattle.sinc.specs.SincTable.{sinc_table_size}
-use Rattle.sinc.specs.Sinc.{table_value}
+use Rattle.sinc.specs.Sinc.{max_width, table_value}
+use Rattle.sinc.specs.Lobes.{EntriesOnSide}
 use Rattle.sinc.proofs.TableRule.{sinc_table-length}
 use Rattle.sinc.proofs.Lobes.{signed, nat_abs-signed}
-use Rattle.sinc.proofs.Coefficient.{Blend, size, size-le, share-le, mean-is, entries, left-sample, right-sample}
-use Rattle.sinc.proofs.Coefficient.{twice-fits, rest-fits, left-fits, right-fits}
+use Rattle.sinc.proofs.Coefficient.{Blend, size, size-le, share-le, mean-is, entries}
+use Rattle.sinc.proofs.Coefficient.{left-fits}
 use Rattle.sinc.proofs.Coefficient.{sum_fits, sum-reads, left-size-fits, size_fits, size-reads}
 use Rattle.sinc.proofs.find_sinc_coefficient.Goals as goal
-use Rattle.sinc.proofs.find_sinc_coefficient.Goals.{After-divide, After-divide-2, After-right_value-1, Else-below, Start, Then-below}
+use Rattle.sinc.proofs.find_sinc_coefficient.Goals.{After-divide, After-divide-2, Else-below, Then-below}
 
--- ---- what is known at the start
+long : (t : SincTable) → length t.entries.now ≡ sinc_table_size
+long t = rw t.exact sinc_table-length
 
-module _ (c : Start) where
-  abbrev left-entry : ℤ
-  left-entry = get_or c.args.table.now c.args.left (pos 0)
+blended : (t : SincTable) (L e N : ℕ) {below b : Bool} → below ≡ b → (L + 1 < sinc_table_size) × (e < N) × (N ≤ max_width) × EntriesOnSide below L
+    → Blend b (get_or t.entries.now L (pos 0)) (get_or t.entries.now (L + 1) (pos 0)) N e
+blended t L e N {below} {b} same h = rw t.exact (entries b L e N h.0 h.1 (subst (λ (s : Bool). EntriesOnSide s L) same h.3))
 
-  abbrev right-entry : ℤ
-  right-entry = get_or c.args.table.now (c.args.left + 1) (pos 0)
+pub bounds-table-left : goal.bounds-table-left
+bounds-table-left c = omega (arith, long c.args.table, c.requires.0)
 
-  long : length c.args.table.now ≡ sinc_table_size
-  long = rw c.requires.0 sinc_table-length
+pub bounds-table-right : goal.bounds-table-right
+bounds-table-right c = omega (arith, long c.args.table, c.requires.0)
 
-  -- the entries, on the side b
-  abbrev Blended : Bool → Type 0
-  Blended b = Blend b left-entry right-entry c.args.width c.args.remainder
-
-  blended : Blended c.args.below
-  blended =
-      rw c.requires.0 (entries c.args.below c.args.left c.args.remainder c.args.width c.requires.1 c.requires.2 c.requires.5)
+pub overflow_mul-left_part : goal.overflow_mul-left_part
+overflow_mul-left_part c = left-fits (blended c.args.table c.args.left c.args.remainder c.args.width.of refl c.requires) c.requires.2
 
 -- a quotient q, with the sign of the side b
-record Quotient (c : Start) (b : Bool) (q : ℕ) : Type 0 where
+record Quotient (b : Bool) (value : ℤ) (q : ℕ) : Type 0 where
   small : q ≤ 65534
   reads : to_z w64 q ≡ pos q
   fits : SFits w32 (signed b q)
-  value : signed b q ≡ table_value c.args.left c.args.remainder c.args.width
+  is : signed b q ≡ value
 
-quotient : (c : Start) {b : Bool} → Blended c b → (q : ℕ)
-    → q ≡ size (left-entry c) (right-entry c) c.args.width c.args.remainder / c.args.width → Quotient c b q
-unfolding table_value
-quotient c {b} blend q is =
-    let small : q ≤ 65534 = omega (arith, is, share-le blend) in
-    record {
-      small = small;
-      reads = to_z_pos w64 (omega arith);
-      fits = sfits-of-nat_abs (signed b q) (omega (arith, nat_abs-signed b q));
-      value = rw c.requires.0 at (ap (signed b) is ∙ sym (mean-is blend));
-    }
-
--- both entries are read
-abbrev start : After-right_value-1 → Start
-start c = c.before.before
-
-pub bounds-table-left : goal.bounds-table-left
-bounds-table-left c = omega (arith, long c)
-
-pub overflow_cast-left_value : goal.overflow_cast-left_value
-overflow_cast-left_value c = widened-fits tt (left-sample (blended c.before))
-
-pub bounds-table-right : goal.bounds-table-right
-bounds-table-right c = omega (arith, long c.before)
-
-pub overflow_cast-right_value : goal.overflow_cast-right_value
-overflow_cast-right_value c = widened-fits tt (right-sample (blended (start c)))
-
-pub overflow_mul-e : goal.overflow_mul-e
-overflow_mul-e c = twice-fits (start c).args.remainder (omega (arith, (start c).requires.2, (start c).requires.3))
-
-pub overflow_mul-n : goal.overflow_mul-n
-overflow_mul-n c = twice-fits (start c).args.width (start c).requires.3
-
-pub overflow_sub-n : goal.overflow_sub-n
-overflow_sub-n c = rest-fits (blended (start c)) (start c).requires.3
-
-pub overflow_mul-left_part : goal.overflow_mul-left_part
-overflow_mul-left_part c = left-fits (blended (start c)) (start c).requires.3
-
-pub overflow_mul-right_part : goal.overflow_mul-right_part
-overflow_mul-right_part c = right-fits (blended (start c)) (start c).requires.3
+module _ (t : SincTable) (L e N : ℕ) {b : Bool} (blend : Blend b (get_or t.entries.now L (pos 0)) (get_or t.entries.now (L + 1) (pos 0)) N e) where
+  quotient : (q : ℕ) → q ≡ size (get_or t.entries.now L (pos 0)) (get_or t.entries.now (L + 1) (pos 0)) N e / N → Quotient b (table_value L e N) q
+  unfolding table_value
+  quotient q q_is =
+      let small : q ≤ 65534 = omega (arith, q_is, share-le blend) in
+      record {
+        small = small;
+        reads = to_z_pos w64 (omega arith);
+        fits = sfits-of-nat_abs (signed b q) (omega (arith, nat_abs-signed b q));
+        is = rw t.exact at (ap (signed b) q_is ∙ sym (mean-is blend));
+      }
 
 -- ---- the entries are not above zero
 
-module _ (c : Then-below) where
-  abbrev at-below : Start
-  at-below = start c.before
-
-  below-blended : Blended at-below true
-  below-blended = subst (Blended at-below) c.if-below.true (blended at-below)
+below-blended : (c : Then-below)
+    → Blend true (get_or c.args.table.entries.now c.args.left (pos 0)) (get_or c.args.table.entries.now (c.args.left + 1) (pos 0)) c.args.width.of c.args.remainder
+below-blended c =
+    blended c.args.table c.args.left c.args.remainder c.args.width.of c.if-below.true c.requires
 
 pub overflow_sub-size : goal.overflow_sub-size
-overflow_sub-size c = left-size-fits (below-blended c) (at-below c).requires.3
+overflow_sub-size c = left-size-fits (below-blended c) c.requires.2
 
 pub overflow_sub-size-then-below : goal.overflow_sub-size-then-below
-overflow_sub-size-then-below c = size_fits (below-blended c) (at-below c).requires.3
+overflow_sub-size-then-below c = size_fits (below-blended c) c.requires.2
 
 pub overflow_cast-size : goal.overflow_cast-size
-overflow_cast-size c = rw (size-reads (below-blended c) (at-below c).requires.3) (tt, record { fits = omega (arith, size-le (below-blended c), (at-below c).requires.3) })
+overflow_cast-size c = rw (size-reads (below-blended c) c.requires.2) (tt, record { fits = omega (arith, size-le (below-blended c), c.requires.2) })
 
-pub divide-requires : goal.divide-requires
-divide-requires c =
-    rw (size-reads (below-blended c) (at-below c).requires.3)
-    (omega (arith, (at-below c).requires.2), (at-below c).requires.3, size-le (below-blended c), (at-below c).requires.4)
+pub divide-requires-clause-size : goal.divide-requires-clause-size
+divide-requires-clause-size c = rw (size-reads (below-blended c) c.requires.2) (omega (arith, size-le (below-blended c)))
 
 module _ (c : After-divide) where
-  below_quotient : Quotient (at-below c.before) true c.divide.result
+  below_quotient : Quotient true (table_value c.args.left c.args.remainder c.args.width.of) c.divide.result
   below_quotient =
-      let s = at-below c.before in
-      quotient s (below-blended c.before) c.divide.result (rw (size-reads (below-blended c.before) s.requires.3) at c.divide.ensures)
+      let b = below-blended c.before in
+      quotient c.args.table c.args.left c.args.remainder c.args.width.of b c.divide.result (rw (size-reads b c.requires.2) at c.divide.ensures)
 
   negated-is : pos 0 -ℤ to_z w64 c.divide.result ≡ signed true c.divide.result
   negated-is = rw below_quotient.reads (+ℤ_idl (neg_ℤ (pos c.divide.result)))
@@ -135,38 +98,31 @@ pub overflow_cast-result-then-below : goal.overflow_cast-result-then-below
 overflow_cast-result-then-below c = rw (negated-reads c) (below_quotient c).fits
 
 pub returns-then-below : goal.returns-then-below
-returns-then-below c = rw (negated-reads c, to_z-of_z (below_quotient c).fits) (below_quotient c).value
+returns-then-below c = rw (negated-reads c, to_z-of_z (below_quotient c).fits) (below_quotient c).is
 
 -- ---- the entries are not below zero
 
-module _ (c : Else-below) where
-  abbrev at_above : Start
-  at_above = start c.before
-
-  above-blended : Blended at_above false
-  above-blended = subst (Blended at_above) c.if-below.false (blended at_above)
+above-blended : (c : Else-below)
+    → Blend false (get_or c.args.table.entries.now c.args.left (pos 0)) (get_or c.args.table.entries.now (c.args.left + 1) (pos 0)) c.args.width.of c.args.remainder
+above-blended c =
+    blended c.args.table c.args.left c.args.remainder c.args.width.of c.if-below.false c.requires
 
 pub overflow_add-size : goal.overflow_add-size
-overflow_add-size c = sum_fits (above-blended c) (at_above c).requires.3
+overflow_add-size c = sum_fits (above-blended c) c.requires.2
 
 pub overflow_cast-size-2 : goal.overflow_cast-size-2
-overflow_cast-size-2 c = rw (sum-reads (above-blended c) (at_above c).requires.3) (tt, record { fits = omega (arith, size-le (above-blended c), (at_above c).requires.3) })
+overflow_cast-size-2 c = rw (sum-reads (above-blended c) c.requires.2) (tt, record { fits = omega (arith, size-le (above-blended c), c.requires.2) })
 
-pub divide-requires-2 : goal.divide-requires-2
-divide-requires-2 c =
-    rw (sum-reads (above-blended c) (at_above c).requires.3)
-    (omega (arith, (at_above c).requires.2), (at_above c).requires.3, size-le (above-blended c), (at_above c).requires.4)
+pub divide-requires-2-clause-size : goal.divide-requires-2-clause-size
+divide-requires-2-clause-size c = rw (sum-reads (above-blended c) c.requires.2) (omega (arith, size-le (above-blended c)))
 
-above_quotient : (c : After-divide-2) → Quotient (at_above c.before) false c.divide-2.result
+above_quotient : (c : After-divide-2) → Quotient false (table_value c.args.left c.args.remainder c.args.width.of) c.divide-2.result
 above_quotient c =
-    let s = at_above c.before in
-    quotient s (above-blended c.before) c.divide-2.result (rw (sum-reads (above-blended c.before) s.requires.3) at c.divide-2.ensures)
+    let b = above-blended c.before in
+    quotient c.args.table c.args.left c.args.remainder c.args.width.of b c.divide-2.result (rw (sum-reads b c.requires.2) at c.divide-2.ensures)
 
 pub overflow_cast-result-2 : goal.overflow_cast-result-2
-overflow_cast-result-2 c = sfits_widen tt (above_quotient c).fits
-
-pub overflow_cast-result-3 : goal.overflow_cast-result-3
-overflow_cast-result-3 c = rw (above_quotient c).reads (above_quotient c).fits
+overflow_cast-result-2 c = record { sfits = omega (arith, (above_quotient c).small) }
 
 pub returns : goal.returns
-returns c = rw ((above_quotient c).reads, to_z-of_z (above_quotient c).fits) (above_quotient c).value
+returns c = to_z_pos w32 (omega (arith, (above_quotient c).small)) ∙ (above_quotient c).is

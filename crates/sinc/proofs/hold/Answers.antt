@@ -1,46 +1,33 @@
 -- `sinc::hold` meets its contract. Assumes nothing.
-use mathlib.Core.Path.{◌≡◌}
-use mathlib.Core.Bool.{true, false}
+use mathlib.Core.Path.{◌≡◌, refl, ◌∙◌}
+use mathlib.Core.Bool.{true, false, cond}
 use native.Mathlib.Omega.{arith}
-use borrow.Author.Tests.{ltb-false}
 use lib.IntN.{ℤ, pos, negsuc}
-use lib.Signed.{lt_z}
+use lib.Dec.{leb→le}
+use lib.Signed.{lt_z, ◌≤ℤ◌}
 use mir.Syntax.{w16, w64}
 use mir.Val.{SFits}
 use mir.Facts.{to_z-of_z}
+use Rattle.std.specs.Int.{int_max, int_min}
 use Rattle.frames.specs.Clamp.{clamp_z}
 use Rattle.sinc.specs.Sinc.{held_sample}
 use Rattle.sinc.proofs.hold.Goals as goal
-use Rattle.sinc.proofs.hold.Goals.{Else-z-gt32767, Else-z-ltminus32768}
 
-between-fits : (z : ℤ) → lt_z (pos 32767) z ≡ false → lt_z z (negsuc 32767) ≡ false → SFits w16 z
-between-fits (pos n) above below = record { sfits = omega (arith, ltb-false 32767 n above) }
-between-fits (negsuc n) above below = record { sfits = omega (arith, ltb-false 32767 n below) }
+-- the library's clamp is that of the rules
+clamped : (z : ℤ) → int_max (negsuc 32767) (int_min z (pos 32767)) ≡ clamp_z (negsuc 32767) (pos 32767) z
+unfolding clamp_z
+clamped z =
+    elim (lt_z (pos 32767) z) as
+    (λ b. cond (lt_z (cond b (pos 32767) z) (negsuc 32767)) (negsuc 32767) (cond b (pos 32767) z)
+    ≡ cond b (pos 32767) (cond (lt_z z (negsuc 32767)) (negsuc 32767) z)) [ true ↦ refl | false ↦ refl ]
 
-not-above : (c : Else-z-gt32767) → lt_z (pos 32767) c.args.z ≡ false
-not-above c = rw (to_z-of_z {w = w64} c.ranges.z) at c.if-z-gt32767.false
-
-not-below : (c : Else-z-ltminus32768) → lt_z c.args.z (negsuc 32767) ≡ false
-not-below c = rw (to_z-of_z {w = w64} c.ranges.z) at c.if-z-ltminus32768.false
-
-inside : (c : Else-z-ltminus32768) → SFits w16 c.args.z
-inside c = between-fits c.args.z (not-above c.before) (not-below c)
-
-pub returns-then-z-gt32767 : goal.returns-then-z-gt32767
-unfolding held_sample clamp_z
-returns-then-z-gt32767 c =
-    let above : lt_z (pos 32767) c.args.z ≡ true = rw (to_z-of_z {w = w64} c.ranges.z) at c.if-z-gt32767.true in
-    simp above
-
-pub returns-then-z-ltminus32768 : goal.returns-then-z-ltminus32768
-unfolding held_sample clamp_z
-returns-then-z-ltminus32768 c =
-    let below : lt_z c.args.z (negsuc 32767) ≡ true = rw (to_z-of_z {w = w64} c.ranges.z) at c.if-z-ltminus32768.true in
-    simp (not-above c.before, below)
-
-pub overflow_cast-result : goal.overflow_cast-result
-overflow_cast-result c = rw (to_z-of_z {w = w64} c.ranges.z) (inside c)
+between-fits : (z : ℤ) → negsuc 32767 ≤ℤ z → z ≤ℤ pos 32767 → SFits w16 z
+between-fits (pos n) low high = record { sfits = omega (arith, leb→le n 32767 high.le) }
+between-fits (negsuc n) low high = record { sfits = omega (arith, leb→le n 32767 low.le) }
 
 pub returns : goal.returns
-unfolding held_sample clamp_z
-returns c = rw (to_z-of_z {w = w64} c.ranges.z, to_z-of_z {w = w16} (inside c)) (simp (not-above c.before, not-below c))
+unfolding held_sample
+returns c =
+    let small : SFits w16 c.clamp.result = between-fits c.clamp.result c.clamp.ensures.lower_bound c.clamp.ensures.upper_bound in
+    rw (to_z-of_z {w = w64} (record { sfits = c.clamp.type_inv }), to_z-of_z small)
+    (rw (to_z-of_z c.ranges.z) at c.clamp.ensures.value ∙ clamped c.args.z)

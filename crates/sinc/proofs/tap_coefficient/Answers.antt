@@ -9,53 +9,32 @@ use Rattle.sinc.specs.Sinc.{lobe_points}
 use Rattle.sinc.proofs.Lobes.{lobe-side}
 use Rattle.sinc.proofs.Coefficient.{place-lt, sinc_coefficient-is}
 use Rattle.sinc.proofs.tap_coefficient.Goals as goal
-use Rattle.sinc.proofs.tap_coefficient.Goals.{After-divide-place}
 
 -- the place and the remainder, as they are computed
-module _ (c : After-divide-place) where
-  abbrev points : ℕ
-  points = lobe_points * c.args.ratio
+module _ (r N : ℕ) {place : ℕ} (place_is : place ≡ lobe_points * r / N) where
+  reached : place * N ≤ lobe_points * r
+  reached = rw place_is (div-mul-le_self (lobe_points * r) N)
 
-  abbrev width : ℕ
-  width = c.args.width
-
-  place_is : c.divide-place.result ≡ points / width
-  place_is = c.divide-place.ensures
-
-  reached : points / width * width ≤ points
-  reached = div-mul-le_self points width
-
-  remainder_is : points - points / width * width ≡ points % width
-  remainder_is = omega (arith, div-add-mod' points width)
+  remainder_is : lobe_points * r - place * N ≡ lobe_points * r % N
+  remainder_is = rw place_is (omega (arith, div-add-mod' (lobe_points * r) N))
 
   -- the place lies within a lobe
-  within : points / width < lobe_points
-  within = place-lt c.args.ratio width c.requires.2
-
-pub overflow_mul-remainder : goal.overflow_mul-remainder
-overflow_mul-remainder c = rw (place_is c) (record { fits = omega (arith, reached c) })
+  within : r < N → place < lobe_points
+  within h = rw place_is (place-lt r N h)
 
 pub overflow_sub-remainder : goal.overflow_sub-remainder
-overflow_sub-remainder c = rw (place_is c) (reached c)
-
-pub overflow_add-left : goal.overflow_add-left
-overflow_add-left c = rw (place_is c) (record { fits = omega (arith, within c) })
+overflow_sub-remainder c = reached c.args.ratio c.args.width.of c.divide-place.ensures
 
 pub find_sinc_coefficient-requires : goal.find_sinc_coefficient-requires
 find_sinc_coefficient-requires c =
-    let s = c.before.before in
-    rw (place_is c.before, remainder_is c.before, c.is_below_zero.ensures) (
-      s.requires.0,
-      omega (arith, within c.before),
-      mod-lt (points c.before) (omega arith),
-      s.requires.3,
-      s.requires.4,
-      lobe-side s.args.i (points c.before / width c.before) s.requires.1 (within c.before),
-    )
+    let a = c.args in
+    let inside = within a.ratio a.width.of c.divide-place.ensures c.requires.1 in
+    rw (remainder_is a.ratio a.width.of c.divide-place.ensures, c.is_below_zero.ensures)
+    (omega (arith, inside), mod-lt (lobe_points * a.ratio) (omega arith), c.requires.2, lobe-side a.i c.divide-place.result c.requires.0 inside)
 
 pub returns : goal.returns
 returns c =
-    let d = c.before.before in
+    let a = c.args in
     to_z-of_z {w = w32} (record { sfits = c.find_sinc_coefficient.type_inv })
-    ∙ rw (place_is d, remainder_is d) at c.find_sinc_coefficient.ensures
-    ∙ sym (sinc_coefficient-is d.args.i d.args.ratio d.args.width)
+    ∙ rw (remainder_is a.ratio a.width.of c.divide-place.ensures, c.divide-place.ensures) at c.find_sinc_coefficient.ensures
+    ∙ sym (sinc_coefficient-is a.i a.ratio a.width.of)

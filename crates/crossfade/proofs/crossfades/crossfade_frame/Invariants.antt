@@ -1,14 +1,10 @@
 -- `crossfade::crossfades::crossfade_frame` meets its contract. The loop's invariant: the samples passed stand in the area. Assumes nothing.
 use mathlib.Core.Path.{◌≡◌}
-use Prim.Native.Nat.{◌-◌, ◌≤◌}
-use lib.ListN.{length, drop}
+use lib.ListN.{drop}
 use lib.Seq.{paste}
 use Rattle.crossfade.specs.Crossfade.{crossfade_frame}
 use Rattle.crossfade.proofs.crossfades.crossfade_frame.Given as goal
 
 abbrev pub invariant-loop-i : goal.invariant-loop-i
 invariant-loop-i l =
-    (l.i ≤ l.channels) × (l.area ≡ paste l.initial.area l.at (crossfade_frame l.k l.t (drop l.from l.input) (drop l.into l.input) l.i) l.i) × (length l.area ≡ length l.initial.area)
-
-abbrev pub decreases-loop-i : goal.decreases-loop-i
-decreases-loop-i l = l.channels - l.i
+    l.area ≡ paste l.initial.area l.at (crossfade_frame l.fade.k.of l.t (drop l.from l.fade.input.now) (drop l.into l.fade.input.now) l.i) l.i

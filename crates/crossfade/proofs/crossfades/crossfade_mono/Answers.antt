@@ -1,57 +1,33 @@
 -- `crossfade::crossfades::crossfade_mono` meets its contract. The loop's invariant: the samples passed stand in the area. Assumes nothing.
-use mathlib.Core.Path.{◌≡◌, refl, ◌∙◌}
-use mathlib.Core.List.{[]}
-use Prim.Native.Nat.{◌+◌, ◌<◌}
+use mathlib.Core.Path.{◌≡◌, ◌∙◌}
+use Prim.Native.Nat.{◌+◌}
 use native.Mathlib.Omega.{arith}
-use lib.ListN.{length, drop, length-set}
-use lib.Seq.{paste, paste-zero}
+use borrow.Author.Rules.{rules}
+use lib.IntN.{pos}
+use lib.ListN.{drop, get_or}
+use lib.Seq.{paste}
+use mir.Syntax.{w16}
+use mir.Val.{SFits}
 use Rattle.crossfade.specs.Crossfade.{crossfade_to, overlap_add}
-use Rattle.crossfade.proofs.Crossfading.{Faded, mono_on}
+use Rattle.crossfade.proofs.Crossfading.{mono_on}
 use Rattle.crossfade.proofs.crossfades.crossfade_mono.Goals as goal
-use Rattle.crossfade.proofs.crossfades.crossfade_mono.Goals.{After-crossfade_sample-sample, At-loop-i, Start}
 
--- ---- invariant
-
--- ---- places
-
--- a sample is crossfaded
-module _ (c : After-crossfade_sample-sample) where
-  abbrev turn : At-loop-i
-  turn = c.before.before.before.before
-
-  abbrev start : Start
-  start = turn.before
-
-  faded : Faded start.args.input.now (start.args.down.0 + turn.loop-i.i) (start.args.up.0 + turn.loop-i.i) start.args.count.0 turn.loop-i.i
-      c.crossfade_sample-sample.result
-  faded = record {
-    down_sample = record { sfits = c.a-1.given };
-    up_sample = record { sfits = c.b-1.given };
-    sample = record { sfits = c.crossfade_sample-sample.type_inv };
-    value = c.crossfade_sample-sample.ensures;
-  }
-
-  inside : start.args.to.0 + turn.loop-i.i < length start.args.area.now
-  inside = omega arith
-
-pub loop-i-init : goal.loop-i-init
-unfolding crossfade_to
-loop-i-init c = (omega arith, paste-zero c.args.area.now c.args.to.0 [], refl)
-
-pub loop-i-preserved : goal.loop-i-preserved
-loop-i-preserved c =
-    let a = (start c).args in
-    let l = (turn c).loop-i in (
-      omega arith,
-      mono_on a.input.now a.area.now a.down.0 a.up.0 a.to.0 a.count.0 l.i (inside c) (faded c) l.invariant.1,
-      simp length-set l.invariant.2,
-    )
+pub loop-t-preserved : goal.loop-t-preserved
+loop-t-preserved c =
+    let a = c.args in
+    let x = a.fade.input.now in
+    let t = c.loop-t.t in
+    let down : SFits w16 (get_or x (a.fade.down.0 + t) (pos 0)) = search rules in
+    let up : SFits w16 (get_or x (a.fade.up.0 + t) (pos 0)) = search rules in
+    let call = c.crossfade_sample-sample in
+    mono_on x a.area.now a.fade.down.0 a.fade.up.0 a.to.0 a.fade.k.of t (omega arith)
+    (record { down_sample = down; up_sample = up; sample = record { sfits = call.type_inv }; value = call.ensures }) c.loop-t.invariant
 
 pub returns : goal.returns
 unfolding overlap_add
 returns c =
-    let l = c.loop-i in
+    let l = c.loop-t in
     let a = c.args in
-    let e : l.i ≡ a.count.0 = omega arith in
-    let x = a.input.now in
-    l.invariant.1 ∙ (λ j. paste a.area.now a.to.0 (crossfade_to a.count.0 1 (drop a.down.0 x) (drop a.up.0 x) (e j)) (e j))
+    let e : l.t ≡ a.fade.k.of = omega arith in
+    let x = a.fade.input.now in
+    l.invariant ∙ (λ j. paste a.area.now a.to.0 (crossfade_to a.fade.k.of 1 (drop a.fade.down.0 x) (drop a.fade.up.0 x) (e j)) (e j))
