@@ -36,7 +36,7 @@ PARTS = ("src", "specs", "proofs")
 TOLD = re.compile(r"rt: must-fail (\w+)/(\S+)\.edit: (.*)")
 REFUSED = "refused, as it must be: "
 ANSWER = re.compile(r"(?:\./)?(?P<path>\S+\.antt):\d+:\d+: error: `(?P<goal>[^`]+)`")
-GOAL = re.compile(r"note: (?P<path>src/\S+\.rt):(?P<line>\d+):\d+: it is not proved .*?\(`(?P<goal>[^`]+)`")
+GOAL = re.compile(r"note: (?P<path>src/\S+\.rt):(?P<line>\d+):\d+: (?:it is not proved|`search` found no proof).*?\(`(?P<goal>[^`]+)`")
 FUNCTION = re.compile(r"\s*(?:pub(?:\(crate\))? )?(?:const )?(?:extern \"C\" )?fn (\w+)")
 
 

@@ -9,6 +9,7 @@ ghost use Rattle.rate.specs.Halving.{rates_of};
 ghost use Rattle.rate.specs.Adjusting.{AdjustReady, AdjustEnsures};
 
 use frames::Frames;
+use sinc::table::SincTable;
 
 // The most that either of the two rates may be.
 const MAX_HALVED_RATE: usize = 16384;
@@ -79,7 +80,7 @@ pub fn adjust_rate(
     }
     let table = sinc::sinc_table();
     scan::convert_tail(
-        &table,
+        SincTable { entries: &table },
         stage,
         Frames(t + n),
         channels,

@@ -10,7 +10,7 @@ use sinc::phases::MAX_PHASES;
 
 // A cycle: `old` tail frames make `new` frames, each at a phase of its own, and then the phases come again. N is
 // step·new and O is step·old.
-#[derive(Clone, Copy)]
+#[derive(Clone, Copy, Debug, PartialEq, Eq)]
 pub(crate) struct Cycle {
     pub step: usize,
     pub new: usize,
@@ -37,17 +37,6 @@ fn common_step(rates: Rates) -> usize
     a
 }
 
-// The cycle whose phases are the ratios themselves: nothing is kept.
-fn every_ratio(rates: Rates) -> Cycle
-    ensures { CycleOf rates result }
-{
-    Cycle {
-        step: 1,
-        new: rates.new,
-        old: rates.old,
-    }
-}
-
 // The cycle of a call that scans a tail of this many frames. Its step is 1, so that no coefficients are kept, unless
 // the scan comes to each phase twice. One that consumes a single frame does not, and takes no division.
 pub(crate) fn cycle_of(rates: Rates, tail: Frames) -> Cycle
@@ -55,17 +44,18 @@ pub(crate) fn cycle_of(rates: Rates, tail: Frames) -> Cycle
     ensures { CycleOf rates result }
 {
     let t = tail.0;
-    if t < 2 + SINC_FILTER_POINTS {
-        return every_ratio(rates);
+    if t >= 2 + SINC_FILTER_POINTS {
+        let step = common_step(rates);
+        let old = rates.old / step;
+        if t >= 2 * old + SINC_FILTER_POINTS {
+            let new = rates.new / step;
+            return Cycle { step, new, old };
+        }
     }
-    let step = common_step(rates);
-    let old = rates.old / step;
-    if t < 2 * old + SINC_FILTER_POINTS {
-        return every_ratio(rates);
-    }
+    // the phases are the ratios themselves
     Cycle {
-        step,
-        new: rates.new / step,
-        old,
+        step: 1,
+        new: rates.new,
+        old: rates.old,
     }
 }

@@ -3,31 +3,38 @@ ghost use Rattle.std.specs.Prelude.{◌≡◌, ◌+◌, ◌-◌, ◌*◌, ◌≤
 ghost use Rattle.std.proofs.Math.Seq.{paste};
 ghost use Rattle.frames.specs.Framing.{frames_of};
 ghost use Rattle.sinc.specs.Sinc.{sinc_filter_points};
-ghost use Rattle.sinc.specs.SincTable.{sinc_table};
 ghost use Rattle.rate.specs.Tail.{interpolate_window};
 ghost use Rattle.rate.specs.Adjusting.{AreasHold, Placed, ScanEnsures};
-ghost use Rattle.rate.specs.Phases.{CycleOf, Kept, PhaseReady};
+ghost use Rattle.rate.specs.Phases.{CycleOf, Serves, PhaseReady};
 
 use crate::phases::{Cycle, cycle_of};
 use crate::{Adjusted, Position, Rates};
 use frames::{Frames, Samples};
+use reciprocals::Reciprocal;
 use sinc::SINC_FILTER_POINTS;
-use sinc::phases::{KEPT_COEFFICIENTS, keep_phases};
+use sinc::phases::{MAX_PHASES, keep_phases};
+use sinc::table::SincTable;
+
+// Where the coefficients of frames come from: those of each phase are kept, or those of a frame's ratio, which is its
+// phase, are computed from the table and the width.
+#[derive(Clone, Copy)]
+pub(crate) enum Coefficients<'a> {
+    Kept(&'a [[i32; SINC_FILTER_POINTS]]),
+    Computed(SincTable<'a>, Reciprocal),
+}
 
 // Makes the frame at a phase of the 12 tail frames from `first` on, behind the first `to` frames of the output.
 fn make_frame(
-    table: &[i16],
-    kept: &[i32],
+    coefficients: Coefficients,
     stage: &[i16],
     first: Frames,
     channels: usize,
     cycle: Cycle,
     phase: usize,
-    reciprocal: u64,
     output: &mut [i16],
     to: Frames,
 )
-    requires table_value { (table.now ≡ sinc_table) × Kept cycle kept.now × PhaseReady cycle phase reciprocal }
+    requires phase_ready { Serves cycle coefficients × PhaseReady cycle phase }
     requires channels_in_bounds { ((first.0 + sinc_filter_points) * channels ≤ length stage.now)
         × ((to.0 + 1) * channels ≤ length output.old) }
     ensures { output.new ≡ paste output.old (to.0 * channels)
@@ -36,20 +43,20 @@ fn make_frame(
 {
     let from = first.samples(channels);
     let place = to.samples(channels);
-    if cycle.step > 1 {
-        let at = SINC_FILTER_POINTS * phase;
-        sinc::phases::weighted_frame(kept, at, stage, from, channels, output, place);
-        return;
+    match coefficients {
+        Coefficients::Kept(kept) => {
+            let weights = &kept[phase];
+            sinc::phases::weighted_frame(weights, stage, from, channels, output, place);
+        }
+        Coefficients::Computed(table, width) => {
+            sinc::ratio_frame(table, stage, from, channels, phase, width, output, place);
+        }
     }
-    sinc::ratio_frame(
-        table, stage, from, channels, phase, cycle.new, reciprocal, output, place,
-    );
 }
 
 // Consumes tail frames while more than 12 lie ahead; the frames that they make go behind those that wait in the output.
 fn scan_tail(
-    table: &[i16],
-    kept: &[i32],
+    coefficients: Coefficients,
     stage: &[i16],
     tail: Frames,
     channels: usize,
@@ -59,8 +66,10 @@ fn scan_tail(
     output: &mut [i16],
     waiting: Frames,
 ) -> Option<Adjusted>
-    requires { (table.now ≡ sinc_table) × AreasHold channels tail.0 waiting.0 stage.now output.old
-        × Placed rates at × CycleOf rates cycle × Kept cycle kept.now }
+    requires lent { AreasHold channels tail.0 waiting.0 stage.now output.old }
+    requires placed { Placed rates at }
+    requires cycle_of { CycleOf rates cycle }
+    requires serves { Serves cycle coefficients }
     ensures { ScanEnsures channels rates tail.0 waiting.0 at stage.now output.old
         output.new result }
 {
@@ -71,7 +80,6 @@ fn scan_tail(
     let old_rate = rates.old;
     let phases = cycle.new;
     let old_step = cycle.old;
-    let reciprocal = sinc::reciprocal_of(phases);
     let mut p = at.old;
     let mut n = at.new;
     let mut made: usize = 0;
@@ -87,7 +95,14 @@ fn scan_tail(
             let to = Frames(w + made);
             let phase = end - n * old_step - 1;
             make_frame(
-                table, kept, stage, first, channels, cycle, phase, reciprocal, output, to,
+                coefficients,
+                stage,
+                first,
+                channels,
+                cycle,
+                phase,
+                output,
+                to,
             );
             made += 1;
             n += 1;
@@ -112,7 +127,7 @@ fn scan_tail(
 
 // Scans the tail. The coefficients of phases that come again are computed once, before.
 pub(crate) fn convert_tail(
-    table: &[i16],
+    table: SincTable,
     stage: &[i16],
     tail: Frames,
     channels: usize,
@@ -121,21 +136,38 @@ pub(crate) fn convert_tail(
     output: &mut [i16],
     waiting: Frames,
 ) -> Option<Adjusted>
-    requires { (table.now ≡ sinc_table) × AreasHold channels tail.0 waiting.0 stage.now output.old
-        × Placed rates at }
+    requires lent { AreasHold channels tail.0 waiting.0 stage.now output.old }
+    requires placed { Placed rates at }
     ensures { ScanEnsures channels rates tail.0 waiting.0 at stage.now output.old
         output.new result }
 {
     let cycle = cycle_of(rates, tail);
     if cycle.step > 1 {
-        let mut kept = [0i32; KEPT_COEFFICIENTS];
+        let mut kept = [[0i32; SINC_FILTER_POINTS]; MAX_PHASES];
         keep_phases(table, cycle.step, cycle.new, &mut kept);
+        let coefficients = Coefficients::Kept(&kept);
         return scan_tail(
-            table, &kept, stage, tail, channels, rates, cycle, at, output, waiting,
+            coefficients,
+            stage,
+            tail,
+            channels,
+            rates,
+            cycle,
+            at,
+            output,
+            waiting,
         );
     }
-    let none = [0i32; 1];
+    let coefficients = Coefficients::Computed(table, Reciprocal::new(cycle.new));
     scan_tail(
-        table, &none, stage, tail, channels, rates, cycle, at, output, waiting,
+        coefficients,
+        stage,
+        tail,
+        channels,
+        rates,
+        cycle,
+        at,
+        output,
+        waiting,
     )
 }

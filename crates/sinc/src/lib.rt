@@ -78,7 +78,8 @@ fn tap_coefficient(table: SincTable, i: usize, ratio: usize, width: Reciprocal) 
     find_sinc_coefficient(table, left, remainder, width, is_below_zero(i))
 }
 
-// The coefficients of the 12 taps.
+// The coefficients of the 12 taps. Compiled into its callers, so that those of `ratio_frame` stay in registers.
+#[inline(always)]
 fn coefficients(table: SincTable, ratio: usize, width: Reciprocal) -> [i32; SINC_FILTER_POINTS]
     requires { (ratio < width.of) × (width.of ≤ max_width) }
     ensures { CoefficientsOf ratio width.of result }
@@ -120,8 +121,8 @@ fn interpolate(
     hold(sum >> 16)
 }
 
-// One frame by 12 weights: the 12 tail frames from `from` on give one sample per channel, written from `to` on. It is
-// compiled into its callers, so that the coefficients of `ratio_frame` stay in registers.
+// One frame by 12 weights: the 12 tail frames from `from` on give one sample per channel, written from `to` on.
+// Compiled into its callers too.
 #[inline(always)]
 fn write_frame(
     weights: &[i32; SINC_FILTER_POINTS],

@@ -20,11 +20,10 @@ overflow_add-t c =
 
 pub convert_tail-requires : goal.convert_tail-requires
 convert_tail-requires c =
-    let m = rates-most c.args.rate c.args.pitch c.requires.exact in (
-      c.sinc_table-table.ensures,
-      c.requires.lent,
-      rw c.rates_of.ensures (record { new_most = m.0; old_most = m.1; order = c.requires.order }),
-    )
+    let m = rates-most c.args.rate c.args.pitch c.requires.exact in record {
+      lent = c.requires.lent;
+      placed = rw c.rates_of.ensures (record { new_most = m.0; old_most = m.1; order = c.requires.order });
+    }
 
 pub returns : goal.returns
 returns c =

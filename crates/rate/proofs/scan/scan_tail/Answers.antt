@@ -39,7 +39,7 @@ AtLoop = At-loop-n
 -- at the scan: its frames, the position, the numbers there
 module _ (c : AtScan) where
   abbrev entry : AtEntry
-  entry = c.before.before.before.before
+  entry = c.before.before.before
 
   abbrev position : Position
   position = record { old = c.scan.p; new = c.scan.n }
@@ -51,7 +51,7 @@ module _ (c : AtScan) where
   small : Small entry.args.rates position
   small =
       placed-small entry.args.rates position
-      (steps-placed entry.args.rates c.scan.j entry.args.at position entry.requires.2 c.scan.invariant.1.at)
+      (steps-placed entry.args.rates c.scan.j entry.args.at position entry.requires.placed c.scan.invariant.1.at)
 
 -- at the inner loop
 module _ (c : AtLoop) where
@@ -72,16 +72,16 @@ module _ (c : AtLoop) where
   last = omega (arith, c.loop-n.invariant.new, c.loop-n.invariant.within, (small scanned).last_most)
 
   product-fits : c.loop-n.n * begun.args.rates.old < 2 ^ 64
-  product-fits = omega (arith, mul-le-mul last begun.requires.2.old_most)
+  product-fits = omega (arith, mul-le-mul last begun.requires.placed.old_most)
 
   long : length c.loop-n.output ≡ whole
   long = c.loop-n.invariant.behind.long ∙ scanned.scan.invariant.1.behind.long
 
   place-le : place ≤ whole / begun.args.channels
-  place-le = frames-le begun.args.channels place whole begun.requires.1.some (omega (arith, c.loop-n.invariant.behind.fits, c.loop-n.invariant.behind.long, long))
+  place-le = frames-le begun.args.channels place whole begun.requires.lent.some (omega (arith, c.loop-n.invariant.behind.fits, c.loop-n.invariant.behind.long, long))
 
   waits-le : begun.args.waiting.0 ≤ whole / begun.args.channels
-  waits-le = frames-le begun.args.channels begun.args.waiting.0 whole begun.requires.1.some begun.requires.1.waits
+  waits-le = frames-le begun.args.channels begun.args.waiting.0 whole begun.requires.lent.some begun.requires.lent.waits
 
   -- more than 12 tail frames lie ahead
   ahead : scanned.scan.j + sinc_filter_points ≤ begun.args.tail.0
@@ -92,7 +92,7 @@ module _ (c : AtLoop) where
       → c.loop-n.invariant.i < due begun.args.rates (position scanned)
   more-due h =
       let r = begun.args.rates in
-      due-more r (position scanned) c.loop-n.invariant.i (omega (arith, begun.requires.2.order.below))
+      due-more r (position scanned) c.loop-n.invariant.i (omega (arith, begun.requires.placed.order.below))
       (subst (λ (k : ℕ). k * r.old < (scanned.scan.p + 1) * r.new) c.loop-n.invariant.new h)
 
 -- a frame fits
@@ -104,18 +104,18 @@ module _ (c : Else-made-room) where
   room =
       let d = loop-of in
       let more : place d + 1 ≤ whole d / (begun d).args.channels = omega (arith, place-le d, waits-le d, counted (scanned d), c.if-made-room.false) in
-      omega (arith, samples-le (begun d).args.channels (place d + 1) (whole d) (begun d).requires.1.some more, long d)
+      omega (arith, samples-le (begun d).args.channels (place d + 1) (whole d) (begun d).requires.lent.some more, long d)
 
   -- some phases of the cycle lie ahead of it
   phase-of : loop-of.loop-n.n * (begun loop-of).args.cycle.old < ((scanned loop-of).scan.p + 1) * (begun loop-of).args.cycle.new
   phase-of =
       let s = begun loop-of in
-      phase-more s.args.rates s.args.cycle s.requires.3 (scanned loop-of).scan.p loop-of.loop-n.n c.loop-n-test.true
+      phase-more s.args.rates s.args.cycle s.requires.cycle_of (scanned loop-of).scan.p loop-of.loop-n.n c.loop-n-test.true
 
   place-lt : place loop-of < whole loop-of
   place-lt =
       let d = loop-of in
-      omega (arith, count-le (begun d).args.channels (place d + 1) (begun d).requires.1.some, room, long d)
+      omega (arith, count-le (begun d).args.channels (place d + 1) (begun d).requires.lent.some, room, long d)
 
   -- the frame made is that of the position
   abbrev placed : Frame → List ℤ
@@ -134,8 +134,8 @@ module _ (c : Else-made-room) where
   unfolding interpolated
   frame_is out e =
       let s = begun loop-of in
-      let ratio = ratio-is s.args.rates s.args.cycle s.requires.3 (scanned loop-of).scan.p loop-of.loop-n.n c.loop-n-test.true in
-      e ∙ (λ i. placed (interpolate_window window (ratio i) (s.requires.3.new i)))
+      let ratio = ratio-is s.args.rates s.args.cycle s.requires.cycle_of (scanned loop-of).scan.p loop-of.loop-n.n c.loop-n-test.true in
+      e ∙ (λ i. placed (interpolate_window window (ratio i) (s.requires.cycle_of.new i)))
 
   made-fits : loop-of.loop-n.made + 1 < 2 ^ 64
   made-fits = omega (arith, place-lt)
@@ -145,7 +145,7 @@ full : (d : AtLoop) → d.loop-n.made ≡ (scanned d).frames.result.0 - (begun d
     → length d.loop-n.output < place d * (begun d).args.channels + (begun d).args.channels
 full d e =
     let over : whole d / (begun d).args.channels < place d + 1 = omega (arith, waits-le d, counted (scanned d)) in
-    omega (arith, samples-over (begun d).args.channels (place d + 1) (whole d) (begun d).requires.1.some over, long d)
+    omega (arith, samples-over (begun d).args.channels (place d + 1) (whole d) (begun d).requires.lent.some over, long d)
 
 -- the scan is left
 left-long : (c : Left-scan) → length c.scan-test.output ≡ length (entry c.before).args.output.now
@@ -164,15 +164,15 @@ pub overflow_sub-room : goal.overflow_sub-room
 overflow_sub-room c =
     let s = c.before.before in
     let a = s.args in
-    let h = frames-le a.channels a.waiting.0 (length a.output.now) s.requires.1.some s.requires.1.waits in
+    let h = frames-le a.channels a.waiting.0 (length a.output.now) s.requires.lent.some s.requires.lent.waits in
     omega (arith, h, c.frames.ensures)
 
 pub scan-init : goal.scan-init
 scan-init c =
-    let s = c.before.before.before in
+    let s = c.before.before in
     let a = s.args in
     let l = frames_of a.channels a.tail.0 a.stage.now in
-    (omega arith, scanning-start a.channels a.waiting.0 a.rates a.at l a.output.now s.requires.1.waits)
+    (omega arith, scanning-start a.channels a.waiting.0 a.rates a.at l a.output.now s.requires.lent.waits)
 
 pub overflow_add-right : goal.overflow_add-right
 overflow_add-right c = record { fits = omega (arith, (small c.before).below) }
@@ -186,7 +186,7 @@ overflow_add-end c = record { fits = omega (arith, (small c.before).below) }
 pub overflow_mul-end : goal.overflow_mul-end
 overflow_mul-end c =
     let s = entry c.before in
-    let less = (cycle-le s.args.rates s.args.cycle s.requires.3).0 in
+    let less = (cycle-le s.args.rates s.args.cycle s.requires.cycle_of).0 in
     record { fits = omega (arith, (small c.before).right_most, mul-le-mul_left (c.scan.p + 1) less) }
 
 pub loop-n-init : goal.loop-n-init
@@ -206,7 +206,7 @@ overflow_add-to c = record { fits = omega (arith, place-lt c) }
 pub overflow_mul-phase : goal.overflow_mul-phase
 overflow_mul-phase c =
     let s = begun (loop-of c) in
-    let less = (cycle-le s.args.rates s.args.cycle s.requires.3).1 in
+    let less = (cycle-le s.args.rates s.args.cycle s.requires.cycle_of).1 in
     record { fits = omega (arith, product-fits (loop-of c), mul-le-mul_left (loop-of c).loop-n.n less) }
 
 pub overflow_sub-phase : goal.overflow_sub-phase
@@ -222,15 +222,11 @@ make_frame-requires c =
     let l = (scanned d).scan in
     let from : l.n ≤ d.loop-n.n = omega (arith, d.loop-n.invariant.new) in
     let ratio = ratio-lt s.args.rates l.p l.n d.loop-n.n (small (scanned d)).passed from c.loop-n-test.true in
-    let phase = phase-lt s.args.rates s.args.cycle s.requires.3 l.p d.loop-n.n c.loop-n-test.true ratio in
-    let narrow : s.args.cycle.step * s.args.cycle.new ≤ max_halved_rate = omega (arith, s.requires.3.new, s.requires.2.new_most) in
+    let phase = phase-lt s.args.rates s.args.cycle s.requires.cycle_of l.p d.loop-n.n c.loop-n-test.true ratio in
+    let narrow : s.args.cycle.step * s.args.cycle.new ≤ max_halved_rate = omega (arith, s.requires.cycle_of.new, s.requires.placed.new_most) in
     let taps = mul-le-mul_right s.args.channels (ahead d) in record {
-      table_value = (
-        s.requires.0,
-        s.requires.4,
-        record { some = s.requires.3.some; below = phase; narrow = narrow; parts = (scanned d).reciprocal_of-reciprocal.ensures },
-      );
-      channels_in_bounds = (omega (arith, taps, s.requires.1.holds), room c.before);
+      phase_ready = (s.requires.serves, record { some = s.requires.cycle_of.some; below = phase; narrow = narrow });
+      channels_in_bounds = (omega (arith, taps, s.requires.lent.holds), room c.before);
     }
 
 pub overflow_add-made : goal.overflow_add-made
@@ -247,7 +243,7 @@ loop-n-preserved c =
     let b = d.loop-n.invariant in
     let x = drop ((scanned d).scan.j * a.channels) a.stage.now in
     let staged = mul-le-mul_right a.channels (ahead d) in
-    let taps : a.channels ≤ length x = omega (arith, length-drop ((scanned d).scan.j * a.channels) a.stage.now, s.requires.1.holds) in
+    let taps : a.channels ≤ length x = omega (arith, length-drop ((scanned d).scan.j * a.channels) a.stage.now, s.requires.lent.holds) in
     emitting-turn b c.make_frame.new.output (more-due d c.before.before.before.loop-n-test.true)
     (omega (arith, room c.before.before.before, b.behind.long))
     (length-interpolated a.rates (record { old = (scanned d).scan.p; new = d.loop-n.n }) a.channels x taps)
@@ -266,7 +262,7 @@ scan-preserved c =
     let t : Position = position (scanned d) in
     let window = window-is a.channels a.tail.0 l.j a.stage.now (ahead d) in
     let most : due a.rates t ≤ b.i =
-    due-no-more a.rates t b.i (omega (arith, s.requires.2.order.below))
+    due-no-more a.rates t b.i (omega (arith, s.requires.placed.order.below))
     (subst (λ (k : ℕ). (l.p + 1) * a.rates.new ≤ k * a.rates.old) b.new c.loop-n-test.false) in
     let all : d.loop-n.n ≡ l.n + due a.rates t = omega (arith, b.new, b.within) in
     let t' : Position = record { old = c.if-p-old_rate.p; new = c.if-p-old_rate.n } in
