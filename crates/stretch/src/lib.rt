@@ -15,7 +15,8 @@ use search::Ties;
 pub use speed::change_speed;
 
 // What is fixed for a call: what follows from the opening, the local speed, the play time, the frames held, whether it
-// steps over a period that gives no frame, and which of several periods with the same mean its searches find.
+// steps over a period that gives no frame, and which of several periods with the same mean its searches find. The
+// definitions speak of the call of any state, so that its facts stand in `ReadyCall`.
 #[derive(Clone, Copy)]
 pub struct StretchCall {
     pub channels: usize,
@@ -36,7 +37,8 @@ pub struct ReadyCall {
 }
 
 // Where a call has come to: the frames used, the time error, the period record, and the sum of differences that its
-// last search found, 0 before the first.
+// last search found, 0 before the first. That the record is in order hangs on the call's rate, which a place does not
+// hold, so it stays a clause (`PrevInOrder`).
 #[derive(Clone, Copy)]
 pub struct Place {
     pub position: Frames,

@@ -17,9 +17,10 @@ fn write_step(
     area: &mut [i16],
     to: Samples,
 )
-    requires { (1 ≤ channels) × (crossfaded step ≤ longest_period)
-        × ((position.0 + frames_read step) * channels ≤ length input.now)
-        × (to.0 + frames_out step * channels ≤ length area.old) }
+    requires channels_some { 1 ≤ channels }
+    requires short { crossfaded step ≤ longest_period }
+    requires read_lent { (position.0 + frames_read step) * channels ≤ length input.now }
+    requires fits { to.0 + frames_out step * channels ≤ length area.old }
     ensures { area.new ≡ paste area.old to.0
         (samples_out channels input.now position.0 step) (frames_out step * channels) }
 {
@@ -47,9 +48,12 @@ pub(crate) fn write_fitting(
     target: Target,
     made: Frames,
 )
-    requires { (n.0 ≡ frames_out step) × (made.0 + n.0 ≤ 2 ^ 25) × (1 ≤ channels)
-        × (crossfaded step ≤ longest_period) × ((position.0 + frames_read step) * channels ≤ length input.now)
-        × (target.to.0 + target.room.0 * channels ≤ length area.old) }
+    requires counted { n.0 ≡ frames_out step }
+    requires few { made.0 + n.0 ≤ 2 ^ 25 }
+    requires channels_some { 1 ≤ channels }
+    requires short { crossfaded step ≤ longest_period }
+    requires read_lent { (position.0 + frames_read step) * channels ≤ length input.now }
+    requires target_fits { target.to.0 + target.room.0 * channels ≤ length area.old }
     ensures { area.new ≡ cond (ltb target.room.0 (made.0 + frames_out step)) area.old
         (paste area.old (target.to.0 + made.0 * channels)
         (samples_out channels input.now position.0 step) (frames_out step * channels)) }

@@ -36,9 +36,10 @@ pub fn change_speed(
     scratch: &mut [i16],
 ) -> Option<Stretch>
     requires prev_in_order { PrevInOrder ready.call.rate prev }
-    requires channels_in_bounds { (ready.call.held.0 * ready.call.channels ≤ length input.now)
-        × (max_required ready.call.rate ≤ length scratch.old)
-        × (target.to.0 + target.room.0 * ready.call.channels ≤ length area.old) × (target.most.0 ≤ 2 ^ 24) }
+    requires held_lent { ready.call.held.0 * ready.call.channels ≤ length input.now }
+    requires scratch_fits { max_required ready.call.rate ≤ length scratch.old }
+    requires target_fits { target.to.0 + target.room.0 * ready.call.channels ≤ length area.old }
+    requires few { target.most.0 ≤ 2 ^ 24 }
     ensures { (result ≡ change_speed ready.call input.now (begun time_error prev) target.most.0)
         × AreaAfter ready.call input.now (begun time_error prev) target.room.0 target.most.0
         area.old area.new target.to.0 }
@@ -53,6 +54,7 @@ pub fn change_speed(
     };
     let mut made: usize = 0;
     let mut passed: usize = 0;
+    // No counted loop: each turn moves the place by the frames that its step uses.
     while place.position.0 + required <= held {
         let went = take_step(input, ready, place, area, target, Frames(made), scratch)?;
         made += went.frames.0;

@@ -12,10 +12,11 @@ use period::{Chosen, PeriodRecord};
 // The period that a step at a place of the input uses, with the period record after the search and its sum.
 fn search_at(input: &[i16], ready: ReadyCall, place: Place, scratch: &mut [i16]) -> Chosen
     requires prev_in_order { PrevInOrder ready.call.rate place.prev }
-    requires channels_in_bounds { ((place.position.0 + max_required ready.call.rate) * ready.call.channels ≤ length input.now)
-        × (max_required ready.call.rate ≤ length scratch.old) }
-    ensures { (result ≡ search_at ready.call input.now place)
-        × InRange ready.call.rate result.period.0 × PrevInOrder ready.call.rate result.prev }
+    requires input_lent { (place.position.0 + max_required ready.call.rate) * ready.call.channels ≤ length input.now }
+    requires scratch_fits { max_required ready.call.rate ≤ length scratch.old }
+    ensures value { result ≡ search_at ready.call input.now place }
+    ensures in_range { InRange ready.call.rate result.period.0 }
+    ensures prev_in_order { PrevInOrder ready.call.rate result.prev }
 {
     let call = ready.call;
     let from = place.position.samples(call.channels).0;
@@ -56,13 +57,13 @@ fn period_step(s: f32, step_over: bool, period: Frames) -> Step
 // The step that is due at a place, and the period record and the sum of the last search after it.
 fn next_step(input: &[i16], ready: ReadyCall, place: Place, scratch: &mut [i16]) -> NextStep
     requires prev_in_order { PrevInOrder ready.call.rate place.prev }
-    requires rate_bound { (place.position.0 + max_required ready.call.rate ≤ ready.call.held.0)
-        × (ready.call.held.0 * ready.call.channels ≤ length input.now)
-        × (max_required ready.call.rate ≤ length scratch.old) }
-    ensures { (result.step ≡ next_step ready.call input.now place)
-        × (result.prev ≡ prev_after ready.call input.now place (next_step ready.call input.now place))
-        × (result.sum ≡ sum_after ready.call input.now place (next_step ready.call input.now place))
-        × PrevInOrder ready.call.rate result.prev }
+    requires due { place.position.0 + max_required ready.call.rate ≤ ready.call.held.0 }
+    requires held_lent { ready.call.held.0 * ready.call.channels ≤ length input.now }
+    requires scratch_fits { max_required ready.call.rate ≤ length scratch.old }
+    ensures step { result.step ≡ next_step ready.call input.now place }
+    ensures prev { result.prev ≡ prev_after ready.call input.now place (next_step ready.call input.now place) }
+    ensures sum { result.sum ≡ sum_after ready.call input.now place (next_step ready.call input.now place) }
+    ensures prev_in_order { PrevInOrder ready.call.rate result.prev }
 {
     let call = ready.call;
     let s = call.speed;
@@ -85,7 +86,8 @@ fn next_step(input: &[i16], ready: ReadyCall, place: Place, scratch: &mut [i16])
 
 // The time error after a step.
 fn error_after(call: StretchCall, error: f32, step: Step) -> f32
-    requires { (frames_read step ≤ 2 ^ 24) × (call.held.0 ≤ 2 ^ 24) }
+    requires few_read { frames_read step ≤ 2 ^ 24 }
+    requires few_held { call.held.0 ≤ 2 ^ 24 }
     ensures { result ≡ error_after call error step }
 {
     let s = call.speed;
@@ -106,7 +108,8 @@ fn error_after(call: StretchCall, error: f32, step: Step) -> f32
 
 // The place after a step, with the period record and the sum after it.
 fn place_after(call: StretchCall, place: Place, next: NextStep) -> Place
-    requires { Sound call.held.0 place.position.0 next.step × (call.held.0 ≤ 2 ^ 24) }
+    requires sound { Sound call.held.0 place.position.0 next.step }
+    requires few_held { call.held.0 ≤ 2 ^ 24 }
     ensures { result ≡ place_after call place next.step next.prev next.sum }
 {
     let position = place.position.0 + next.step.frames_used().0;
@@ -131,15 +134,16 @@ pub(crate) fn take_step(
     scratch: &mut [i16],
 ) -> Option<Went>
     requires prev_in_order { PrevInOrder ready.call.rate place.prev }
-    requires rate_bound { (place.position.0 + max_required ready.call.rate ≤ ready.call.held.0)
-        × (ready.call.held.0 * ready.call.channels ≤ length input.now)
-        × (max_required ready.call.rate ≤ length scratch.old)
-        × (target.to.0 + target.room.0 * ready.call.channels ≤ length area.old) × (made.0 ≤ 2 ^ 24) }
-    ensures { (result ≡ turn_for ready.call input.now place made.0 target.most.0
-        (next_step ready.call input.now place))
-        × (area.new ≡ area_for ready.call input.now place made.0 target.room.0 target.most.0 area.old
-        target.to.0 (next_step ready.call input.now place))
-        × PrevInOrder ready.call.rate (prev_after ready.call input.now place
+    requires due { place.position.0 + max_required ready.call.rate ≤ ready.call.held.0 }
+    requires held_lent { ready.call.held.0 * ready.call.channels ≤ length input.now }
+    requires scratch_fits { max_required ready.call.rate ≤ length scratch.old }
+    requires target_fits { target.to.0 + target.room.0 * ready.call.channels ≤ length area.old }
+    requires few_made { made.0 ≤ 2 ^ 24 }
+    ensures value { result ≡ turn_for ready.call input.now place made.0 target.most.0
+        (next_step ready.call input.now place) }
+    ensures area { area.new ≡ area_for ready.call input.now place made.0 target.room.0 target.most.0 area.old
+        target.to.0 (next_step ready.call input.now place) }
+    ensures prev_in_order { PrevInOrder ready.call.rate (prev_after ready.call input.now place
         (next_step ready.call input.now place)) }
 {
     let due = next_step(input, ready, place, scratch);

@@ -25,7 +25,10 @@ change_speed-requires c =
     c.if-stream.true in
     record {
       prev_in_order = rw r.of_stream.1 r.of_stream.0.state.prev;
-      channels_in_bounds = (r.lent.0, rw r.of_stream.1 r.lent.1, fits.0, fits.1);
+      held_lent = r.lent.0;
+      scratch_fits = rw r.of_stream.1 r.lent.1;
+      target_fits = fits.0;
+      few = fits.1;
     }
 
 pub change_speed-requires-2 : goal.change_speed-requires-2
@@ -38,7 +41,10 @@ change_speed-requires-2 c =
     c.if-stream.false in
     record {
       prev_in_order = rw r.of_stream.1 r.of_stream.0.state.prev;
-      channels_in_bounds = (r.lent.0, rw r.of_stream.1 r.lent.1, fits.0, fits.1);
+      held_lent = r.lent.0;
+      scratch_fits = rw r.of_stream.1 r.lent.1;
+      target_fits = fits.0;
+      few = fits.1;
     }
 
 pub returns-then-stream : goal.returns-then-stream

@@ -15,7 +15,7 @@ returns-then-copying_due c =
     let due = sym c.copying_due.ensures ∙ c.if-copying_due.true in
     let step : Copied c.copy_count.result ≡ next_step u x h =
     (λ i. Copied (record { 0 = c.copy_count.ensures.0 i })) ∙ sym (next_step-copied u x h due) in
-    (step, ap (prev_after u x h) step, ap (sum_after u x h) step, c.requires.prev_in_order)
+    record { step = step; prev = ap (prev_after u x h) step; sum = ap (sum_after u x h) step; prev_in_order = c.requires.prev_in_order }
 
 pub returns : goal.returns
 returns c =
@@ -23,13 +23,14 @@ returns c =
     let x = c.args.input.now in
     let h = c.args.place in
     let due = next_step-searched u x h (sym c.copying_due.ensures ∙ c.if-copying_due.false) in
-    let searched = c.search_at-chosen.ensures.0 in
+    let searched = c.search_at-chosen.ensures.value in
     let period = (search_at u x h).period in
     let step = c.period_step.ensures ∙ ap (λ (z : Chosen). period_step u.speed u.step_over z.period) searched ∙ sym due in
     let prev = ap (prev_after u x h) due ∙ prev_after-period u x h u.speed u.step_over period in
-    let sum = ap (sum_after u x h) due ∙ sum_after-period u x h u.speed u.step_over period in (
-      step,
-      ap (λ (z : Chosen). z.prev) searched ∙ sym prev,
-      ap (λ (z : Chosen). z.sum) searched ∙ sym sum,
-      c.search_at-chosen.ensures.2,
-    )
+    let sum = ap (sum_after u x h) due ∙ sum_after-period u x h u.speed u.step_over period in
+    record {
+      step = step;
+      prev = ap (λ (z : Chosen). z.prev) searched ∙ sym prev;
+      sum = ap (λ (z : Chosen). z.sum) searched ∙ sym sum;
+      prev_in_order = c.search_at-chosen.ensures.prev_in_order;
+    }
