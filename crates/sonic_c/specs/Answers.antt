@@ -1,16 +1,16 @@
 -- The structs of C for answers, and what the calls ensure of them. Definitions only. Assumes nothing.
-use Rattle.std.specs.Prelude.{◌≡◌, List, ℕ, ◌*◌, ℤ, Float, drop}
+use Rattle.std.specs.Prelude.{◌≡◌, List, ℕ, ◌*◌, ℤ, Float, drop, Result, Ok, Err}
+use Rattle.frames.specs.declared.Frames.{Frames}
 use Rattle.frames.specs.Areas.{Areas}
 use Rattle.frames.specs.Framing.{frames_of}
 use Rattle.stream.specs.declared.SonicStream.{SonicStream}
-use Rattle.stream.specs.declared.Opened as open-answer
-use Rattle.stream.specs.declared.Changed as set-answer
-use Rattle.stream.specs.declared.Available as available-answer
-use Rattle.stream.specs.Refusals.{accepted}
+use Rattle.stream.specs.declared.refusal.NotOpened.{NotOpened}
+use Rattle.stream.specs.declared.refusal.Refused.{Refused}
+use Rattle.stream.specs.Refusals.{number_of}
 use Rattle.fill.specs.declared.Outcome.{Outcome}
 use Rattle.fill.specs.declared.Outcome.TheVariants.{Empty, Copied, Waiting, Stretched, Stalled}
 use Rattle.fill.specs.declared.Told as call-told
-use Rattle.adding.specs.declared.Wrote as write-answer
+use Rattle.process.specs.declared.Wrote as write-answer
 use Rattle.read.specs.declared.Gave as read_answer
 use Rattle.adding.specs.Calls.{CallResult}
 use Rattle.read.specs.Reading.{ReadResult}
@@ -30,33 +30,36 @@ outcome_number Waiting = 2
 outcome_number Stretched = 3
 outcome_number Stalled = 4
 
-unfoldable pub opened_of : open-answer.Opened → Opened
-opened_of (open-answer.Opened.Refused number given s) = record { refusal = number; given = given; stream = s }
-opened_of (open-answer.Opened.Done s) = record { refusal = accepted; given = 0; stream = s }
+unfoldable pub opened_of : Result SonicStream NotOpened → Opened
+opened_of (Ok s) = record { refusal = 0; given = 0; stream = s }
+opened_of (Err r) = record { refusal = number_of r.refusal; given = r.given; stream = r.stream }
 
-unfoldable pub changed_of : set-answer.Changed → Changed
-changed_of (set-answer.Changed.Refused number s) = record { refusal = number; stream = s }
-changed_of (set-answer.Changed.Done s) = record { refusal = accepted; stream = s }
+unfoldable pub changed_of : Result SonicStream Refused → Changed
+changed_of (Ok s) = record { refusal = 0; stream = s }
+changed_of (Err r) = record { refusal = number_of r.refusal; stream = r.stream }
 
 -- to the entering stream
-unfoldable pub available_of : SonicStream → available-answer.Available → Available
-available_of entering (available-answer.Available.Refused number s) =
-    record { refusal = number; frames = record { 0 = 0 }; stream = s }
-available_of entering (available-answer.Available.Waiting n) =
-    record { refusal = accepted; frames = n; stream = entering }
+unfoldable pub available_of : SonicStream → Result Frames Refused → Available
+available_of entering (Ok n) = record { refusal = 0; frames = n; stream = entering }
+available_of entering (Err r) =
+    record { refusal = number_of r.refusal; frames = record { 0 = 0 }; stream = r.stream }
 
 unfoldable pub told_of : call-told.Told → Told
 told_of t = record { outcome = outcome_number t.outcome; passed = t.passed; sum = t.sum }
 
 -- refused, every field told is 0
-unfoldable pub wrote_of : write-answer.Wrote → Wrote
-wrote_of (write-answer.Wrote.Refused number s) =
-    record { refusal = number; told = record { outcome = 0; passed = 0; sum = 0 }; stream = s }
-wrote_of (write-answer.Wrote.Done told s) = record { refusal = accepted; told = told_of told; stream = s }
+unfoldable pub wrote_of : Result write-answer.Wrote Refused → Wrote
+wrote_of (Ok w) = record { refusal = 0; told = told_of w.told; stream = w.stream }
+wrote_of (Err r) =
+    record {
+      refusal = number_of r.refusal;
+      told = record { outcome = 0; passed = 0; sum = 0 };
+      stream = r.stream;
+    }
 
-unfoldable pub gave_of : read_answer.Gave → Gave
-gave_of (read_answer.Gave.Refused number s) = record { refusal = number; frames = record { 0 = 0 }; stream = s }
-gave_of (read_answer.Gave.Done n s) = record { refusal = accepted; frames = n; stream = s }
+unfoldable pub gave_of : Result read_answer.Gave Refused → Gave
+gave_of (Ok g) = record { refusal = 0; frames = g.frames; stream = g.stream }
+gave_of (Err r) = record { refusal = number_of r.refusal; frames = record { 0 = 0 }; stream = r.stream }
 
 -- ---- what the calls ensure: the answer r and the areas at exit are those of the call c
 

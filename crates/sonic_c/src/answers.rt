@@ -1,127 +1,126 @@
 // Answers as the structs of C.
 ghost use Rattle.std.specs.Prelude.{◌≡◌};
-ghost use Rattle.sonic_c.specs.Answers.{opened_of, changed_of, available_of, wrote_of, gave_of};
-ghost use Rattle.sonic_c.specs.Answers.{outcome_number, told_of};
+ghost use Rattle.sonic_c.specs.Answers.{opened_of, changed_of, available_of, told_of, wrote_of, gave_of};
 
 use crate::{Available, Changed, Gave, Opened, Told, Wrote};
 use frames::Frames;
-use sonic::Outcome;
-use stream::{SonicStream, refusals};
-
-// The number of an outcome.
-fn outcome_number(outcome: Outcome) -> u32
-    ensures { result ≡ outcome_number outcome }
-{
-    match outcome {
-        Outcome::Empty => 0,
-        Outcome::Copied => 1,
-        Outcome::Waiting => 2,
-        Outcome::Stretched => 3,
-        Outcome::Stalled => 4,
-    }
-}
+use stream::{NotOpened, Refusal, Refused, SonicStream};
 
 // An opening's answer.
-pub(crate) fn opened_of(answer: stream::Opened) -> Opened
-    ensures { result ≡ opened_of answer }
-{
-    match answer {
-        stream::Opened::Refused {
-            number,
-            given,
-            stream,
-        } => Opened {
-            refusal: number,
-            given,
-            stream,
-        },
-        stream::Opened::Done(stream) => Opened {
-            refusal: refusals::ACCEPTED,
-            given: 0,
-            stream,
-        },
+impl From<Result<SonicStream, NotOpened>> for Opened {
+    ghost from_gives = { λ answer opened. opened ≡ opened_of answer };
+
+    #[tactic(auto, unfolding(crate::specs::Answers::opened_of))]
+    fn from(answer: Result<SonicStream, NotOpened>) -> Opened {
+        match answer {
+            Ok(stream) => Opened {
+                refusal: Refusal::ACCEPTED,
+                given: 0,
+                stream,
+            },
+            Err(refused) => Opened {
+                refusal: u32::from(refused.refusal),
+                given: refused.given,
+                stream: refused.stream,
+            },
+        }
     }
 }
 
 // A setting's answer.
-pub(crate) fn changed_of(answer: stream::Changed) -> Changed
-    ensures { result ≡ changed_of answer }
-{
-    match answer {
-        stream::Changed::Refused(refusal, stream) => Changed { refusal, stream },
-        stream::Changed::Done(stream) => Changed {
-            refusal: refusals::ACCEPTED,
-            stream,
-        },
+impl From<Result<SonicStream, Refused>> for Changed {
+    ghost from_gives = { λ answer changed. changed ≡ changed_of answer };
+
+    #[tactic(auto, unfolding(crate::specs::Answers::changed_of))]
+    fn from(answer: Result<SonicStream, Refused>) -> Changed {
+        match answer {
+            Ok(stream) => Changed {
+                refusal: Refusal::ACCEPTED,
+                stream,
+            },
+            Err(refused) => Changed {
+                refusal: u32::from(refused.refusal),
+                stream: refused.stream,
+            },
+        }
     }
 }
 
-// The answer of `available_frames` to a stream.
-pub(crate) fn available_of(entering: SonicStream, answer: stream::Available) -> Available
+// The answer of `available_frames` to a stream. No `From`: an accepted answer has no stream.
+#[tactic(auto, unfolding(crate::specs::Answers::available_of))]
+pub(crate) fn available_of(entering: SonicStream, answer: Result<Frames, Refused>) -> Available
     ensures { result ≡ available_of entering answer }
 {
     match answer {
-        stream::Available::Refused(refusal, stream) => Available {
-            refusal,
-            frames: Frames(0),
-            stream,
-        },
-        stream::Available::Waiting(frames) => Available {
-            refusal: refusals::ACCEPTED,
+        Ok(frames) => Available {
+            refusal: Refusal::ACCEPTED,
             frames,
             stream: entering,
+        },
+        Err(refused) => Available {
+            refusal: u32::from(refused.refusal),
+            frames: Frames(0),
+            stream: refused.stream,
         },
     }
 }
 
 // What is told of an accepted write or flush.
-fn told_of(told: sonic::Told) -> Told
-    ensures { result ≡ told_of told }
-{
-    let outcome = told.outcome;
-    Told {
-        outcome: outcome_number(outcome),
-        passed: told.passed,
-        sum: told.sum,
+impl From<sonic::Told> for Told {
+    ghost from_gives = { λ told numbers. numbers ≡ told_of told };
+
+    #[tactic(auto, unfolding(crate::specs::Answers::told_of, crate::specs::Answers::outcome_number))]
+    fn from(told: sonic::Told) -> Told {
+        Told {
+            outcome: told.outcome as u32,
+            passed: told.passed,
+            sum: told.sum,
+        }
     }
 }
 
 // The answer of a write or a flush.
-pub(crate) fn wrote_of(answer: sonic::Wrote) -> Wrote
-    ensures { result ≡ wrote_of answer }
-{
-    match answer {
-        sonic::Wrote::Refused(refusal, stream) => Wrote {
-            refusal,
-            told: Told {
-                outcome: 0,
-                passed: 0,
-                sum: 0,
+impl From<Result<sonic::Wrote, Refused>> for Wrote {
+    ghost from_gives = { λ answer wrote. wrote ≡ wrote_of answer };
+
+    #[tactic(auto, unfolding(crate::specs::Answers::wrote_of))]
+    fn from(answer: Result<sonic::Wrote, Refused>) -> Wrote {
+        match answer {
+            Ok(wrote) => Wrote {
+                refusal: Refusal::ACCEPTED,
+                told: Told::from(wrote.told),
+                stream: wrote.stream,
             },
-            stream,
-        },
-        sonic::Wrote::Done(told, stream) => Wrote {
-            refusal: refusals::ACCEPTED,
-            told: told_of(told),
-            stream,
-        },
+            Err(refused) => Wrote {
+                refusal: u32::from(refused.refusal),
+                told: Told {
+                    outcome: 0,
+                    passed: 0,
+                    sum: 0,
+                },
+                stream: refused.stream,
+            },
+        }
     }
 }
 
 // A read's answer.
-pub(crate) fn gave_of(answer: sonic::Gave) -> Gave
-    ensures { result ≡ gave_of answer }
-{
-    match answer {
-        sonic::Gave::Refused(refusal, stream) => Gave {
-            refusal,
-            frames: Frames(0),
-            stream,
-        },
-        sonic::Gave::Done(frames, stream) => Gave {
-            refusal: refusals::ACCEPTED,
-            frames,
-            stream,
-        },
+impl From<Result<sonic::Gave, Refused>> for Gave {
+    ghost from_gives = { λ answer gave. gave ≡ gave_of answer };
+
+    #[tactic(auto, unfolding(crate::specs::Answers::gave_of))]
+    fn from(answer: Result<sonic::Gave, Refused>) -> Gave {
+        match answer {
+            Ok(gave) => Gave {
+                refusal: Refusal::ACCEPTED,
+                frames: gave.frames,
+                stream: gave.stream,
+            },
+            Err(refused) => Gave {
+                refusal: u32::from(refused.refusal),
+                frames: Frames(0),
+                stream: refused.stream,
+            },
+        }
     }
 }

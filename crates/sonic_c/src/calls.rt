@@ -10,7 +10,7 @@ ghost use Rattle.adding.specs.Calls.{write_call, flush_call};
 ghost use Rattle.read.specs.Reading.{read_call};
 ghost use Rattle.sonic_c.specs.Answers.{opened_of, changed_of, available_of, WroteEnsures, GaveEnsures};
 
-use crate::answers::{available_of, changed_of, gave_of, opened_of, wrote_of};
+use crate::answers::available_of;
 use crate::{Available, Changed, Gave, Opened, Wrote};
 use frames::Frames;
 use stream::{Setting, SonicStream, Ties};
@@ -18,37 +18,37 @@ use stream::{Setting, SonicStream, Ties};
 pub fn kelpladder_open(rate: u32, channels: u32) -> Opened
     ensures { result ≡ opened_of (open_call rate channels Smallest) }
 {
-    opened_of(SonicStream::new(rate, channels))
+    Opened::from(SonicStream::new(rate, channels))
 }
 
 pub fn kelpladder_open_with_ties(rate: u32, channels: u32, ties: u32) -> Opened
     ensures { result ≡ opened_of (open_call rate channels (ties_of ties)) }
 {
-    opened_of(SonicStream::with_ties(rate, channels, Ties::from(ties)))
+    Opened::from(SonicStream::with_ties(rate, channels, Ties::from(ties)))
 }
 
 pub fn kelpladder_set_speed(stream: SonicStream, speed: f32) -> Changed
     ensures { result ≡ changed_of (set_call stream (Speed speed)) }
 {
-    changed_of(stream.set(Setting::Speed(speed)))
+    Changed::from(stream.set(Setting::Speed(speed)))
 }
 
 pub fn kelpladder_set_pitch(stream: SonicStream, pitch: f32) -> Changed
     ensures { result ≡ changed_of (set_call stream (Pitch pitch)) }
 {
-    changed_of(stream.set(Setting::Pitch(pitch)))
+    Changed::from(stream.set(Setting::Pitch(pitch)))
 }
 
 pub fn kelpladder_set_volume(stream: SonicStream, volume: f32) -> Changed
     ensures { result ≡ changed_of (set_call stream (Volume volume)) }
 {
-    changed_of(stream.set(Setting::Volume(volume)))
+    Changed::from(stream.set(Setting::Volume(volume)))
 }
 
 pub fn kelpladder_set_step_over(stream: SonicStream, on: u32) -> Changed
     ensures { result ≡ changed_of (set_call stream (StepOver (steps_over on))) }
 {
-    changed_of(stream.set(Setting::StepOver(on > 0)))
+    Changed::from(stream.set(Setting::StepOver(on > 0)))
 }
 
 pub fn kelpladder_available_frames(stream: SonicStream) -> Available
@@ -70,7 +70,7 @@ pub fn kelpladder_write_f32(
         (areas input.old stage.old output.old scratch.old)) result
         (areas input.new stage.new output.new scratch.new) }
 {
-    wrote_of(sonic::write_f32(stream, samples, input, stage, output, scratch))
+    Wrote::from(sonic::write_f32(stream, samples, input, stage, output, scratch))
 }
 
 pub fn kelpladder_read_f32(
@@ -82,7 +82,7 @@ pub fn kelpladder_read_f32(
     ensures { GaveEnsures stream.channels (read_call stream most slice.old output.old) result
         slice.old slice.new output.new }
 {
-    gave_of(sonic::read_f32(stream, Frames(most), slice, output))
+    Gave::from(sonic::read_f32(stream, Frames(most), slice, output))
 }
 
 pub fn kelpladder_flush(
@@ -97,5 +97,5 @@ pub fn kelpladder_flush(
         scratch.old)) result
         (areas input.new stage.new output.new scratch.new) }
 {
-    wrote_of(sonic::flush(stream, input, stage, output, scratch))
+    Wrote::from(sonic::flush(stream, input, stage, output, scratch))
 }

@@ -5,7 +5,8 @@ ghost use Rattle.wave.specs.Wave.{read_wave, write_wave};
 ghost use Rattle.sonic_c.specs.Waves.{wave_of, written_of};
 
 use frames::Frames;
-use stream::refusals;
+use stream::Refusal;
+use wave::{WaveFile, WaveRefused};
 
 // What reading answers.
 #[repr(C)]
@@ -27,51 +28,54 @@ pub struct WaveWritten {
     pub bytes: usize,
 }
 
-fn wave_of(answer: wave::WaveRead) -> Wave
-    ensures { result ≡ wave_of answer }
-{
-    match answer {
-        wave::WaveRead::Refused(number) => Wave {
-            refusal: number,
-            rate: 0,
-            channels: 0,
-            frames: Frames(0),
-            begin: 0,
-        },
-        wave::WaveRead::Done(file) => {
-            let frames = file.frames;
-            Wave {
-                refusal: refusals::ACCEPTED,
+impl From<Result<WaveFile, Refusal>> for Wave {
+    ghost from_gives = { λ answer told. told ≡ wave_of answer };
+
+    #[tactic(auto, unfolding(crate::specs::Waves::wave_of))]
+    fn from(answer: Result<WaveFile, Refusal>) -> Wave {
+        match answer {
+            Ok(file) => Wave {
+                refusal: Refusal::ACCEPTED,
                 rate: file.rate,
                 channels: file.channels,
-                frames,
+                frames: file.frames,
                 begin: file.begin,
-            }
+            },
+            Err(refusal) => Wave {
+                refusal: u32::from(refusal),
+                rate: 0,
+                channels: 0,
+                frames: Frames(0),
+                begin: 0,
+            },
         }
     }
 }
 
-fn written_of(answer: wave::WaveWritten) -> WaveWritten
-    ensures { result ≡ written_of answer }
-{
-    match answer {
-        wave::WaveWritten::Refused { number, given } => WaveWritten {
-            refusal: number,
-            given,
-            bytes: 0,
-        },
-        wave::WaveWritten::Done(bytes) => WaveWritten {
-            refusal: refusals::ACCEPTED,
-            given: 0,
-            bytes,
-        },
+impl From<Result<usize, WaveRefused>> for WaveWritten {
+    ghost from_gives = { λ answer told. told ≡ written_of answer };
+
+    #[tactic(auto, unfolding(crate::specs::Waves::written_of))]
+    fn from(answer: Result<usize, WaveRefused>) -> WaveWritten {
+        match answer {
+            Ok(bytes) => WaveWritten {
+                refusal: Refusal::ACCEPTED,
+                given: 0,
+                bytes,
+            },
+            Err(refused) => WaveWritten {
+                refusal: u32::from(refused.refusal),
+                given: refused.given,
+                bytes: 0,
+            },
+        }
     }
 }
 
 pub fn kelpladder_wave_read(bytes: &[u8]) -> Wave
     ensures { result ≡ wave_of (read_wave bytes.now) }
 {
-    wave_of(wave::read_wave(bytes))
+    Wave::from(wave::read_wave(bytes))
 }
 
 pub fn kelpladder_wave_write(
@@ -83,5 +87,5 @@ pub fn kelpladder_wave_write(
     ensures { (result ≡ written_of (write_wave rate channels samples.now dest.old).answer)
         × (dest.new ≡ (write_wave rate channels samples.now dest.old).dest) }
 {
-    written_of(wave::write_wave(dest, rate, channels, samples))
+    WaveWritten::from(wave::write_wave(dest, rate, channels, samples))
 }

@@ -3,6 +3,4 @@ use Rattle.sonic_c.proofs.Answering.{gave-ensures}
 use Rattle.sonic_c.proofs.calls.kelpladder_read_f32.Goals as goal
 
 pub returns : goal.returns
-returns c =
-    let called = c.before.before.before.before in
-    gave-ensures called.read_f32.result c.gave_of.result c.gave_of.ensures called.read_f32.ensures
+returns c = gave-ensures c.read_f32.result c.from.result c.from.ensures c.read_f32.ensures

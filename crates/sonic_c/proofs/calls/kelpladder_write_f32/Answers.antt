@@ -3,6 +3,4 @@ use Rattle.sonic_c.proofs.Answering.{wrote-ensures}
 use Rattle.sonic_c.proofs.calls.kelpladder_write_f32.Goals as goal
 
 pub returns : goal.returns
-returns c =
-    let called = c.before.before.before.before.before in
-    wrote-ensures called.write_f32.result c.wrote_of.result c.wrote_of.ensures called.write_f32.ensures.call_ensures
+returns c = wrote-ensures c.write_f32.result c.from.result c.from.ensures c.write_f32.ensures.call_ensures
