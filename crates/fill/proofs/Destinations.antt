@@ -1,6 +1,6 @@
 -- Where a call's frames go, by the areas. Here:
 --   room-is, fits, few, short, room-there, target-fits     counts there
---   copied-straight, copied-staged, put-straight, put-staged     what a copy and a stretch do there
+--   copy-fits, copied-straight, copied-staged, put-straight, put-staged     what a copy and a stretch do there
 -- Assumes nothing.
 use mathlib.Core.Path.{◌≡◌, refl, subst}
 use mathlib.Core.Bool.{Bool, true, false, cond}
@@ -74,6 +74,10 @@ pub target-fits : (s : SonicStream) (a : Areas) (u : StretchCall) (to : Destinat
 target-fits s a u to at b fit some is place same e = rw (place, same, is, ← e) (room-there s a fit some, few s a fit)
 
 -- ---- a copy, behind k frames of the area
+
+pub copy-fits : (s : SonicStream) (a : Areas) (k : ℕ) (b : Bool) → (k + s.held.0) * s.channels ≤ length (filled_area s a) → straight s ≡ b
+    → k * s.channels + s.held.0 * s.channels ≤ length (cond b a.output a.stage)
+copy-fits s a k b fits e = rw (← e) (omega (arith, add-mul k s.held.0 s.channels, fits))
 
 module _ (s : SonicStream) (a b : Areas) (k : ℕ) (is : k ≡ (destination_in s a).kept.0) where
   abbrev put : List ℤ → ℕ → List ℤ

@@ -29,6 +29,7 @@ fn copy_frames(
     let channels = stream.channels as usize;
     let count = stream.held.samples(channels);
     let place = kept.samples(channels);
+    // A call for each area: a `&mut` that is one of two parameters, by a test, gets no generated proof.
     if stream.pitch == 1.0 {
         frames::copy(input, Samples(0), count, output, place);
         return;

@@ -6,6 +6,7 @@ use frames::{Frames, Samples};
 use stream::SonicStream;
 
 // Where a call's frames go: behind `kept` frames of an area, which has room for `room` more; and how many there may be.
+// No `stretch::Target`, whose place counts samples: contracts count the frames kept, and a copy asks for no stretch.
 #[derive(Clone, Copy)]
 pub struct Destination {
     pub kept: Frames,

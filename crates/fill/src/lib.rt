@@ -30,7 +30,7 @@ pub enum Outcome {
 }
 
 // What is told of an accepted write or flush: its outcome, the periods that it passed over, and the sum of differences
-// of the period that its last search found, 0 if it made none.
+// of the period that its last search found. That is 0, and no None, if it made none: `stretched` and C have it so.
 #[derive(Clone, Copy, Debug, PartialEq, Eq)]
 pub struct Told {
     pub outcome: Outcome,
@@ -92,7 +92,8 @@ pub(crate) fn nothing(stream: SonicStream, outcome: Outcome) -> Filled
 }
 
 // The frames of a call, before rate and volume: refused if there are more than there may be, which is told as a full
-// stage, or if they do not fit the area, which is told as a full output.
+// stage, or if they do not fit the area, which is told as a full output. The stream is a plain one, of which the
+// contract asks StreamReady: docs/CRATES.md hands this function to any caller.
 pub fn fill_area(
     stream: SonicStream,
     input: &[i16],

@@ -83,6 +83,7 @@ fn stretch_frames(
         period: stream.prev_period,
         min_diff: stream.prev_min_diff,
     };
+    // A call for each area: a `&mut` that is one of two parameters, by a test, gets no generated proof.
     if stream.pitch == 1.0 {
         return stretch::change_speed(samples, ready, error, prev, output, target, scratch);
     }

@@ -27,7 +27,8 @@ pub invariant_of-ready : goal.invariant_of-ready
 invariant_of-ready c =
     let s = c.args.stream in
     let lent = areas c.args.input.now c.args.stage.now c.args.output.now c.args.scratch.now in
-    record { ready = call-ready (due-of s c.args.speed lent c.requires.ready c.requires.stretches) c.from.result }
+    let r = call-ready (due-of s c.args.speed lent c.requires.ready c.requires.stretches) c.from.result in
+    record { ready = record { opened = r.opened; period_is = r.period_is; speed_fits = r.speed_fits; few = r.few } }
 
 pub destination_of-to-requires : goal.destination_of-to-requires
 destination_of-to-requires c =
