@@ -14,7 +14,6 @@ ghost use Rattle.volume.specs.Volume.{scaled};
 
 use frames::{Frames, Samples};
 use sinc::table::SincTable;
-use sinc::window::Window;
 
 // A search's answer.
 #[repr(C)]
@@ -123,11 +122,9 @@ pub extern "C" fn kernel_interpolate_frame(
 {
     sinc::interpolate_frame(
         SincTable { entries: table },
-        Window {
-            stage,
-            from: Samples(0),
-            channels,
-        },
+        stage,
+        Samples(0),
+        channels,
         ratio,
         width,
         output,

@@ -4,6 +4,7 @@
 use mathlib.Core.Path.{◌≡◌, sym, ap, ◌∙◌, subst}
 use mathlib.Core.Bool.{Bool, true, false, cond}
 use mathlib.Core.List.{List, ◌∷◌, [], ◌++◌, map}
+use Rattle.std.specs.Prelude.{None}
 use Prim.Native.Nat.{ℕ, ◌+◌, ◌*◌, ◌≤◌}
 use native.Mathlib.Nat.{le_refl, le_trans, mul-le-mul_right}
 use native.Mathlib.Omega.{arith}
@@ -98,7 +99,7 @@ module _ {m : Moment} {l : Ledger} (h : Tracks m l) (a : Areas) (g : Lent m a) w
 
   pub accepts-write : (samples : List Float)
       → (let w : Made = write_work samples seen in
-      refusal_of s a (length (whole_frames ch samples)) w ≡ 0
+      refusal_of s a (length (whole_frames ch samples)) w ≡ None
       → Accepts l h.waiting a (write samples) w.told w.state w.frames)
   unfolding write_work entry state_of stream_of
   accepts-write samples e =
@@ -124,7 +125,7 @@ module _ {m : Moment} {l : Ledger} (h : Tracks m l) (a : Areas) (g : Lent m a) w
 
   pub accepts-flush :
       (let w : Made = flush_work seen in
-      refusal_of s a (2 * max_required l.state.rate) w ≡ 0
+      refusal_of s a (2 * max_required l.state.rate) w ≡ None
       → Accepts l h.waiting a flush w.told (cleared w.state) (take (expected seen) w.frames))
   unfolding flush_work entry state_of stream_of cleared
   accepts-flush e =

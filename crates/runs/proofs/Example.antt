@@ -1,5 +1,6 @@
 -- A run that there is, computed: 8,000 Hz, 1 channel, with a refused write, accepted writes in areas of other lengths with other leftovers,
 -- a setting, a flush, and reads, one of them refused. Its ledger, and `ledger-claim` for it. No proof cites this file. Assumes nothing.
+use Rattle.std.specs.Prelude.{Ok, Err}
 use mathlib.Core.Path.{◌≡◌, refl, ap, ◌∙◌}
 use mathlib.Core.List.{List, [], ◌∷◌}
 use Prim.Native.Nat.{ℕ}
@@ -21,22 +22,19 @@ use Rattle.rate.specs.Conversion.{adjust_rate}
 use Rattle.stretch.specs.Tally.{tally}
 use Rattle.stretch.specs.Speed.{stalled}
 use Rattle.search.specs.declared.Ties.TheVariants.{Smallest}
+use Rattle.stream.specs.declared.refusal.Refusal.TheVariants.{BadAreas, InputFull}
 use Rattle.stream.specs.declared.SonicStream.{SonicStream}
 use Rattle.stream.specs.declared.Setting.TheVariants.{Volume}
-use Rattle.stream.specs.declared.Opened.{Opened}
-use Rattle.stream.specs.declared.Changed.{Changed}
 use Rattle.stream.specs.Balance.{none, booked, past}
 use Rattle.stream.specs.State.{with_settings}
 use Rattle.stream.specs.Stream.{state_of, stream_of}
-use Rattle.stream.specs.Refusals.{bad_areas, input_full, rate_bad, channels_bad, limits_in_order, period_in_order, settings_in_order, prev_in_order, positions_in_order}
+use Rattle.stream.specs.Refusals.{rate_bad, channels_bad, limits_in_order, period_in_order, settings_in_order, prev_in_order, positions_in_order}
 use Rattle.stream.specs.Refusals.{is_in_order, sizes_bad, parts_bad, areas_bad, output_bad, stage_needed, refusal, read_refusal}
 use Rattle.stream.specs.Settings.{fresh, with_setting, open_call, set_call}
 use Rattle.fill.specs.declared.Told.{Told}
 use Rattle.fill.specs.declared.Outcome.TheVariants.{Copied}
 use Rattle.fill.specs.Taking.{removed, nothing, copied, taken_at, taken, counted}
 use Rattle.process.specs.Process.{whole_frames, joined, counting, finished, process, write_work, flush_work, expected, cleared}
-use Rattle.adding.specs.declared.Wrote.{Wrote}
-use Rattle.read.specs.declared.Gave.{Gave}
 use Rattle.adding.specs.Calls.{refused_call, accepted_call, write_call, flush_call}
 use Rattle.read.specs.Reading.{read_count, read_call}
 use Rattle.runs.specs.Ledger.{Ledger, begun, entry, posted, ledger_from, ledger}
@@ -51,7 +49,7 @@ use Rattle.runs.proofs.Claims.{ledger-claim}
 abbrev stream_for : Float → ℕ → SonicStream
 stream_for volume waiting = stream_of (with_settings (fresh 8000 1 Smallest) one one volume 0 start) waiting
 
-opens : open_call 8000 1 Smallest ≡ Opened.Done (stream_for one 0)
+opens : open_call 8000 1 Smallest ≡ Ok (stream_for one 0)
 unfolding open_call rate_bad channels_bad fresh
 opens = refl
 
@@ -69,7 +67,7 @@ small : Areas
 small = areas [] [] [] (replicate 246 (pos 0))
 
 no_room : Event
-no_room = write-went samples small (Wrote.Refused input_full (stream_for one 0)) small
+no_room = write-went samples small (Err (record { refusal = InputFull; stream = stream_for one 0 })) small
 
 -- with something in them already
 fair : Areas
@@ -79,22 +77,22 @@ fair-left : Areas
 fair-left = areas (replicate 2 (pos 1)) (replicate 5 (pos 2)) (pos 32767 ∷ pos 0 ∷ replicate 4 (pos 3)) (replicate 300 (pos 4))
 
 copies : Event
-copies = write-went samples fair (Wrote.Done copying (stream_for one 2)) fair-left
+copies = write-went samples fair (Ok (record { told = copying; stream = stream_for one 2 })) fair-left
 
 softer : Event
-softer = setting-went (Volume half) (Changed.Done (stream_for half 2))
+softer = setting-went (Volume half) (Ok (stream_for half 2))
 
 -- an output area that does not reach over the frames waiting: refused with 4
 short : ReadAreas
 short = record { slice = zero ∷ []; output = pos 32767 ∷ [] }
 
 too_short : Event
-too_short = read-went 1 short (Gave.Refused bad_areas (stream_for half 2)) short
+too_short = read-went 1 short (Err (record { refusal = BadAreas; stream = stream_for half 2 })) short
 
 -- one frame read, the other waits; the rest of the slice is unchanged
 takes_one : Event
 takes_one =
-    read-went 1 (record { slice = half ∷ half ∷ []; output = pos 32767 ∷ pos 0 ∷ pos 5 ∷ [] }) (Gave.Done (record { 0 = 1 }) (stream_for half 1))
+    read-went 1 (record { slice = half ∷ half ∷ []; output = pos 32767 ∷ pos 0 ∷ pos 5 ∷ [] }) (Ok (record { frames = record { 0 = 1 }; stream = stream_for half 1 }))
     (record { slice = one ∷ half ∷ []; output = pos 0 ∷ pos 77 ∷ pos 78 ∷ [] })
 
 -- at half the volume, in areas long enough for a flush
@@ -103,18 +101,18 @@ large output = areas (replicate 492 (pos 11)) (replicate 500 (pos 12)) output (r
 
 copies-softer : Event
 copies-softer =
-    write-went (one ∷ []) (large (pos 0 ∷ replicate 600 (pos 14))) (Wrote.Done copying (stream_for half 2))
+    write-went (one ∷ []) (large (pos 0 ∷ replicate 600 (pos 14))) (Ok (record { told = copying; stream = stream_for half 2 }))
     (large (pos 0 ∷ pos 16383 ∷ replicate 599 (pos 15)))
 
 -- its 492 silent frames are copied, and none is kept: nothing was held, and nothing was in the tail
 flushes : Event
 flushes =
-    flush-went (large (pos 0 ∷ pos 16383 ∷ replicate 599 (pos 15))) (Wrote.Done copying (stream_for half 2))
+    flush-went (large (pos 0 ∷ pos 16383 ∷ replicate 599 (pos 15))) (Ok (record { told = copying; stream = stream_for half 2 }))
     (large (pos 0 ∷ pos 16383 ∷ replicate 599 (pos 16)))
 
 takes-rest : Event
 takes-rest =
-    read-went 9 (record { slice = one ∷ one ∷ one ∷ []; output = pos 0 ∷ pos 16383 ∷ [] }) (Gave.Done (record { 0 = 2 }) (stream_for half 0))
+    read-went 9 (record { slice = one ∷ one ∷ one ∷ []; output = pos 0 ∷ pos 16383 ∷ [] }) (Ok (record { frames = record { 0 = 2 }; stream = stream_for half 0 }))
     (record { slice = zero ∷ sample_out (pos 16383) ∷ one ∷ []; output = pos 1 ∷ pos 2 ∷ [] })
 
 -- ---- the run

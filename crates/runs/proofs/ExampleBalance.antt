@@ -1,5 +1,6 @@
 -- Two runs that there are, computed: 1,000 Hz, 1 channel, and 30 frames, a pulse in every fifth of them. One at speed 2 skips, and its flush skips
 -- more; one at speed 0.5 inserts. `ledger-claim`, `balance`, `reconciled` and `totals` for them. No proof cites this file. Assumes nothing.
+use Rattle.std.specs.Prelude.{Ok}
 use mathlib.Core.Path.{◌≡◌, refl, sym, ap, ◌∙◌}
 use mathlib.Core.List.{List, [], ◌∷◌, ◌++◌}
 use Prim.Native.Nat.{ℕ, ◌+◌}
@@ -31,8 +32,6 @@ use Rattle.search.specs.declared.Ties.TheVariants.{Smallest}
 use Rattle.stream.specs.declared.SonicStream.{SonicStream}
 use Rattle.stream.specs.declared.balance.Balance.{Balance}
 use Rattle.stream.specs.declared.Setting.TheVariants.{Speed}
-use Rattle.stream.specs.declared.Opened.{Opened}
-use Rattle.stream.specs.declared.Changed.{Changed}
 use Rattle.stream.specs.Balance.{none, booked, past}
 use Rattle.stream.specs.State.{State, with_settings, with_input, with_balance}
 use Rattle.stream.specs.Stream.{state_of, stream_of}
@@ -43,7 +42,6 @@ use Rattle.fill.specs.declared.Told.{Told}
 use Rattle.fill.specs.declared.Outcome.TheVariants.{Stretched}
 use Rattle.fill.specs.Taking.{removed, stepped, stretched, taken_at, taken, counted}
 use Rattle.process.specs.Process.{whole_frames, joined, counting, finished, process, write_work, flush_work, expected, cleared}
-use Rattle.adding.specs.declared.Wrote.{Wrote}
 use Rattle.adding.specs.Calls.{refused_call, accepted_call, write_call, flush_call}
 use Rattle.runs.specs.Ledger.{begun, entry, posted, ledger_from, ledger}
 use Rattle.runs.specs.Run.{Event, setting-went, write-went, flush-went, opening, Agree, leave, after_setting, after_call, end, values, total, fed}
@@ -61,7 +59,7 @@ stream_for speed held period play balance waiting =
     let set : State = with_settings (fresh 1000 1 Smallest) speed one one 0 start in
     stream_of (with_balance (with_input set (replicate held []) (record { period = period; min_diff = 0 }) play zero) balance) waiting
 
-opens : open_call 1000 1 Smallest ≡ Opened.Done (stream_for one 0 0 zero none 0)
+opens : open_call 1000 1 Smallest ≡ Ok (stream_for one 0 0 zero none 0)
 unfolding open_call rate_bad channels_bad fresh
 opens = refl
 
@@ -86,17 +84,17 @@ stretching = record { outcome = Stretched; passed = 0; sum = 0 }
 -- ---- speed 2: the write skips one period of 5 frames, the flush two of them and eight of 2 frames in the silence
 
 faster : Event
-faster = setting-went (Speed two) (Changed.Done (stream_for two 0 0 zero none 0))
+faster = setting-went (Speed two) (Ok (stream_for two 0 0 zero none 0))
 
 skips : Event
 skips =
-    write-went six (lent [] []) (Wrote.Done stretching (stream_for two 20 5 (of_bits binary32 0x3c23d70b) (record { skipped = 5; inserted = 0 }) 5))
+    write-went six (lent [] []) (Ok (record { told = stretching; stream = stream_for two 20 5 (of_bits binary32 0x3c23d70b) (record { skipped = 5; inserted = 0 }) 5 }))
     (lent (held ++ held ++ held ++ held) held)
 
 flushes : Event
 flushes =
     flush-went (lent (held ++ held ++ held ++ held) held)
-    (Wrote.Done stretching (stream_for two 0 2 zero (record { skipped = 31; inserted = 0 }) 15)) (lent [] (held ++ held ++ held))
+    (Ok (record { told = stretching; stream = stream_for two 0 2 zero (record { skipped = 31; inserted = 0 }) 15 })) (lent [] (held ++ held ++ held))
 
 skipping : RunOf 1000 1 Smallest
 unfolding faster skips flushes lent pulse six
@@ -192,11 +190,11 @@ skipping-totals = sym (totals 1000 1 Smallest skipping)
 -- ---- speed 0.5: the write inserts one period of 5 frames
 
 slower : Event
-slower = setting-went (Speed half) (Changed.Done (stream_for half 0 0 zero none 0))
+slower = setting-went (Speed half) (Ok (stream_for half 0 0 zero none 0))
 
 inserts : Event
 inserts =
-    write-went six (lent [] []) (Wrote.Done stretching (stream_for half 25 5 (of_bits binary32 0x3d4ccccd) (record { skipped = 0; inserted = 5 }) 10))
+    write-went six (lent [] []) (Ok (record { told = stretching; stream = stream_for half 25 5 (of_bits binary32 0x3d4ccccd) (record { skipped = 0; inserted = 5 }) 10 }))
     (lent (held ++ held ++ held ++ held ++ held) (held ++ held))
 
 inserting : RunOf 1000 1 Smallest

@@ -20,12 +20,13 @@ use Rattle.rate.specs.Conversion.{adjust_rate}
 use Rattle.stretch.specs.Tally.{tally}
 use Rattle.stretch.specs.Speed.{stalled}
 use Rattle.search.specs.declared.Ties.TheVariants.{Smallest}
+use Rattle.stream.specs.declared.refusal.Refusal.TheVariants.{InputFull}
 use Rattle.stream.specs.declared.SonicStream.{SonicStream}
 use Rattle.stream.specs.declared.Setting.TheVariants.{Volume}
 use Rattle.stream.specs.Balance.{booked, past}
 use Rattle.stream.specs.State.{with_settings}
 use Rattle.stream.specs.Stream.{state_of, stream_of}
-use Rattle.stream.specs.Refusals.{input_full, rate_bad, channels_bad, limits_in_order, period_in_order, settings_in_order, prev_in_order, positions_in_order}
+use Rattle.stream.specs.Refusals.{number_of, rate_bad, channels_bad, limits_in_order, period_in_order, settings_in_order, prev_in_order, positions_in_order}
 use Rattle.stream.specs.Refusals.{is_in_order, sizes_bad, parts_bad, areas_bad, output_bad, stage_needed, refusal, read_refusal}
 use Rattle.stream.specs.Settings.{fresh, with_setting, open_call, set_call}
 use Rattle.fill.specs.declared.Outcome.TheVariants.{Copied}
@@ -37,7 +38,7 @@ use Rattle.sonic_c.specs.Answers.{outcome_number, opened_of, changed_of, told_of
 use Rattle.runs.specs.Ledger.{begun, entry, posted, ledger_from, ledger}
 use Rattle.runs.specs.Run.{opening, Agree, leave, after_setting, after_call, after_read, after, values, total, fed}
 use Rattle.runs.specs.Demand.{last, ledger_of}
-use Rattle.runs.specs.CCalls.{CEvent, c-setting-went, c-write-went, c-read-went, CRunOf, outcome_in, changed_in, wrote_in, gave_in, event_in}
+use Rattle.runs.specs.CCalls.{CEvent, c-setting-went, c-write-went, c-read-went, CRunOf, outcome_in, refusal_in, changed_in, wrote_in, gave_in, event_in}
 use Rattle.runs.proofs.Claims.{ledger-claim}
 use Rattle.runs.proofs.CCalls.{in_c}
 
@@ -54,7 +55,7 @@ small = areas [] [] [] (replicate 246 (pos 0))
 
 no_room : CEvent
 no_room =
-    c-write-went (one ∷ zero ∷ []) small (record { refusal = input_full; told = record { outcome = 0; passed = 0; sum = 0 }; stream = stream_for half 0 }) small
+    c-write-went (one ∷ zero ∷ []) small (record { refusal = number_of InputFull; told = record { outcome = 0; passed = 0; sum = 0 }; stream = stream_for half 0 }) small
 
 lent : List ℤ → Areas
 lent output = areas (replicate 2 (pos 9)) (replicate 5 (pos 8)) output (replicate 246 (pos 6))
@@ -72,7 +73,7 @@ takes_one =
 
 calls : CRunOf 8000 1 Smallest
 unfolding softer no_room small copies lent takes_one opened_of changed_of wrote_of told_of gave_of outcome_number
-    event_in changed_in wrote_in gave_in outcome_in open_call
+    event_in changed_in wrote_in gave_in outcome_in refusal_in open_call
     opening after after_setting after_call after_read Agree leave
     set_call with_setting write_call refused_call accepted_call read_call read_count
     stage_needed refusal read_refusal past is_in_order limits_in_order period_in_order settings_in_order prev_in_order positions_in_order rate_bad channels_bad
@@ -111,7 +112,7 @@ calls = record {
 -- ---- the ledger of their run, and what the claim says of it
 
 ledger-is : ((ledger_of (in_c 8000 1 Smallest calls)).made ≡ (pos 16383 ∷ []) ∷ (pos 0 ∷ []) ∷ []) × ((ledger_of (in_c 8000 1 Smallest calls)).outcomes ≡ Copied ∷ [])
-unfolding in_c calls softer no_room copies takes_one event_in changed_in wrote_in gave_in outcome_in
+unfolding in_c calls softer no_room copies takes_one event_in changed_in wrote_in gave_in outcome_in refusal_in
     ledger ledger_from posted begun entry fed fresh with_setting frames_of whole_frames
     write_work process counting counted stalled tally booked finished taken taken_at copied nothing joined removed adjust_rate
     sample_in unit_clamped play_time_grown play_time_left local_speed speed_changes gain scaled amplified clamp_z clamped

@@ -1,5 +1,6 @@
 -- Three runs that there are, computed: 8,000 Hz, 1 channel, speed and pitch 0.5, and the same 13 frames, written at once, in two parts, or
 -- at once with a flush behind them. `same-frames`, `count` and `ledger-claim` for them. No proof cites this file. Assumes nothing.
+use Rattle.std.specs.Prelude.{Result, Ok}
 use mathlib.Core.Path.{◌≡◌, refl, ap, ◌∙◌}
 use mathlib.Core.List.{List, [], ◌∷◌, ◌++◌}
 use Prim.Native.Nat.{ℕ}
@@ -24,10 +25,9 @@ use Rattle.rate.specs.Conversion.{convert, join_tail, adjust_rate}
 use Rattle.stretch.specs.Tally.{tally}
 use Rattle.stretch.specs.Speed.{stalled}
 use Rattle.search.specs.declared.Ties.TheVariants.{Smallest}
+use Rattle.stream.specs.declared.refusal.Refused.{Refused}
 use Rattle.stream.specs.declared.SonicStream.{SonicStream}
 use Rattle.stream.specs.declared.Setting.TheVariants.{Speed, Pitch}
-use Rattle.stream.specs.declared.Opened.{Opened}
-use Rattle.stream.specs.declared.Changed.{Changed}
 use Rattle.stream.specs.Balance.{booked, past}
 use Rattle.stream.specs.State.{with_settings, with_tail}
 use Rattle.stream.specs.Stream.{state_of, stream_of}
@@ -38,7 +38,7 @@ use Rattle.fill.specs.declared.Told.{Told}
 use Rattle.fill.specs.declared.Outcome.TheVariants.{Copied}
 use Rattle.fill.specs.Taking.{removed, nothing, copied, taken_at, taken, counted}
 use Rattle.process.specs.Process.{whole_frames, joined, counting, finished, process, write_work, flush_work, expected, cleared}
-use Rattle.adding.specs.declared.Wrote.{Wrote}
+use Rattle.process.specs.declared.Wrote.{Wrote}
 use Rattle.adding.specs.Calls.{refused_call, accepted_call, write_call, flush_call}
 use Rattle.runs.specs.Ledger.{setting, write, begun, entry, posted, ledger_from, ledger}
 use Rattle.runs.specs.Run.{Event, setting-went, write-went, flush-went, opening, Agree, leave, after_setting, after_call, after, end, values, total, fed}
@@ -49,16 +49,16 @@ use Rattle.runs.proofs.Claims.{ledger-claim, same-frames, count}
 abbrev stream_for : Float → Float → List Frame → Position → ℕ → SonicStream
 stream_for speed pitch tail at waiting = stream_of (with_tail (with_settings (fresh 8000 1 Smallest) speed pitch one 0 at) tail at) waiting
 
-opens : open_call 8000 1 Smallest ≡ Opened.Done (stream_for one one [] start 0)
+opens : open_call 8000 1 Smallest ≡ Ok (stream_for one one [] start 0)
 unfolding open_call rate_bad channels_bad fresh
 opens = refl
 
 slower : Event
-slower = setting-went (Speed half) (Changed.Done (stream_for half one [] start 0))
+slower = setting-went (Speed half) (Ok (stream_for half one [] start 0))
 
 -- speed/pitch is 1, so that frames are copied
 deeper : Event
-deeper = setting-went (Pitch half) (Changed.Done (stream_for half half [] start 0))
+deeper = setting-went (Pitch half) (Ok (stream_for half half [] start 0))
 
 -- areas with other samples behind what they hold
 lent : List ℤ → List ℤ → Areas
@@ -83,14 +83,14 @@ made = pos 1 ∷ pos 20505 ∷ []
 abbrev copying : Told
 copying = record { outcome = Copied; passed = 0; sum = 0 }
 
-made-of-all : Wrote
-made-of-all = Wrote.Done copying (stream_for half half (replicate 12 []) (record { old = 1; new = 2 }) 2)
+made-of-all : Result Wrote Refused
+made-of-all = Ok (record { told = copying; stream = stream_for half half (replicate 12 []) (record { old = 1; new = 2 }) 2 })
 
 all-at-once : Event
 all-at-once = write-went (early ++ late) (lent [] []) made-of-all (lent click made)
 
 first_part : Event
-first_part = write-went early (lent [] []) (Wrote.Done copying (stream_for half half (replicate 6 []) start 0)) (lent (replicate 6 (pos 0)) [])
+first_part = write-went early (lent [] []) (Ok (record { told = copying; stream = stream_for half half (replicate 6 []) start 0 })) (lent (replicate 6 (pos 0)) [])
 
 second-part : Event
 second-part = write-went late (lent (replicate 6 (pos 0)) []) made-of-all (lent click made)
@@ -106,7 +106,7 @@ long stage output =
 
 flush-behind : Event
 flush-behind =
-    flush-went (long click made) (Wrote.Done copying (stream_for half half [] (record { old = 493; new = 986 }) 26)) (long [] (made ++ made-by-flush))
+    flush-went (long click made) (Ok (record { told = copying; stream = stream_for half half [] (record { old = 493; new = 986 }) 26 })) (long [] (made ++ made-by-flush))
 
 at_once : RunOf 8000 1 Smallest
 unfolding slower deeper lent early late click made made-of-all all-at-once

@@ -2,6 +2,7 @@
 -- The first period, of 5 frames, gives 1 frame; the second, of 2, gives none: the write stalls, its frame goes on, and no input is removed. An
 -- empty write makes the frame again and stalls again. In one run the first frame is read in between; in the other a write is refused there, as
 -- its frames do not fit behind those held. `ledger-claim` and `same-calls` for them. No proof cites this file. Assumes nothing.
+use Rattle.std.specs.Prelude.{Ok, Err}
 use mathlib.Core.Path.{◌≡◌, refl, ap, ◌∙◌}
 use mathlib.Core.List.{List, [], ◌∷◌, ◌++◌}
 use Prim.Native.Nat.{ℕ}
@@ -27,22 +28,19 @@ use Rattle.stretch.specs.Steps.{search_at, next_step, samples_out, prev_after, s
 use Rattle.stretch.specs.Tally.{tally}
 use Rattle.stretch.specs.Speed.{steps_in, steps, samples_of, last_place, stalled, answer_for}
 use Rattle.search.specs.declared.Ties.TheVariants.{Smallest}
+use Rattle.stream.specs.declared.refusal.Refusal.TheVariants.{InputFull}
 use Rattle.stream.specs.declared.SonicStream.{SonicStream}
 use Rattle.stream.specs.declared.Setting.TheVariants.{Speed}
-use Rattle.stream.specs.declared.Opened.{Opened}
-use Rattle.stream.specs.declared.Changed.{Changed}
 use Rattle.stream.specs.Balance.{booked, past}
 use Rattle.stream.specs.State.{State, with_settings, with_input}
 use Rattle.stream.specs.Stream.{state_of, stream_of}
-use Rattle.stream.specs.Refusals.{input_full, rate_bad, channels_bad, limits_in_order, period_in_order, settings_in_order, prev_in_order, positions_in_order, is_in_order}
+use Rattle.stream.specs.Refusals.{rate_bad, channels_bad, limits_in_order, period_in_order, settings_in_order, prev_in_order, positions_in_order, is_in_order}
 use Rattle.stream.specs.Refusals.{sizes_bad, parts_bad, areas_bad, output_bad, stage_needed, refusal, read_refusal}
 use Rattle.stream.specs.Settings.{fresh, with_setting, open_call, set_call}
 use Rattle.fill.specs.declared.Told.{Told}
 use Rattle.fill.specs.declared.Outcome.TheVariants.{Stalled}
 use Rattle.fill.specs.Taking.{stepped, stretched, taken_at, taken, counted}
 use Rattle.process.specs.Process.{whole_frames, joined, counting, finished, process, write_work}
-use Rattle.adding.specs.declared.Wrote.{Wrote}
-use Rattle.read.specs.declared.Gave.{Gave}
 use Rattle.adding.specs.Calls.{refused_call, accepted_call, write_call}
 use Rattle.read.specs.Reading.{read_count, read_call}
 use Rattle.runs.specs.Ledger.{begun, entry, posted, ledger_from, ledger}
@@ -58,7 +56,7 @@ stream_for speed held period play waiting =
     let set : State = with_settings (fresh 1000 1 Smallest) speed one one 0 start in
     stream_of (with_input set (replicate held []) (record { period = period; min_diff = 0 }) play zero) waiting
 
-opens : open_call 1000 1 Smallest ≡ Opened.Done (stream_for one 0 0 zero 0)
+opens : open_call 1000 1 Smallest ≡ Ok (stream_for one 0 0 zero 0)
 unfolding open_call rate_bad channels_bad fresh
 opens = refl
 
@@ -91,25 +89,25 @@ abbrev stalling : Told
 stalling = record { outcome = Stalled; passed = 0; sum = 0 }
 
 faster : Event
-faster = setting-went (Speed five) (Changed.Done (stream_for five 0 0 zero 0))
+faster = setting-went (Speed five) (Ok (stream_for five 0 0 zero 0))
 
 stalls : Event
-stalls = write-went samples (lent [] []) (Wrote.Done stalling (stream_for five 36 2 play 1)) (lent held (pos 32767 ∷ []))
+stalls = write-went samples (lent [] []) (Ok (record { told = stalling; stream = stream_for five 36 2 play 1 })) (lent held (pos 32767 ∷ []))
 
 takes : Event
 takes =
-    read-went 9 (record { slice = zero ∷ zero ∷ []; output = pos 32767 ∷ [] }) (Gave.Done (record { 0 = 1 }) (stream_for five 36 2 play 0))
+    read-went 9 (record { slice = zero ∷ zero ∷ []; output = pos 32767 ∷ [] }) (Ok (record { frames = record { 0 = 1 }; stream = stream_for five 36 2 play 0 }))
     (record { slice = one ∷ zero ∷ []; output = pos 5 ∷ [] })
 
 stalls-again : Event
-stalls-again = write-went [] (lent held []) (Wrote.Done stalling (stream_for five 36 2 play 1)) (lent held (pos 32767 ∷ []))
+stalls-again = write-went [] (lent held []) (Ok (record { told = stalling; stream = stream_for five 36 2 play 1 })) (lent held (pos 32767 ∷ []))
 
 no_room : Event
-no_room = write-went samples (lent held (pos 32767 ∷ [])) (Wrote.Refused input_full (stream_for five 36 2 play 1)) (lent held (pos 32767 ∷ []))
+no_room = write-went samples (lent held (pos 32767 ∷ [])) (Err (record { refusal = InputFull; stream = stream_for five 36 2 play 1 })) (lent held (pos 32767 ∷ []))
 
 stalls-unread : Event
 stalls-unread =
-    write-went [] (lent held (pos 32767 ∷ [])) (Wrote.Done stalling (stream_for five 36 2 play 2)) (lent held (pos 32767 ∷ pos 32767 ∷ []))
+    write-went [] (lent held (pos 32767 ∷ [])) (Ok (record { told = stalling; stream = stream_for five 36 2 play 2 })) (lent held (pos 32767 ∷ pos 32767 ∷ []))
 
 stalled-run : RunOf 1000 1 Smallest
 unfolding faster stalls takes stalls-again lent pulse samples held

@@ -1,6 +1,7 @@
 -- A run that there is, computed: 1,000 Hz, 1 channel, speed 20, and 30 frames, a pulse in every fifth of them. The period of 5 frames gives no
 -- frame: the write stalls. Stepping over is switched on, and an empty write passes over that period; 25 frames are held. `totals` for it. No
 -- proof cites this file. Assumes nothing.
+use Rattle.std.specs.Prelude.{Ok}
 use mathlib.Core.Path.{◌≡◌, refl, sym}
 use mathlib.Core.Bool.{true}
 use mathlib.Core.List.{List, [], ◌∷◌, ◌++◌}
@@ -30,8 +31,6 @@ use Rattle.search.specs.declared.Ties.TheVariants.{Smallest}
 use Rattle.stream.specs.declared.SonicStream.{SonicStream}
 use Rattle.stream.specs.declared.balance.Balance.{Balance}
 use Rattle.stream.specs.declared.Setting.TheVariants.{Speed, StepOver}
-use Rattle.stream.specs.declared.Opened.{Opened}
-use Rattle.stream.specs.declared.Changed.{Changed}
 use Rattle.stream.specs.Balance.{none, booked, past}
 use Rattle.stream.specs.State.{State, with_settings, with_input, with_balance}
 use Rattle.stream.specs.Stream.{state_of, stream_of}
@@ -41,7 +40,6 @@ use Rattle.stream.specs.Settings.{fresh, with_setting, open_call, set_call}
 use Rattle.fill.specs.declared.Outcome.TheVariants.{Stretched, Stalled}
 use Rattle.fill.specs.Taking.{removed, stepped, stretched, taken_at, taken, counted}
 use Rattle.process.specs.Process.{whole_frames, joined, counting, finished, process, write_work}
-use Rattle.adding.specs.declared.Wrote.{Wrote}
 use Rattle.adding.specs.Calls.{refused_call, accepted_call, write_call}
 use Rattle.runs.specs.Run.{Event, setting-went, write-went, opening, Agree, leave, after_setting, after_call, end}
 use Rattle.runs.specs.Run as Run
@@ -54,7 +52,7 @@ stream_for speed over held period play totals =
     let set : State = with_settings (fresh 1000 1 Smallest) speed one one over start in
     stream_of (with_balance (with_input set (replicate held []) (record { period = period; min_diff = 0 }) play zero) totals) 0
 
-opens : open_call 1000 1 Smallest ≡ Opened.Done (stream_for one 0 0 0 zero none)
+opens : open_call 1000 1 Smallest ≡ Ok (stream_for one 0 0 0 zero none)
 unfolding open_call rate_bad channels_bad fresh
 opens = refl
 
@@ -80,20 +78,20 @@ abbrev twenty-five : Float
 twenty-five = of_bits binary32 0x3aa3d70b
 
 faster : Event
-faster = setting-went (Speed max_speed) (Changed.Done (stream_for max_speed 0 0 0 zero none))
+faster = setting-went (Speed max_speed) (Ok (stream_for max_speed 0 0 0 zero none))
 
 stalls : Event
 stalls =
-    write-went six (lent []) (Wrote.Done (record { outcome = Stalled; passed = 0; sum = 0 }) (stream_for max_speed 0 30 5 thirty none))
+    write-went six (lent []) (Ok (record { told = record { outcome = Stalled; passed = 0; sum = 0 }; stream = stream_for max_speed 0 30 5 thirty none }))
     (lent (held ++ held ++ held ++ held ++ held ++ held))
 
 switched-on : Event
-switched-on = setting-went (StepOver true) (Changed.Done (stream_for max_speed 1 30 5 thirty none))
+switched-on = setting-went (StepOver true) (Ok (stream_for max_speed 1 30 5 thirty none))
 
 passes : Event
 passes =
     write-went [] (lent (held ++ held ++ held ++ held ++ held ++ held))
-    (Wrote.Done (record { outcome = Stretched; passed = 1; sum = 0 }) (stream_for max_speed 1 25 5 twenty-five (record { skipped = 5; inserted = 0 })))
+    (Ok (record { told = record { outcome = Stretched; passed = 1; sum = 0 }; stream = stream_for max_speed 1 25 5 twenty-five (record { skipped = 5; inserted = 0 }) }))
     (lent (held ++ held ++ held ++ held ++ held))
 
 passing : RunOf 1000 1 Smallest

@@ -2,6 +2,7 @@
 -- pitch go back to 1, and four frames are written. The stage has four places: the tail or the frames, not both. In a second run its
 -- areas are long, and before the write another is refused with 6, since its stage has three places; its output has none, and 6 comes
 -- first. `ledger-claim` and `same-calls` for them. No proof cites this file. Assumes nothing.
+use Rattle.std.specs.Prelude.{Ok, Err}
 use mathlib.Core.Path.{◌≡◌, refl, ap, ◌∙◌}
 use mathlib.Core.List.{List, [], ◌∷◌, ◌++◌}
 use Prim.Native.Nat.{ℕ}
@@ -22,21 +23,19 @@ use Rattle.rate.specs.Conversion.{convert, join_tail, adjust_rate}
 use Rattle.stretch.specs.Tally.{tally}
 use Rattle.stretch.specs.Speed.{stalled}
 use Rattle.search.specs.declared.Ties.TheVariants.{Smallest}
+use Rattle.stream.specs.declared.refusal.Refusal.TheVariants.{StageFull}
 use Rattle.stream.specs.declared.SonicStream.{SonicStream}
 use Rattle.stream.specs.declared.Setting.TheVariants.{Speed, Pitch}
-use Rattle.stream.specs.declared.Opened.{Opened}
-use Rattle.stream.specs.declared.Changed.{Changed}
 use Rattle.stream.specs.Balance.{booked, past}
 use Rattle.stream.specs.State.{with_settings, with_tail}
 use Rattle.stream.specs.Stream.{state_of, stream_of}
 use Rattle.stream.specs.Refusals.{rate_bad, channels_bad, limits_in_order, period_in_order, settings_in_order, prev_in_order, positions_in_order, is_in_order}
-use Rattle.stream.specs.Refusals.{stage_full, sizes_bad, parts_bad, areas_bad, stage_needed, refusal}
+use Rattle.stream.specs.Refusals.{sizes_bad, parts_bad, areas_bad, stage_needed, refusal}
 use Rattle.stream.specs.Settings.{fresh, with_setting, open_call, set_call}
 use Rattle.fill.specs.declared.Told.{Told}
 use Rattle.fill.specs.declared.Outcome.TheVariants.{Copied}
 use Rattle.fill.specs.Taking.{removed, nothing, copied, taken_at, taken, counted}
 use Rattle.process.specs.Process.{whole_frames, joined, counting, finished, process, write_work}
-use Rattle.adding.specs.declared.Wrote.{Wrote}
 use Rattle.adding.specs.Calls.{refused_call, accepted_call, write_call}
 use Rattle.runs.specs.Ledger.{begun, entry, posted, ledger_from, ledger}
 use Rattle.runs.specs.Run.{Event, setting-went, write-went, opening, Agree, leave, after_setting, after_call, after, values, total, fed}
@@ -47,7 +46,7 @@ use Rattle.runs.proofs.Claims.{ledger-claim, same-calls}
 abbrev stream_for : Float → Float → ℕ → ℕ → SonicStream
 stream_for speed pitch tail waiting = stream_of (with_tail (with_settings (fresh 8000 1 Smallest) speed pitch one 0 start) (replicate tail []) start) waiting
 
-opens : open_call 8000 1 Smallest ≡ Opened.Done (stream_for one one 0 0)
+opens : open_call 8000 1 Smallest ≡ Ok (stream_for one one 0 0)
 unfolding open_call rate_bad channels_bad fresh
 opens = refl
 
@@ -60,23 +59,23 @@ abbrev copying : Told
 copying = record { outcome = Copied; passed = 0; sum = 0 }
 
 slower : Event
-slower = setting-went (Speed half) (Changed.Done (stream_for half one 0 0))
+slower = setting-went (Speed half) (Ok (stream_for half one 0 0))
 
 deeper : Event
-deeper = setting-went (Pitch half) (Changed.Done (stream_for half half 0 0))
+deeper = setting-went (Pitch half) (Ok (stream_for half half 0 0))
 
 faster : Event
-faster = setting-went (Speed one) (Changed.Done (stream_for one half 3 0))
+faster = setting-went (Speed one) (Ok (stream_for one half 3 0))
 
 higher : Event
-higher = setting-went (Pitch one) (Changed.Done (stream_for one one 3 0))
+higher = setting-went (Pitch one) (Ok (stream_for one one 3 0))
 
 -- three frames, which stay in the tail: of twelve or fewer none is consumed
 tail : List ℤ
 tail = pos 32767 ∷ pos 0 ∷ pos 32767 ∷ []
 
 lowered : Event
-lowered = write-went (one ∷ zero ∷ one ∷ []) (lent 9 [] 9 []) (Wrote.Done copying (stream_for half half 3 0)) (lent 9 tail 9 [])
+lowered = write-went (one ∷ zero ∷ one ∷ []) (lent 9 [] 9 []) (Ok (record { told = copying; stream = stream_for half half 3 0 })) (lent 9 tail 9 [])
 
 -- four frames, which go straight out
 samples : List Float
@@ -87,10 +86,10 @@ made = pos 0 ∷ pos 32767 ∷ pos 32767 ∷ pos 0 ∷ []
 
 -- with so many places in the stage
 written : ℕ → Event
-written staged = write-went samples (lent staged tail 9 []) (Wrote.Done copying (stream_for one one 3 4)) (lent staged tail 9 made)
+written staged = write-went samples (lent staged tail 9 []) (Ok (record { told = copying; stream = stream_for one one 3 4 })) (lent staged tail 9 made)
 
 turned_down : Event
-turned_down = write-went samples (lent 3 tail 0 []) (Wrote.Refused stage_full (stream_for one one 3 0)) (lent 3 tail 0 [])
+turned_down = write-went samples (lent 3 tail 0 []) (Err (record { refusal = StageFull; stream = stream_for one one 3 0 })) (lent 3 tail 0 [])
 
 editor : RunOf 8000 1 Smallest
 unfolding slower deeper faster higher lowered written lent tail samples made

@@ -2,6 +2,7 @@
 -- periods 5 and 15 have the same least mean, 6,553.4. With the smallest 5 frames come out, and the sum told is 32,767; with the largest 15, and
 -- 98,301. `ledger-claim` for both: the calls are the same, and what they give is not, since the choice is not. No proof cites this file.
 -- Assumes nothing.
+use Rattle.std.specs.Prelude.{Ok}
 use mathlib.Core.Path.{◌≡◌, refl, ap, ◌∙◌}
 use mathlib.Core.List.{List, [], ◌∷◌, ◌++◌}
 use Prim.Native.Nat.{ℕ}
@@ -32,8 +33,6 @@ use Rattle.stretch.specs.Tally.{tally}
 use Rattle.stretch.specs.Speed.{steps_in, steps, samples_of, last_place, stalled, answer_for}
 use Rattle.stream.specs.declared.SonicStream.{SonicStream}
 use Rattle.stream.specs.declared.Setting.TheVariants.{Speed}
-use Rattle.stream.specs.declared.Opened.{Opened}
-use Rattle.stream.specs.declared.Changed.{Changed}
 use Rattle.stream.specs.Balance.{booked, past}
 use Rattle.stream.specs.State.{State, with_settings, with_input, with_balance}
 use Rattle.stream.specs.Stream.{state_of, stream_of}
@@ -43,7 +42,6 @@ use Rattle.stream.specs.Settings.{fresh, with_setting, open_call, set_call}
 use Rattle.fill.specs.declared.Outcome.TheVariants.{Stretched}
 use Rattle.fill.specs.Taking.{removed, stepped, stretched, taken_at, taken, counted}
 use Rattle.process.specs.Process.{whole_frames, joined, counting, finished, process, write_work}
-use Rattle.adding.specs.declared.Wrote.{Wrote}
 use Rattle.adding.specs.Calls.{refused_call, accepted_call, write_call}
 use Rattle.runs.specs.Ledger.{begun, entry, posted, ledger_from, ledger}
 use Rattle.runs.specs.Run.{Event, setting-went, write-went, opening, Agree, leave, after_setting, after_call, values, total, fed}
@@ -69,7 +67,7 @@ pulses : List Float
 pulses = one ∷ one ∷ replicate 3 zero ++ one ∷ replicate 24 zero
 
 faster : Ties → Event
-faster ties = setting-went (Speed two) (Changed.Done (before ties two))
+faster ties = setting-went (Speed two) (Ok (before ties two))
 
 -- ---- the smallest: a period of 5 frames is skipped, and 20 frames stay held
 
@@ -78,8 +76,7 @@ five = pos 32767 ∷ pos 26213 ∷ replicate 3 (pos 0)
 
 skips-five : Event
 skips-five =
-    write-went pulses (lent [] []) (Wrote.Done (record { outcome = Stretched; passed = 0; sum = 32767 })
-    (stream_for Smallest two 20 (record { period = 5; min_diff = 6553 }) (of_bits binary32 0x3c23d70b) 5)) (lent (replicate 20 (pos 0)) five)
+    write-went pulses (lent [] []) (Ok (record { told = record { outcome = Stretched; passed = 0; sum = 32767 }; stream = stream_for Smallest two 20 (record { period = 5; min_diff = 6553 }) (of_bits binary32 0x3c23d70b) 5 })) (lent (replicate 20 (pos 0)) five)
 
 -- ---- the largest: one of 15 frames, and none stays
 
@@ -88,12 +85,11 @@ fifteen = pos 32767 ∷ pos 30582 ∷ replicate 3 (pos 0) ++ pos 21844 ∷ repli
 
 skips-fifteen : Event
 skips-fifteen =
-    write-went pulses (lent [] []) (Wrote.Done (record { outcome = Stretched; passed = 0; sum = 98301 })
-    (stream_for Largest two 0 (record { period = 15; min_diff = 6553 }) zero 15)) (lent [] fifteen)
+    write-went pulses (lent [] []) (Ok (record { told = record { outcome = Stretched; passed = 0; sum = 98301 }; stream = stream_for Largest two 0 (record { period = 15; min_diff = 6553 }) zero 15 })) (lent [] fifteen)
 
 -- ---- both are runs
 
-run_of : (ties : Ties) (e : Event) → open_call 1000 1 ties ≡ Opened.Done (before ties one) → Run.Run (opening (before ties one)) (faster ties ∷ e ∷ [])
+run_of : (ties : Ties) (e : Event) → open_call 1000 1 ties ≡ Ok (before ties one) → Run.Run (opening (before ties one)) (faster ties ∷ e ∷ [])
     → RunOf 1000 1 ties
 run_of ties e opens allowed = record { stream = before ties one; opens = opens; events = faster ties ∷ e ∷ []; allowed = allowed }
 

@@ -7,27 +7,31 @@
 use mathlib.Core.Path.{◌≡◌, refl, sym, ap, ◌∙◌, subst}
 use mathlib.Core.Bool.{Bool, true, false, cond, false≢true}
 use mathlib.Core.List.{List, [], ◌∷◌, ◌++◌, map}
-use Prim.Native.Nat.{ℕ, zero, suc, ◌*◌}
+use Rattle.std.specs.Prelude.{Option, None, Some, Result, Ok, Err}
+use Rattle.std.specs.Result.{is_ok}
+use Prim.Native.Nat.{ℕ, ◌*◌}
 use native.Mathlib.Nat.{zero-mul}
-use native.Mathlib.Omega.{arith}
 use lib.ListN.{length, take}
 use Rattle.frames.specs.Areas.{Areas}
 use Rattle.frames.specs.Framing.{frames_of}
 use Rattle.search.specs.declared.Ties.{Ties}
 use Rattle.period.specs.Rates.{max_required}
 use Rattle.stream.specs.declared.SonicStream.{SonicStream}
-use Rattle.stream.specs.declared.Opened.{Opened}
+use Rattle.stream.specs.declared.refusal.Refusal.{Refusal}
+use Rattle.stream.specs.declared.refusal.Refusal.TheVariants.{BadRate, BadChannels}
+use Rattle.stream.specs.declared.refusal.NotOpened.{NotOpened}
+use Rattle.stream.specs.declared.refusal.Refused.{Refused}
 use Rattle.stream.specs.State.{State}
 use Rattle.stream.specs.Stream.{state_of, stream_of, zero_stream}
-use Rattle.stream.specs.Refusals.{bad_rate, bad_channels, rate_bad, channels_bad, is_in_order, read_refusal}
+use Rattle.stream.specs.Refusals.{rate_bad, channels_bad, is_in_order, read_refusal}
 use Rattle.stream.specs.Settings.{fresh, open_call, set_call}
 use Rattle.process.specs.Process.{Made, whole_frames, write_work, flush_work, expected, cleared}
-use Rattle.adding.specs.declared.Wrote.{Wrote}
+use Rattle.process.specs.declared.Wrote.{Wrote}
 use Rattle.adding.specs.Calls.{CallResult, refused_call, call_by, refusal_of, write_call, flush_call, CallEnsures}
 use Rattle.read.specs.Reading.{read_count, read_call, ReadEnsures}
 use Rattle.stream.proofs.Passing.{read-room}
 use Rattle.runs.specs.Ledger.{write, flush, Ledger, begun, posted, ledger_from, ledger}
-use Rattle.runs.specs.Run.{Event, setting-went, write-went, flush-went, read-went, Moment, opening, Allowed, after, Run, end, values, total, call_accepted, fed}
+use Rattle.runs.specs.Run.{Event, setting-went, write-went, flush-went, read-went, Moment, opening, Allowed, after, Run, end, values, total, fed}
 use Rattle.runs.specs.Demand.{accepted_in}
 use Rattle.runs.proofs.Tracking.{Tracks, HeldCall, call-tracks}
 use Rattle.runs.proofs.Accepting.{accepts-write, accepts-flush}
@@ -63,11 +67,11 @@ event-tracks {m} {l} h (read-went most a r b) p =
     read-tracks h a b p.0 p.1 r (read_refusal s a.output) (read_count s most a.slice) most (read-room s a.output) e
 
 -- what an accepted write or flush asks for is there
-call-held : {X : Type 0} (s : SonicStream) (a : Areas) (c : CallResult) (r : Wrote) (number : ℕ) → r ≡ (call_by number s a c).answer → (number ≡ 0 → X)
-    → call_accepted r ≡ true → X
+call-held : {X : Type 0} (s : SonicStream) (a : Areas) (c : CallResult) (r : Result Wrote Refused) (refusal : Option Refusal) → r ≡ (call_by refusal s a c).answer → (refusal ≡ None → X)
+    → is_ok r ≡ true → X
 unfolding refused_call
-call-held s a c r zero e f q = f refl
-call-held s a c r (suc k) e f q = absurd (false≢true (sym (ap call_accepted e) ∙ q))
+call-held s a c r None e f q = f refl
+call-held s a c r (Some refusal) e f q = absurd (false≢true (sym (ap is_ok e) ∙ q))
 
 event-held : {m : Moment} {l : Ledger} → Tracks m l → (e : Event) → Allowed m e → (fed e).accepted ≡ true → HeldCall l (fed e).call
 unfolding fed write_call flush_call stream_of
@@ -124,19 +128,19 @@ module _ (rate channels : ℕ) (ties : Ties) where
     pub rate_good : rate_bad rate ≡ false
     pub stream : stream_of (fresh rate channels ties) 0 ≡ s
 
-  pub opened-as : (s : SonicStream) → open_call rate channels ties ≡ Opened.Done s → OpenedAs s
+  pub opened-as : (s : SonicStream) → open_call rate channels ties ≡ Ok s → OpenedAs s
   unfolding open_call
   opened-as s = go (rate_bad rate) (channels_bad channels) refl
     where
       go : (b c : Bool) → rate_bad rate ≡ b
-          → cond b (Opened.Refused bad_rate rate zero_stream)
-          (cond c (Opened.Refused bad_channels channels zero_stream) (Opened.Done (stream_of (fresh rate channels ties) 0))) ≡ Opened.Done s
+          → ◌≡◌ {A = Result SonicStream NotOpened} (cond b (Err (record { refusal = BadRate; given = rate; stream = zero_stream }))
+          (cond c (Err (record { refusal = BadChannels; given = channels; stream = zero_stream })) (Ok (stream_of (fresh rate channels ties) 0)))) (Ok s)
           → OpenedAs s
-      go true c r e = absurd (let z : ◌≡◌ {A = ℕ} 0 1 = cc in omega arith)
-      go false true r e = absurd (let z : ◌≡◌ {A = ℕ} 0 1 = cc in omega arith)
+      go true c r e = cc
+      go false true r e = cc
       go false false r e = record { rate_good = r; stream = cc }
 
-  module _ (s : SonicStream) (o : open_call rate channels ties ≡ Opened.Done s) (es : List Event) (p : Run (opening s) es) where
+  module _ (s : SonicStream) (o : open_call rate channels ties ≡ Ok s) (es : List Event) (p : Run (opening s) es) where
     first-tracks : Tracks (opening s) (begun rate channels ties)
     first-tracks = subst (λ (x : SonicStream). Tracks (opening x) (begun rate channels ties)) (opened-as s o).stream opening-tracks
 

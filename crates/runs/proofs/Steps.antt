@@ -2,7 +2,9 @@
 use mathlib.Core.Path.{◌≡◌, refl, sym, ap, ◌∙◌, subst}
 use mathlib.Core.Bool.{Bool, true, false, cond}
 use mathlib.Core.List.{List, ◌++◌, map, append_assoc, append-nil, map-append}
-use Prim.Native.Nat.{ℕ, zero, suc, ◌-◌, ◌*◌, ◌≤◌}
+use Rattle.std.specs.Prelude.{Option, None, Some, Result, Ok, Err}
+use Rattle.std.specs.Result.{is_ok}
+use Prim.Native.Nat.{ℕ, ◌-◌, ◌*◌, ◌≤◌}
 use native.Mathlib.Nat.{le_trans, mul-le-mul_right}
 use native.Mathlib.Omega.{arith}
 use lib.Ieee.{Float}
@@ -14,15 +16,15 @@ use Rattle.rate.specs.declared.Position.{Position}
 use Rattle.stream.specs.declared.SonicStream.{SonicStream}
 use Rattle.stream.specs.declared.Setting.{Setting}
 use Rattle.stream.specs.declared.Setting.TheVariants.{Speed, Pitch, Volume, StepOver}
-use Rattle.stream.specs.declared.Changed.{Changed}
+use Rattle.stream.specs.declared.refusal.Refusal.{Refusal}
+use Rattle.stream.specs.declared.refusal.Refused.{Refused}
 use Rattle.stream.specs.State.{State, with_settings}
 use Rattle.stream.specs.Stream.{state_of, stream_of, unlent}
-use Rattle.stream.specs.Refusals.{bad_stream}
-use Rattle.stream.specs.Settings.{with_setting}
+use Rattle.stream.specs.Settings.{with_setting, not_in_order}
 use Rattle.read.specs.declared.Gave.{Gave}
 use Rattle.read.specs.Reading.{read_by, ReadEnsures}
 use Rattle.runs.specs.Ledger.{setting, read, Ledger, entry, posted}
-use Rattle.runs.specs.Run.{ReadAreas, Moment, Agree, leave, after_setting, after_read, values, setting_accepted, read_accepted}
+use Rattle.runs.specs.Run.{ReadAreas, Moment, Agree, leave, after_setting, after_read, values}
 use Rattle.runs.proofs.KeptParts.{frames-shown, frames-kept, frames-left, length-left}
 use Rattle.runs.proofs.Work.{setting-cases}
 use Rattle.runs.proofs.Tracking.{Tracks}
@@ -54,7 +56,7 @@ module _ {m : Moment} {l : Ledger} (h : Tracks m l) where
 
   abbrev Settled : SonicStream → State → Type 0
   Settled x t =
-      x ≡ stream_of t h.waiting → Tracks (after_setting m (Changed.Done x)) (record { state = t; made = l.made; outcomes = l.outcomes })
+      x ≡ stream_of t h.waiting → Tracks (after_setting m (Ok x)) (record { state = t; made = l.made; outcomes = l.outcomes })
 
   settings-track : (x : SonicStream) (speed pitch volume : Float) (over : ℕ) (at : Position)
       → Settled x (with_settings l.state speed pitch volume over at)
@@ -72,12 +74,12 @@ module _ {m : Moment} {l : Ledger} (h : Tracks m l) where
         outcomes = h.outcomes;
       }
 
-  abbrev SettingTracks : Setting → Changed → Type 0
-  SettingTracks v r = Tracks (after_setting m r) (posted l (record { call = setting v; accepted = setting_accepted r }))
+  abbrev SettingTracks : Setting → Result SonicStream Refused → Type 0
+  SettingTracks v r = Tracks (after_setting m r) (posted l (record { call = setting v; accepted = is_ok r }))
 
   -- by whether the stream is in order
-  pub setting-tracks : (v : Setting) (r : Changed) (b : Bool)
-      → r ≡ cond b (Changed.Done (stream_of (with_setting v (unlent s)) h.waiting)) (Changed.Refused bad_stream s)
+  pub setting-tracks : (v : Setting) (r : Result SonicStream Refused) (b : Bool)
+      → r ≡ cond b (Ok (stream_of (with_setting v (unlent s)) h.waiting)) (Err (not_in_order s))
       → SettingTracks v r
   unfolding posted entry after_setting
   setting-tracks v r true e =
@@ -94,11 +96,14 @@ module _ {m : Moment} {l : Ledger} (h : Tracks m l) where
     abbrev shown : List Frame
     shown = frames_of ch h.waiting a.output
 
-    abbrev answered : ℕ → Gave
-    answered n = Gave.Done (record { 0 = n }) (stream_of (unlent s) (h.waiting - n))
+    abbrev answered : ℕ → Result Gave Refused
+    answered n = Ok (record { frames = record { 0 = n }; stream = stream_of (unlent s) (h.waiting - n) })
+
+    abbrev refused : Refusal → Result Gave Refused
+    refused refusal = Err (record { refusal = refusal; stream = s })
 
     given-tracks : (n : ℕ) → h.waiting * ch ≤ length a.output
-        → ReadEnsures ch (read_by 0 s n shown) (answered n) a.slice b.slice b.output
+        → ReadEnsures ch (read_by None s n shown) (answered n) a.slice b.slice b.output
         → Tracks (after_read m (answered n) b) l
     unfolding after_read state_of stream_of
     given-tracks n fits e =
@@ -127,10 +132,10 @@ module _ {m : Moment} {l : Ledger} (h : Tracks m l) where
           outcomes = h.outcomes;
         }
 
-    refused-tracks : (k n : ℕ) → ReadEnsures ch (read_by (suc k) s n shown) (Gave.Refused (suc k) s) a.slice b.slice b.output
-        → Tracks (after_read m (Gave.Refused (suc k) s) b) l
+    refused-tracks : (refusal : Refusal) (n : ℕ) → ReadEnsures ch (read_by (Some refusal) s n shown) (refused refusal) a.slice b.slice b.output
+        → Tracks (after_read m (refused refusal) b) l
     unfolding after_read frames_of stream_of
-    refused-tracks k n e =
+    refused-tracks refusal n e =
         let kept : leave (h.waiting * ch) b.output m.output ≡ m.output =
         frames-kept ch h.waiting m.output a.output b.output g same h.output_length e.output in
         record {
@@ -145,19 +150,19 @@ module _ {m : Moment} {l : Ledger} (h : Tracks m l) where
           outcomes = h.outcomes;
         }
 
-    abbrev ReadTracks : ℕ → Gave → Type 0
-    ReadTracks most r = Tracks (after_read m r b) (posted l (record { call = read most; accepted = read_accepted r }))
+    abbrev ReadTracks : ℕ → Result Gave Refused → Type 0
+    ReadTracks most r = Tracks (after_read m r b) (posted l (record { call = read most; accepted = is_ok r }))
 
-    -- by the number of its refusal; n the frames that it would give
-    pub read-tracks : (r : Gave) (number n most : ℕ) → (number ≡ 0 → h.waiting * ch ≤ length a.output)
-        → ReadEnsures ch (read_by number s n shown) r a.slice b.slice b.output
+    -- by its refusal; n the frames that it would give
+    pub read-tracks : (r : Result Gave Refused) (refusal : Option Refusal) (n most : ℕ) → (refusal ≡ None → h.waiting * ch ≤ length a.output)
+        → ReadEnsures ch (read_by refusal s n shown) r a.slice b.slice b.output
         → ReadTracks most r
     unfolding posted entry stream_of
-    read-tracks r zero n most fits e =
+    read-tracks r None n most fits e =
         let q : r ≡ answered n = e.answer in
         subst (ReadTracks most) (sym q)
-        (given-tracks n (fits refl) (subst (λ (y : Gave). ReadEnsures ch (read_by 0 s n shown) y a.slice b.slice b.output) q e))
-    read-tracks r (suc k) n most fits e =
-        let q : r ≡ Gave.Refused (suc k) s = e.answer in
+        (given-tracks n (fits refl) (subst (λ (y : Result Gave Refused). ReadEnsures ch (read_by None s n shown) y a.slice b.slice b.output) q e))
+    read-tracks r (Some refusal) n most fits e =
+        let q : r ≡ refused refusal = e.answer in
         subst (ReadTracks most) (sym q)
-        (refused-tracks k n (subst (λ (y : Gave). ReadEnsures ch (read_by (suc k) s n shown) y a.slice b.slice b.output) q e))
+        (refused-tracks refusal n (subst (λ (y : Result Gave Refused). ReadEnsures ch (read_by (Some refusal) s n shown) y a.slice b.slice b.output) q e))

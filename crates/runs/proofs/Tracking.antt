@@ -1,7 +1,9 @@
 -- A moment of a run and the ledger side by side, and how an answered write or flush keeps them so. Assumes nothing.
 use mathlib.Core.Path.{◌≡◌, refl, sym, ap, ◌∙◌, subst}
 use mathlib.Core.List.{List, [], ◌∷◌, ◌++◌, map, append_assoc, append-nil, map-append}
-use Prim.Native.Nat.{ℕ, zero, suc, ◌+◌, ◌*◌, ◌≤◌}
+use Rattle.std.specs.Prelude.{Option, None, Some, Result, Ok, Err}
+use Rattle.std.specs.Result.{is_ok}
+use Prim.Native.Nat.{ℕ, ◌+◌, ◌*◌, ◌≤◌}
 use native.Mathlib.Omega.{arith}
 use lib.IntN.{pos}
 use lib.Ieee.{Float}
@@ -11,16 +13,18 @@ use Rattle.frames.specs.Framing.{Frame, frames_of}
 use Rattle.floats.specs.Write.{sample_in, sample_out}
 use Rattle.period.specs.Rates.{max_required}
 use Rattle.stream.specs.declared.SonicStream.{SonicStream}
+use Rattle.stream.specs.declared.refusal.Refusal.{Refusal}
+use Rattle.stream.specs.declared.refusal.Refused.{Refused}
 use Rattle.stream.specs.State.{State}
 use Rattle.stream.specs.Stream.{stream_of}
 use Rattle.fill.specs.declared.Told.{Told}
 use Rattle.fill.specs.declared.Outcome.{Outcome}
 use Rattle.process.specs.Process.{whole_frames, joined}
 use Rattle.process.proofs.Claims.{Held}
-use Rattle.adding.specs.declared.Wrote.{Wrote}
+use Rattle.process.specs.declared.Wrote.{Wrote}
 use Rattle.adding.specs.Calls.{refused_call, accepted_call, call_by, CallEnsures}
 use Rattle.runs.specs.Ledger.{Call, setting, write, flush, read, Ledger, entry, posted}
-use Rattle.runs.specs.Run.{Moment, Lent, SameLengths, leave, after_call, values, call_accepted}
+use Rattle.runs.specs.Run.{Moment, Lent, SameLengths, leave, after_call, values}
 use Rattle.runs.proofs.KeptParts.{frames-shown, frames-kept, frames-left, length-left}
 
 -- the stream is that of the ledger's state, the kept parts are its input and tail, and what was given with what waits is what it made
@@ -59,11 +63,14 @@ module _ {m : Moment} {l : Ledger} (h : Tracks m l) where
   abbrev s : SonicStream
   s = stream_of l.state h.waiting
 
-  refused-tracks : (a b : Areas) (number : ℕ) → Lent m a → SameLengths a b
-      → CallEnsures ch (refused_call number s a) (Wrote.Refused number s) b
-      → Tracks (after_call m (Wrote.Refused number s) b) l
+  abbrev refused : Refusal → Result Wrote Refused
+  refused refusal = Err (record { refusal = refusal; stream = s })
+
+  refused-tracks : (a b : Areas) (refusal : Refusal) → Lent m a → SameLengths a b
+      → CallEnsures ch (refused_call refusal s a) (refused refusal) b
+      → Tracks (after_call m (refused refusal) b) l
   unfolding after_call refused_call stream_of
-  refused-tracks a b number g same e =
+  refused-tracks a b refusal g same e =
       let in_kept : leave (length l.state.input * ch) b.input m.input ≡ m.input =
       frames-kept ch (length l.state.input) m.input a.input b.input g.input same.input h.input_length e.input in
       let tail-kept : leave (length l.state.tail * ch) b.stage m.tail ≡ m.tail =
@@ -86,8 +93,8 @@ module _ {m : Moment} {l : Ledger} (h : Tracks m l) where
     abbrev waits : ℕ
     waits = h.waiting + length frames
 
-    abbrev done : Wrote
-    done = Wrote.Done told (stream_of t waits)
+    abbrev done : Result Wrote Refused
+    done = Ok (record { told = told; stream = stream_of t waits })
 
     accepted-tracks : Lent m a → SameLengths a b → CallEnsures ch (accepted_call s a told t frames) done b
         → Accepts l h.waiting a c told t frames → Tracks (after_call m done b) (entry l c)
@@ -124,18 +131,18 @@ module _ {m : Moment} {l : Ledger} (h : Tracks m l) where
         subst (λ (x : Ledger). Tracks (after_call m done b) x) (sym f.entered) tracks
 
     -- by its answer
-    abbrev AnswerTracks : Wrote → Type 0
-    AnswerTracks r = Tracks (after_call m r b) (posted l (record { call = c; accepted = call_accepted r }))
+    abbrev AnswerTracks : Result Wrote Refused → Type 0
+    AnswerTracks r = Tracks (after_call m r b) (posted l (record { call = c; accepted = is_ok r }))
 
-    -- a write or a flush, by the number of its refusal
-    pub call-tracks : (r : Wrote) (number : ℕ) → Lent m a → SameLengths a b
-        → CallEnsures ch (call_by number s a (accepted_call s a told t frames)) r b
-        → (number ≡ 0 → Accepts l h.waiting a c told t frames)
+    -- a write or a flush, by its refusal
+    pub call-tracks : (r : Result Wrote Refused) (refusal : Option Refusal) → Lent m a → SameLengths a b
+        → CallEnsures ch (call_by refusal s a (accepted_call s a told t frames)) r b
+        → (refusal ≡ None → Accepts l h.waiting a c told t frames)
         → AnswerTracks r
     unfolding posted accepted_call refused_call stream_of
-    call-tracks r zero g same e f =
+    call-tracks r None g same e f =
         let q : r ≡ done = e.answer in
-        subst AnswerTracks (sym q) (accepted-tracks g same (subst (λ (y : Wrote). CallEnsures ch (accepted_call s a told t frames) y b) q e) (f refl))
-    call-tracks r (suc k) g same e f =
-        let q : r ≡ Wrote.Refused (suc k) s = e.answer in
-        subst AnswerTracks (sym q) (refused-tracks a b (suc k) g same (subst (λ (y : Wrote). CallEnsures ch (refused_call (suc k) s a) y b) q e))
+        subst AnswerTracks (sym q) (accepted-tracks g same (subst (λ (y : Result Wrote Refused). CallEnsures ch (accepted_call s a told t frames) y b) q e) (f refl))
+    call-tracks r (Some refusal) g same e f =
+        let q : r ≡ refused refusal = e.answer in
+        subst AnswerTracks (sym q) (refused-tracks a b refusal g same (subst (λ (y : Result Wrote Refused). CallEnsures ch (refused_call refusal s a) y b) q e))

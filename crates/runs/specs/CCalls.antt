@@ -1,20 +1,30 @@
 -- Runs of demand 3 through the calls of C (crate sonic_c): calls as they went, each with the struct that it answered,
 -- what their contracts ensure, and the run that the structs tell. `CRunClaim`: that is a run of Run.antt, so that each
 -- claim of Demand.antt is one about it. `proofs/CCalls.antt` proves it. Definitions only. Assumes nothing.
-use Rattle.std.specs.Prelude.{◌≡◌, List, [], ◌∷◌, map, ℕ, zero, suc, Float, length}
-use Rattle.frames.specs.declared.Frames.{Frames}
+use Rattle.std.specs.Prelude.{◌≡◌, cond, List, [], ◌∷◌, map, ℕ, zero, suc, eqb, Float, length, Option, Some, None, Result, Ok, Err}
 use Rattle.frames.specs.Areas.{Areas}
 use Rattle.search.specs.declared.Ties.{Ties}
 use Rattle.stream.specs.declared.SonicStream.{SonicStream}
 use Rattle.stream.specs.declared.Setting.{Setting}
-use Rattle.stream.specs.declared.Opened.{Opened}
-use Rattle.stream.specs.declared.Changed.{Changed}
-use Rattle.stream.specs.Refusals.{accepted}
+use Rattle.stream.specs.declared.refusal.Refusal.{Refusal}
+use Rattle.stream.specs.declared.refusal.Refusal.TheVariants.{
+  BadRate,
+  BadChannels,
+  BadStream,
+  BadAreas,
+  InputFull,
+  StageFull,
+  OutputFull,
+  NotWave,
+  BadSize,
+  BadFormat,
+  TotalFull,
+}
+use Rattle.stream.specs.declared.refusal.Refused.{Refused}
 use Rattle.stream.specs.Settings.{open_call, set_call}
-use Rattle.fill.specs.declared.Told.{Told}
 use Rattle.fill.specs.declared.Outcome.{Outcome}
 use Rattle.fill.specs.declared.Outcome.TheVariants.{Empty, Copied, Waiting, Stretched, Stalled}
-use Rattle.adding.specs.declared.Wrote.{Wrote}
+use Rattle.process.specs.declared.Wrote.{Wrote}
 use Rattle.adding.specs.Calls.{write_call, flush_call}
 use Rattle.read.specs.declared.Gave.{Gave}
 use Rattle.read.specs.Reading.{read_call}
@@ -56,30 +66,38 @@ outcome_in (suc (suc zero)) = Waiting
 outcome_in (suc (suc (suc zero))) = Stretched
 outcome_in (suc (suc (suc (suc n)))) = Stalled
 
--- by the number of a refusal, 0 if there is none
-abbrev pub changed_by : ℕ → SonicStream → Changed
-changed_by zero s = Changed.Done s
-changed_by (suc k) s = Changed.Refused (suc k) s
+-- the refusal of a number: none of 0; of one that no refusal has, the last
+unfoldable pub refusal_in : ℕ → Option Refusal
+refusal_in n =
+    cond (eqb n 0) None
+    (cond (eqb n 1) (Some BadRate)
+    (cond (eqb n 2) (Some BadChannels)
+    (cond (eqb n 3) (Some BadStream)
+    (cond (eqb n 4) (Some BadAreas)
+    (cond (eqb n 5) (Some InputFull)
+    (cond (eqb n 6) (Some StageFull)
+    (cond (eqb n 7) (Some OutputFull)
+    (cond (eqb n 8) (Some NotWave)
+    (cond (eqb n 9) (Some BadSize) (cond (eqb n 10) (Some BadFormat) (Some TotalFull)))))))))))
 
-abbrev pub wrote_by : ℕ → Told → SonicStream → Wrote
-wrote_by zero told s = Wrote.Done told s
-wrote_by (suc k) told s = Wrote.Refused (suc k) s
+-- refused, with the stream of the struct; or what it tells
+abbrev pub answer_by : {A : Type 0} → Option Refusal → SonicStream → A → Result A Refused
+answer_by None s done = Ok done
+answer_by (Some refusal) s done = Err (record { refusal = refusal; stream = s })
 
-abbrev pub gave_by : ℕ → Frames → SonicStream → Gave
-gave_by zero n s = Gave.Done n s
-gave_by (suc k) n s = Gave.Refused (suc k) s
+unfoldable pub changed_in : c-changed.Changed → Result SonicStream Refused
+changed_in r = answer_by (refusal_in r.refusal) r.stream r.stream
 
-unfoldable pub changed_in : c-changed.Changed → Changed
-changed_in r = changed_by r.refusal r.stream
-
-unfoldable pub wrote_in : c-wrote.Wrote → Wrote
+unfoldable pub wrote_in : c-wrote.Wrote → Result Wrote Refused
 wrote_in r =
-    wrote_by r.refusal
-    (record { outcome = outcome_in r.told.outcome; passed = r.told.passed; sum = r.told.sum })
-    r.stream
+    answer_by (refusal_in r.refusal) r.stream
+    (record {
+      told = record { outcome = outcome_in r.told.outcome; passed = r.told.passed; sum = r.told.sum };
+      stream = r.stream;
+    })
 
-unfoldable pub gave_in : c-gave.Gave → Gave
-gave_in r = gave_by r.refusal r.frames r.stream
+unfoldable pub gave_in : c-gave.Gave → Result Gave Refused
+gave_in r = answer_by (refusal_in r.refusal) r.stream (record { frames = r.frames; stream = r.stream })
 
 unfoldable pub event_in : CEvent → Event
 event_in (c-setting-went v r) = setting-went v (changed_in r)
@@ -98,12 +116,12 @@ CRun m (e ∷ es) = CAllowed m e × CRun (after m (event_in e)) es
 pub record CRunOf (rate channels : ℕ) (ties : Ties) : Type 0 where
   pub opened : c-opened.Opened
   pub opens : opened ≡ opened_of (open_call rate channels ties)
-  pub accepts : opened.refusal ≡ accepted
+  pub accepts : opened.refusal ≡ 0
   pub events : List CEvent
   pub allowed : CRun (opening opened.stream) events
 
 -- A list of calls of C from an accepted opening is a run: the one that their structs tell.
 abbrev pub CRunClaim : Type 0
 CRunClaim = (rate channels : ℕ) (ties : Ties) (a : CRunOf rate channels ties)
-    → (open_call rate channels ties ≡ Opened.Done a.opened.stream)
+    → (open_call rate channels ties ≡ Ok a.opened.stream)
     × Run (opening a.opened.stream) (map event_in a.events)

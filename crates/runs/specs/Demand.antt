@@ -1,7 +1,7 @@
 -- Demand 3: its four claims, each in the demand's own words, as types; before them what they speak of: a run of a rate,
 -- channels and a choice of ties, its accepted calls, what is said of each of them, and joined frames.
 -- `proofs/Claims.antt` proves the claims. Definitions only. Assumes nothing.
-use Rattle.std.specs.Prelude.{◌≡◌, false, cond, List, [], ◌∷◌, ◌++◌, map, ℕ, ◌+◌, ◌-◌, ◌*◌, Float, length}
+use Rattle.std.specs.Prelude.{◌≡◌, false, cond, List, [], ◌∷◌, ◌++◌, map, ℕ, ◌+◌, ◌-◌, ◌*◌, Float, length, Ok}
 use Rattle.std.specs.Float.Ieee.{eq}
 use Rattle.floats.specs.Numbers.{one}
 use Rattle.floats.specs.Settings.{clamped, min_pitch, max_pitch}
@@ -11,7 +11,6 @@ use Rattle.search.specs.declared.Ties.{Ties}
 use Rattle.stream.specs.declared.SonicStream.{SonicStream}
 use Rattle.stream.specs.declared.Setting.{Setting}
 use Rattle.stream.specs.declared.Setting.TheVariants.{Speed, Pitch, Volume, StepOver}
-use Rattle.stream.specs.declared.Opened.{Opened}
 use Rattle.stream.specs.Settings.{open_call}
 use Rattle.fill.specs.declared.Outcome.{Outcome}
 use Rattle.fill.specs.declared.Outcome.TheVariants.{Empty, Copied, Waiting, Stretched, Stalled}
@@ -24,7 +23,7 @@ use Rattle.runs.specs.Run.{Event, Moment, opening, Run, end, values, total, fed}
 -- from the stream of an accepted opening
 pub record RunOf (rate channels : ℕ) (ties : Ties) : Type 0 where
   pub stream : SonicStream
-  pub opens : open_call rate channels ties ≡ Opened.Done stream
+  pub opens : open_call rate channels ties ≡ Ok stream
   pub events : List Event
   pub allowed : Run (opening stream) events
 

@@ -2,16 +2,17 @@
 -- the areas that it was lent and left. A call's answer and what it leaves are those that its contract ensures. In
 -- order: calls as they went, what each meets, what each leaves, runs, what the ledger is fed. Definitions only. Assumes
 -- nothing.
-use Rattle.std.specs.Prelude.{◌≡◌, Bool, true, false, List, [], ◌∷◌, ◌++◌, map, ℕ, ◌*◌, ℤ, Float, length, take, drop}
+use Rattle.std.specs.Prelude.{◌≡◌, List, [], ◌∷◌, ◌++◌, map, ℕ, ◌*◌, ℤ, Float, length, take, drop, Result, Ok, Err}
+use Rattle.std.specs.Result.{is_ok}
 use Rattle.frames.specs.Areas.{Areas}
 use Rattle.frames.specs.Framing.{Frame, frames_of}
 use Rattle.floats.specs.Write.{sample_out}
 use Rattle.stream.specs.declared.SonicStream.{SonicStream}
 use Rattle.stream.specs.declared.Setting.{Setting}
-use Rattle.stream.specs.declared.Changed.{Changed}
+use Rattle.stream.specs.declared.refusal.Refused.{Refused}
 use Rattle.stream.specs.Settings.{set_call}
 use Rattle.fill.specs.declared.Outcome.{Outcome}
-use Rattle.adding.specs.declared.Wrote.{Wrote}
+use Rattle.process.specs.declared.Wrote.{Wrote}
 use Rattle.read.specs.declared.Gave.{Gave}
 use Rattle.adding.specs.Calls.{write_call, flush_call, CallEnsures, stream_after}
 use Rattle.read.specs.Reading.{read_call, ReadEnsures, stream_after_read, count_read}
@@ -27,10 +28,10 @@ pub record ReadAreas : Type 0 where
 -- a setting and its answer; a write or a flush, or a read: its arguments, its areas at entry, its answer, its areas at
 -- exit
 pub data Event : Type 0 where
-  setting-went : Setting → Changed → Event
-  write-went : List Float → Areas → Wrote → Areas → Event
-  flush-went : Areas → Wrote → Areas → Event
-  read-went : ℕ → ReadAreas → Gave → ReadAreas → Event
+  setting-went : Setting → Result SonicStream Refused → Event
+  write-went : List Float → Areas → Result Wrote Refused → Areas → Event
+  flush-went : Areas → Result Wrote Refused → Areas → Event
+  read-went : ℕ → ReadAreas → Result Gave Refused → ReadAreas → Event
 
 -- between two calls: the stream value that the call before returned, the kept parts as last left (held input, tail,
 -- waiting output), and, so far, the frames of the accepted reads and the outcomes of accepted writes and flushes
@@ -84,17 +85,17 @@ Allowed m (read-went most a r b) =
 unfoldable pub leave : ℕ → List ℤ → List ℤ → List ℤ
 leave n area kept = take n (area ++ drop (length area) kept)
 
-abbrev pub stream_after_setting : Changed → SonicStream
-stream_after_setting (Changed.Refused number s) = s
-stream_after_setting (Changed.Done s) = s
+abbrev pub stream_after_setting : Result SonicStream Refused → SonicStream
+stream_after_setting (Err refused) = refused.stream
+stream_after_setting (Ok s) = s
 
 -- an accepted call has one outcome, a refused one none
-abbrev pub outcomes_of : Wrote → List Outcome
-outcomes_of (Wrote.Refused number s) = []
-outcomes_of (Wrote.Done told s) = told.outcome ∷ []
+abbrev pub outcomes_of : Result Wrote Refused → List Outcome
+outcomes_of (Err refused) = []
+outcomes_of (Ok wrote) = wrote.told.outcome ∷ []
 
 -- after a setting, which touches no area
-unfoldable pub after_setting : Moment → Changed → Moment
+unfoldable pub after_setting : Moment → Result SonicStream Refused → Moment
 after_setting m r =
     record {
       stream = stream_after_setting r;
@@ -106,7 +107,7 @@ after_setting m r =
     }
 
 -- after a write or a flush
-unfoldable pub after_call : Moment → Wrote → Areas → Moment
+unfoldable pub after_call : Moment → Result Wrote Refused → Areas → Moment
 after_call m r b =
     let s : SonicStream = stream_after r in
     record {
@@ -119,7 +120,7 @@ after_call m r b =
     }
 
 -- after a read; a refused one gives no frames
-unfoldable pub after_read : Moment → Gave → ReadAreas → Moment
+unfoldable pub after_read : Moment → Result Gave Refused → ReadAreas → Moment
 after_read m r b =
     let t : SonicStream = stream_after_read r in
     record {
@@ -159,22 +160,9 @@ total m = m.given ++ values (frames_of m.stream.channels m.stream.waiting.0 m.ou
 
 -- ---- what the ledger is fed
 
--- whether a call was accepted
-abbrev pub setting_accepted : Changed → Bool
-setting_accepted (Changed.Refused number s) = false
-setting_accepted (Changed.Done s) = true
-
-abbrev pub call_accepted : Wrote → Bool
-call_accepted (Wrote.Refused number s) = false
-call_accepted (Wrote.Done told s) = true
-
-abbrev pub read_accepted : Gave → Bool
-read_accepted (Gave.Refused number s) = false
-read_accepted (Gave.Done n s) = true
-
--- its arguments, and this
+-- the arguments of a call, and whether it was accepted
 unfoldable pub fed : Event → Fed
-fed (setting-went v r) = record { call = setting v; accepted = setting_accepted r }
-fed (write-went samples a r b) = record { call = write samples; accepted = call_accepted r }
-fed (flush-went a r b) = record { call = flush; accepted = call_accepted r }
-fed (read-went most a r b) = record { call = read most; accepted = read_accepted r }
+fed (setting-went v r) = record { call = setting v; accepted = is_ok r }
+fed (write-went samples a r b) = record { call = write samples; accepted = is_ok r }
+fed (flush-went a r b) = record { call = flush; accepted = is_ok r }
+fed (read-went most a r b) = record { call = read most; accepted = is_ok r }
