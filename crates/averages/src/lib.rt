@@ -7,7 +7,7 @@ ghost use Rattle.averages.specs.Averages.{mean_from, down_sample_input, most_ave
 use frames::Samples;
 
 // The means of two neighbouring groups of samples.
-#[derive(Clone, Copy)]
+#[derive(Clone, Copy, Debug, PartialEq, Eq)]
 pub struct Means {
     pub first: i16,
     pub second: i16,
@@ -15,43 +15,38 @@ pub struct Means {
 
 // The mean of `count` samples from the place `from` on, toward zero.
 fn mean_from(samples: &[i16], from: Samples, count: Samples) -> i16
-    requires { (1 ≤ count.0) × (count.0 ≤ most_averaged) × (from.0 + count.0 ≤ length samples.now) }
+    requires some { 1 ≤ count.0 }
+    requires few { count.0 ≤ most_averaged }
+    requires within { from.0 + count.0 ≤ length samples.now }
     ensures { result ≡ mean_from samples.now from.0 count.0 }
 {
     let first = from.0;
-    let n = count.0;
     let mut sum: i32 = 0;
-    let mut i: usize = 0;
-    while i < n {
-        let sample = samples[first + i];
-        sum += sample as i32;
-        i += 1;
+    for i in 0..count.0 {
+        sum += samples[first + i] as i32;
     }
-    let divisor = n as i32;
+    let divisor = count.0 as i32;
     (sum / divisor) as i16
 }
 
 // The mean of `count` samples from the place `from` on, and that of the `count` samples behind them: one pass for both
 // sums.
 fn means_from(samples: &[i16], from: Samples, count: Samples) -> Means
-    requires { (1 ≤ count.0) × (count.0 ≤ most_averaged) × (from.0 + count.0 + count.0 ≤ length samples.now) }
-    ensures { (result.first ≡ mean_from samples.now from.0 count.0)
-        × (result.second ≡ mean_from samples.now (from.0 + count.0) count.0) }
+    requires some { 1 ≤ count.0 }
+    requires few { count.0 ≤ most_averaged }
+    requires within { from.0 + count.0 + count.0 ≤ length samples.now }
+    ensures first { result.first ≡ mean_from samples.now from.0 count.0 }
+    ensures second { result.second ≡ mean_from samples.now (from.0 + count.0) count.0 }
 {
     let first = from.0;
-    let n = count.0;
-    let second = first + n;
+    let second = first + count.0;
     let mut sum: i32 = 0;
     let mut behind: i32 = 0;
-    let mut i: usize = 0;
-    while i < n {
-        let a = samples[first + i];
-        let b = samples[second + i];
-        sum += a as i32;
-        behind += b as i32;
-        i += 1;
+    for i in 0..count.0 {
+        sum += samples[first + i] as i32;
+        behind += samples[second + i] as i32;
     }
-    let divisor = n as i32;
+    let divisor = count.0 as i32;
     Means {
         first: (sum / divisor) as i16,
         second: (behind / divisor) as i16,
@@ -72,13 +67,8 @@ fn down_sample_by_two(samples: &[i16], out: &mut [i16], num_values: usize)
     ensures { out.new ≡ down_sample_input samples.now num_values 2
         ++ drop num_values out.old }
 {
-    let mut i: usize = 0;
-    while i < num_values {
-        let a = samples[i * 2];
-        let b = samples[i * 2 + 1];
-        let value = mean_of_two(a, b);
-        out[i] = value;
-        i += 1;
+    for i in 0..num_values {
+        out[i] = mean_of_two(samples[i * 2], samples[i * 2 + 1]);
     }
 }
 
@@ -93,19 +83,14 @@ pub fn down_sample_input(samples: &[i16], out: &mut [i16], num_values: usize, pe
         down_sample_by_two(samples, out, num_values);
         return;
     }
-    let mut from: usize = 0;
-    let mut i: usize = 0;
-    while i + 1 < num_values {
-        let means = means_from(samples, Samples(from), per_value);
-        let first = means.first;
-        let second = means.second;
+    for pair in 0..num_values / 2 {
+        let i = 2 * pair;
+        let Means { first, second } = means_from(samples, Samples(i * n), per_value);
         out[i] = first;
         out[i + 1] = second;
-        from += 2 * n;
-        i += 2;
     }
-    if i < num_values {
-        let last = mean_from(samples, Samples(from), per_value);
-        out[i] = last;
+    if num_values % 2 == 1 {
+        let last = num_values - 1;
+        out[last] = mean_from(samples, Samples(last * n), per_value);
     }
 }

@@ -1,6 +1,5 @@
--- Samples removed from the front of an area: where nothing is moved, where each remaining sample is, and the frames that remain.
--- Assumes nothing.
-use mathlib.Core.Path.{◌≡◌, refl, sym, ap, ◌∙◌, subst}
+-- Samples removed from the front of an area: where each remaining sample is, and the frames that remain. Assumes nothing.
+use mathlib.Core.Path.{◌≡◌, sym, ap, ◌∙◌, subst}
 use mathlib.Core.List.{List, ◌++◌}
 use Prim.Native.Nat.{ℕ, ◌+◌, ◌-◌, ◌*◌, ◌≤◌}
 use native.Mathlib.Omega.{arith}
@@ -38,14 +37,6 @@ module _ {A : Type 0} (d : List A) (n i j : ℕ) (h : n + i + j ≤ length d) wh
       ∙ ap (λ (l : List A). paste p i l j) behind_moved
       ∙ ap (λ (k : ℕ). paste p k (drop i (drop n d)) j) z
       ∙ paste-add d (drop n d) 0 i j (omega arith) (omega (arith, length-drop n d))
-
--- no sample goes
-pub no-sample-goes : {count : ℕ} (kept : ℕ) (d : List ℤ) → count ≡ 0 → FrontRemoved count kept d d
-no-sample-goes kept d e = rw e (record { remaining = refl; behind = refl; none_go = λ p. refl; none_remain = λ p. refl })
-
--- none remains
-pub no-sample-remains : (count : ℕ) {kept : ℕ} (d : List ℤ) → kept ≡ 0 → FrontRemoved count kept d d
-no-sample-remains count d e = rw e (record { remaining = refl; behind = refl; none_go = λ p. refl; none_remain = λ p. refl })
 
 -- each remaining sample is moved
 pub rest-moved : (count kept : ℕ) (d : List ℤ) → count + kept ≤ length d → FrontRemoved count kept d (paste d 0 (drop count d) kept)

@@ -14,6 +14,7 @@ ghost use Rattle.volume.specs.Volume.{scaled};
 
 use frames::{Frames, Samples};
 use sinc::table::SincTable;
+use sinc::window::Window;
 
 // A search's answer.
 #[repr(C)]
@@ -122,9 +123,11 @@ pub extern "C" fn kernel_interpolate_frame(
 {
     sinc::interpolate_frame(
         SincTable { entries: table },
-        stage,
-        Samples(0),
-        channels,
+        Window {
+            stage,
+            from: Samples(0),
+            channels,
+        },
         ratio,
         width,
         output,

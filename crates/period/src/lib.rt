@@ -9,15 +9,16 @@ use frames::Frames;
 pub use pitch::find_pitch_period;
 pub use rates::{max_period, max_required, min_period};
 
-// The period record: the period that the last search found, 0 before the first, and its least mean.
-#[derive(Clone, Copy)]
+// The period record: the period that the last search found and its least mean. Before the first the period is 0, and no
+// `Option`: so the stream's own fields have it, which C keeps (`SonicStream`).
+#[derive(Clone, Copy, Debug, PartialEq, Eq)]
 pub struct PeriodRecord {
     pub period: usize,
     pub min_diff: usize,
 }
 
 // The period that a step uses, the record after its search, and the sum of differences of the period found.
-#[derive(Clone, Copy)]
+#[derive(Clone, Copy, Debug, PartialEq, Eq)]
 pub struct Chosen {
     pub period: Frames,
     pub prev: PeriodRecord,

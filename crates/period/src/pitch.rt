@@ -20,8 +20,9 @@ struct LeastMean {
     best: Candidate,
 }
 
-// The samples that a step begins with, of so many channels at a rate: as many as a search looks at.
-#[derive(Clone, Copy)]
+// The samples that a step begins with, of so many channels at a rate: as many as a search looks at. The scratch stays
+// beside it: a `&mut` field would want a clause on its ghost name in every contract.
+#[derive(Clone, Copy, Debug, PartialEq, Eq)]
 struct Searched<'a> {
     samples: &'a [i16],
     channels: usize,

@@ -14,6 +14,7 @@ use reciprocals::Reciprocal;
 use sinc::SINC_FILTER_POINTS;
 use sinc::phases::{MAX_PHASES, keep_phases};
 use sinc::table::SincTable;
+use sinc::window::{Ratio, Window};
 
 // Where the coefficients of frames come from: those of each phase are kept, or those of a frame's ratio, which is its
 // phase, are computed from the table and the width.
@@ -42,14 +43,20 @@ fn make_frame(
         (cycle.step * (phase + 1) - 1) (cycle.step * cycle.new)) channels }
 {
     let from = first.samples(channels);
+    let window = Window {
+        stage,
+        from,
+        channels,
+    };
     let place = to.samples(channels);
     match coefficients {
         Coefficients::Kept(kept) => {
             let weights = &kept[phase];
-            sinc::phases::weighted_frame(weights, stage, from, channels, output, place);
+            sinc::phases::weighted_frame(weights, window, output, place);
         }
         Coefficients::Computed(table, width) => {
-            sinc::ratio_frame(table, stage, from, channels, phase, width, output, place);
+            let ratio = Ratio { at: phase, width };
+            sinc::ratio_frame(table, window, ratio, output, place);
         }
     }
 }

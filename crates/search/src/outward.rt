@@ -17,6 +17,9 @@ pub enum Wanted {
     Greatest,
 }
 
+// That the samples are enough for a range (`Searchable`) is asked of each function, not kept by a struct of samples and
+// range: each asks it of another part of the range that it was handed, and would build that struct anew.
+
 // Of a candidate and that of another period the one that goes before the other, as `lesser` has it. The sum ends where
 // it fails the test of `lesser` already: a longer one fails it too.
 fn contest(samples: &[i16], ties: Ties, old: Candidate, period: usize) -> Candidate

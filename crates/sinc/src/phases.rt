@@ -6,6 +6,7 @@ ghost use Rattle.sinc.specs.Weights.{SmallWeights, weighted_frame, PhasesKept};
 
 use crate::SINC_FILTER_POINTS;
 use crate::table::SincTable;
+use crate::window::{Ratio, Window};
 use frames::Samples;
 use reciprocals::Reciprocal;
 
@@ -24,29 +25,32 @@ pub fn keep_phases(
 {
     let width = Reciprocal::new(step * phases);
     for k in 0..phases {
-        let ratio = step * (k + 1) - 1;
-        kept[k] = crate::coefficients(table, ratio, width);
+        let at = step * (k + 1) - 1;
+        kept[k] = crate::coefficients(table, Ratio { at, width });
     }
 }
 
 // One frame by 12 weights. With one channel the taps stand side by side: there the loop is compiled for that.
 pub fn weighted_frame(
     weights: &[i32; SINC_FILTER_POINTS],
-    stage: &[i16],
-    from: Samples,
-    channels: usize,
+    window: Window,
     output: &mut [i16],
     to: Samples,
 )
     requires small { SmallWeights weights.now }
-    requires channels_in_bounds { (from.0 + sinc_filter_points * channels ≤ length stage.now)
-        × (to.0 + channels ≤ length output.old) }
+    requires channels_in_bounds { to.0 + window.channels ≤ length output.old }
     ensures { output.new ≡ paste output.old to.0
-        (weighted_frame (drop from.0 stage.now) channels weights.now) channels }
+        (weighted_frame (drop window.entry.from.0 window.entry.stage.now) window.entry.channels weights.now)
+        window.entry.channels }
 {
-    if channels == 1 {
-        crate::write_frame(weights, stage, from, 1, output, to);
+    if window.channels == 1 {
+        let mono = Window {
+            stage: window.stage,
+            from: window.from,
+            channels: 1,
+        };
+        crate::write_frame(weights, mono, output, to);
     } else {
-        crate::write_frame(weights, stage, from, channels, output, to);
+        crate::write_frame(weights, window, output, to);
     }
 }

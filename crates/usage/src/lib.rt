@@ -3,137 +3,51 @@
 
 use jobs::Misuse;
 
+// The lines of the usage.
+const USAGE: [&str; 33] = [
+    "usage: skim [--status] [OPTION]... [[RATE CHANNELS] SPEED PITCH [VOLUME]] < IN > OUT",
+    "       skim [--status] [OPTION]... IN.wav OUT.wav [SPEED PITCH [VOLUME]]",
+    "Changes speed, pitch and volume of 16-bit sound: of a WAVE file if it is named or begins with RIFF, and",
+    "then OUT is one too; otherwise of raw little-endian PCM, its channels interleaved.",
+    "  RATE      frames in a second, 1000 to 500000; 8000 if it is left out. Of a WAVE file its own is used",
+    "  CHANNELS  1 to 32; 1 if it is left out. Of a WAVE file its own are used",
+    "  SPEED     0.05 to 20, with digits before and behind the point, as 20 or 1.25",
+    "  PITCH     0.05 to 20",
+    "  VOLUME    0.01 to 100, 1 if it is left out",
+    "With no numbers: SPEED 20, PITCH 0.5. A first argument that is no number is a name; a file whose name is",
+    "a number is given as ./20. --help tells this, --version the version.",
+    "A pitch period that is too short to give a frame at this speed is passed over: nothing comes out of it.",
+    "  --as-original  stalls at such a period, as the Rust original does. Each later write tries again, a frame",
+    "                 further, and may leave the stall; what a write made before it stalled comes again",
+    "  --longest-period",
+    "                 takes the longest of the pitch periods that fit equally well, not the shortest",
+    "  --raw          takes standard input for raw PCM, whatever it begins with",
+    "  --map FILE     writes to FILE a line for each stretch of the reel of which nothing came out:",
+    "                 first_frame, frames, start_seconds, length_seconds, with tabs between",
+    "Standard error tells what was passed over, where the stretch stalled, and what was left out. Its last",
+    "line is for scripts:",
+    "  skim: frames_in=N frames_out=N stalls=N stalled_at=FRAME flush_stalled_at=FRAME refusal=N skipped=N",
+    "  inserted=N passed=N passed_frames=N status=N",
+    "stalls: writes that stalled. stalled_at: the first frame held before the first of them. flush_stalled_at:",
+    "that of a flush that stalled, where no stall of a write was left open. FRAME is none where none stalled.",
+    "skipped, inserted: frames of pitch periods taken out and put in.",
+    "passed: pitch periods passed over before the flush. passed_frames: frames of the reel of which nothing",
+    "came out, without those behind a stall.",
+    "status: 0 fine; 1 a stall that was not left, a refusal, a partial frame at the end, or a read or a write",
+    "failed; 2 bad usage or a file that cannot be opened, and then nothing was skimmed.",
+    "A named OUT.wav is written as OUT.wav.PID.part and renamed at the end; where a file is refused or a read",
+    "or a write failed, it is removed, and an OUT.wav that was there stays.",
+    "With --status the status is written to descriptor 3 too.",
+];
+
 pub fn version(rt: &impl Print) {
     say::line(rt, "skim (kelpladder) 0.4.0");
 }
 
 pub fn usage(rt: &impl Print) {
-    say_arguments(rt);
-    say_report(rt);
-}
-
-fn say_arguments(rt: &impl Print) {
-    say::line(
-        rt,
-        "usage: skim [--status] [OPTION]... [[RATE CHANNELS] SPEED PITCH [VOLUME]] < IN > OUT",
-    );
-    say::line(
-        rt,
-        "       skim [--status] [OPTION]... IN.wav OUT.wav [SPEED PITCH [VOLUME]]",
-    );
-    say::line(
-        rt,
-        "Changes speed, pitch and volume of 16-bit sound: of a WAVE file if it is named or begins with RIFF, and",
-    );
-    say::line(
-        rt,
-        "then OUT is one too; otherwise of raw little-endian PCM, its channels interleaved.",
-    );
-    say::line(
-        rt,
-        "  RATE      frames in a second, 1000 to 500000; 8000 if it is left out. Of a WAVE file its own is used",
-    );
-    say::line(
-        rt,
-        "  CHANNELS  1 to 32; 1 if it is left out. Of a WAVE file its own are used",
-    );
-    say::line(
-        rt,
-        "  SPEED     0.05 to 20, with digits before and behind the point, as 20 or 1.25",
-    );
-    say::line(rt, "  PITCH     0.05 to 20");
-    say::line(rt, "  VOLUME    0.01 to 100, 1 if it is left out");
-    say::line(
-        rt,
-        "With no numbers: SPEED 20, PITCH 0.5. A first argument that is no number is a name; a file whose name is",
-    );
-    say::line(
-        rt,
-        "a number is given as ./20. --help tells this, --version the version.",
-    );
-    say_options(rt);
-}
-
-fn say_options(rt: &impl Print) {
-    say::line(
-        rt,
-        "A pitch period that is too short to give a frame at this speed is passed over: nothing comes out of it.",
-    );
-    say::line(
-        rt,
-        "  --as-original  stalls at such a period, as the Rust original does. Each later write tries again, a frame",
-    );
-    say::line(
-        rt,
-        "                 further, and may leave the stall; what a write made before it stalled comes again",
-    );
-    say::line(rt, "  --longest-period");
-    say::line(
-        rt,
-        "                 takes the longest of the pitch periods that fit equally well, not the shortest",
-    );
-    say::line(
-        rt,
-        "  --raw          takes standard input for raw PCM, whatever it begins with",
-    );
-    say::line(
-        rt,
-        "  --map FILE     writes to FILE a line for each stretch of the reel of which nothing came out:",
-    );
-    say::line(
-        rt,
-        "                 first_frame, frames, start_seconds, length_seconds, with tabs between",
-    );
-}
-
-fn say_report(rt: &impl Print) {
-    say::line(
-        rt,
-        "Standard error tells what was passed over, where the stretch stalled, and what was left out. Its last",
-    );
-    say::line(rt, "line is for scripts:");
-    say::line(
-        rt,
-        "  skim: frames_in=N frames_out=N stalls=N stalled_at=FRAME flush_stalled_at=FRAME refusal=N skipped=N",
-    );
-    say::line(rt, "  inserted=N passed=N passed_frames=N status=N");
-    say::line(
-        rt,
-        "stalls: writes that stalled. stalled_at: the first frame held before the first of them. flush_stalled_at:",
-    );
-    say::line(
-        rt,
-        "that of a flush that stalled, where no stall of a write was left open. FRAME is none where none stalled.",
-    );
-    say::line(
-        rt,
-        "skipped, inserted: frames of pitch periods taken out and put in.",
-    );
-    say::line(
-        rt,
-        "passed: pitch periods passed over before the flush. passed_frames: frames of the reel of which nothing",
-    );
-    say::line(rt, "came out, without those behind a stall.");
-    say::line(
-        rt,
-        "status: 0 fine; 1 a stall that was not left, a refusal, a partial frame at the end, or a read or a write",
-    );
-    say::line(
-        rt,
-        "failed; 2 bad usage or a file that cannot be opened, and then nothing was skimmed.",
-    );
-    say::line(
-        rt,
-        "A named OUT.wav is written as OUT.wav.PID.part and renamed at the end; where a file is refused or a read",
-    );
-    say::line(
-        rt,
-        "or a write failed, it is removed, and an OUT.wav that was there stays.",
-    );
-    say::line(
-        rt,
-        "With --status the status is written to descriptor 3 too.",
-    );
+    for line in USAGE {
+        say::line(rt, line);
+    }
 }
 
 // What of the arguments cannot be used.

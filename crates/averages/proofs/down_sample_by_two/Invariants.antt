@@ -1,10 +1,6 @@
 -- `averages::down_sample_by_two` meets its contract: after i turns i means stand at the front. Assumes nothing.
-use Prim.Native.Nat.{◌-◌, ◌≤◌}
 use Rattle.averages.proofs.Averaging.{Front}
 use Rattle.averages.proofs.down_sample_by_two.Given as goal
 
 abbrev pub invariant-loop-i : goal.invariant-loop-i
-invariant-loop-i l = (l.i ≤ l.num_values) × Front l.samples l.initial.out l.out l.i 2
-
-abbrev pub decreases-loop-i : goal.decreases-loop-i
-decreases-loop-i l = l.num_values - l.i
+invariant-loop-i l = Front l.samples l.initial.out l.out l.i 2

@@ -8,4 +8,4 @@ use Rattle.sinc.proofs.coefficients.Given as goal
 
 abbrev pub invariant-loop-i : goal.invariant-loop-i
 invariant-loop-i l =
-    record { long : length l.weights ≡ sinc_filter_points; filled : Filled l.i (λ j. sinc_coefficient j l.ratio l.width.of) l.weights }
+    record { long : length l.weights ≡ sinc_filter_points; filled : Filled l.i (λ j. sinc_coefficient j l.ratio.at l.ratio.width.of) l.weights }

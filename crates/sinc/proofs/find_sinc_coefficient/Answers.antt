@@ -11,8 +11,9 @@ use mir.Facts.{to_z-of_z, to_z_pos, sfits_widen}
 use Rattle.laws.proofs.Integers.{sfits-of-nat_abs}
 use Rattle.laws.proofs.Widening.{i64}
 use Rattle.sinc.specs.declared.table.SincTable.{SincTable}
+use Rattle.sinc.specs.declared.window.Ratio.{Ratio}
 use Rattle.sinc.specs.SincTable.{sinc_table_size}
-use Rattle.sinc.specs.Sinc.{max_width, table_value}
+use Rattle.sinc.specs.Sinc.{table_value}
 use Rattle.sinc.specs.Lobes.{EntriesOnSide}
 use Rattle.sinc.proofs.TableRule.{sinc_table-length}
 use Rattle.sinc.proofs.Lobes.{signed, nat_abs-signed}
@@ -25,9 +26,9 @@ use Rattle.sinc.proofs.find_sinc_coefficient.Goals.{After-divide, After-divide-2
 long : (t : SincTable) → length t.entries.now ≡ sinc_table_size
 long t = rw t.exact sinc_table-length
 
-blended : (t : SincTable) (L e N : ℕ) {below b : Bool} → below ≡ b → (L + 1 < sinc_table_size) × (e < N) × (N ≤ max_width) × EntriesOnSide below L
-    → Blend b (get_or t.entries.now L (pos 0)) (get_or t.entries.now (L + 1) (pos 0)) N e
-blended t L e N {below} {b} same h = rw t.exact (entries b L e N h.0 h.1 (subst (λ (s : Bool). EntriesOnSide s L) same h.3))
+blended : (t : SincTable) (L : ℕ) (rest : Ratio) {below b : Bool} → below ≡ b → (L + 1 < sinc_table_size) × EntriesOnSide below L
+    → Blend b (get_or t.entries.now L (pos 0)) (get_or t.entries.now (L + 1) (pos 0)) rest.width.of rest.at
+blended t L rest {below} {b} same h = rw t.exact (entries b L rest.at rest.width.of h.0 rest.below (subst (λ (s : Bool). EntriesOnSide s L) same h.1))
 
 pub bounds-table-left : goal.bounds-table-left
 bounds-table-left c = omega (arith, long c.args.table, c.requires.0)
@@ -36,7 +37,7 @@ pub bounds-table-right : goal.bounds-table-right
 bounds-table-right c = omega (arith, long c.args.table, c.requires.0)
 
 pub overflow_mul-left_part : goal.overflow_mul-left_part
-overflow_mul-left_part c = left-fits (blended c.args.table c.args.left c.args.remainder c.args.width.of refl c.requires) c.requires.2
+overflow_mul-left_part c = left-fits (blended c.args.table c.args.left c.args.rest refl c.requires) c.args.rest.narrow
 
 -- a quotient q, with the sign of the side b
 record Quotient (b : Bool) (value : ℤ) (q : ℕ) : Type 0 where
@@ -60,27 +61,27 @@ module _ (t : SincTable) (L e N : ℕ) {b : Bool} (blend : Blend b (get_or t.ent
 -- ---- the entries are not above zero
 
 below-blended : (c : Then-below)
-    → Blend true (get_or c.args.table.entries.now c.args.left (pos 0)) (get_or c.args.table.entries.now (c.args.left + 1) (pos 0)) c.args.width.of c.args.remainder
+    → Blend true (get_or c.args.table.entries.now c.args.left (pos 0)) (get_or c.args.table.entries.now (c.args.left + 1) (pos 0)) c.args.rest.width.of c.args.rest.at
 below-blended c =
-    blended c.args.table c.args.left c.args.remainder c.args.width.of c.if-below.true c.requires
+    blended c.args.table c.args.left c.args.rest c.if-below.true c.requires
 
 pub overflow_sub-size : goal.overflow_sub-size
-overflow_sub-size c = left-size-fits (below-blended c) c.requires.2
+overflow_sub-size c = left-size-fits (below-blended c) c.args.rest.narrow
 
 pub overflow_sub-size-then-below : goal.overflow_sub-size-then-below
-overflow_sub-size-then-below c = size_fits (below-blended c) c.requires.2
+overflow_sub-size-then-below c = size_fits (below-blended c) c.args.rest.narrow
 
 pub overflow_cast-size : goal.overflow_cast-size
-overflow_cast-size c = rw (size-reads (below-blended c) c.requires.2) (tt, record { fits = omega (arith, size-le (below-blended c), c.requires.2) })
+overflow_cast-size c = rw (size-reads (below-blended c) c.args.rest.narrow) (tt, record { fits = omega (arith, size-le (below-blended c), c.args.rest.narrow) })
 
 pub divide-requires-clause-size : goal.divide-requires-clause-size
-divide-requires-clause-size c = rw (size-reads (below-blended c) c.requires.2) (omega (arith, size-le (below-blended c)))
+divide-requires-clause-size c = rw (size-reads (below-blended c) c.args.rest.narrow) (omega (arith, size-le (below-blended c)))
 
 module _ (c : After-divide) where
-  below_quotient : Quotient true (table_value c.args.left c.args.remainder c.args.width.of) c.divide.result
+  below_quotient : Quotient true (table_value c.args.left c.args.rest.at c.args.rest.width.of) c.divide.result
   below_quotient =
       let b = below-blended c.before in
-      quotient c.args.table c.args.left c.args.remainder c.args.width.of b c.divide.result (rw (size-reads b c.requires.2) at c.divide.ensures)
+      quotient c.args.table c.args.left c.args.rest.at c.args.rest.width.of b c.divide.result (rw (size-reads b c.args.rest.narrow) at c.divide.ensures)
 
   negated-is : pos 0 -ℤ to_z w64 c.divide.result ≡ signed true c.divide.result
   negated-is = rw below_quotient.reads (+ℤ_idl (neg_ℤ (pos c.divide.result)))
@@ -103,23 +104,23 @@ returns-then-below c = rw (negated-reads c, to_z-of_z (below_quotient c).fits) (
 -- ---- the entries are not below zero
 
 above-blended : (c : Else-below)
-    → Blend false (get_or c.args.table.entries.now c.args.left (pos 0)) (get_or c.args.table.entries.now (c.args.left + 1) (pos 0)) c.args.width.of c.args.remainder
+    → Blend false (get_or c.args.table.entries.now c.args.left (pos 0)) (get_or c.args.table.entries.now (c.args.left + 1) (pos 0)) c.args.rest.width.of c.args.rest.at
 above-blended c =
-    blended c.args.table c.args.left c.args.remainder c.args.width.of c.if-below.false c.requires
+    blended c.args.table c.args.left c.args.rest c.if-below.false c.requires
 
 pub overflow_add-size : goal.overflow_add-size
-overflow_add-size c = sum_fits (above-blended c) c.requires.2
+overflow_add-size c = sum_fits (above-blended c) c.args.rest.narrow
 
 pub overflow_cast-size-2 : goal.overflow_cast-size-2
-overflow_cast-size-2 c = rw (sum-reads (above-blended c) c.requires.2) (tt, record { fits = omega (arith, size-le (above-blended c), c.requires.2) })
+overflow_cast-size-2 c = rw (sum-reads (above-blended c) c.args.rest.narrow) (tt, record { fits = omega (arith, size-le (above-blended c), c.args.rest.narrow) })
 
 pub divide-requires-2-clause-size : goal.divide-requires-2-clause-size
-divide-requires-2-clause-size c = rw (sum-reads (above-blended c) c.requires.2) (omega (arith, size-le (above-blended c)))
+divide-requires-2-clause-size c = rw (sum-reads (above-blended c) c.args.rest.narrow) (omega (arith, size-le (above-blended c)))
 
-above_quotient : (c : After-divide-2) → Quotient false (table_value c.args.left c.args.remainder c.args.width.of) c.divide-2.result
+above_quotient : (c : After-divide-2) → Quotient false (table_value c.args.left c.args.rest.at c.args.rest.width.of) c.divide-2.result
 above_quotient c =
     let b = above-blended c.before in
-    quotient c.args.table c.args.left c.args.remainder c.args.width.of b c.divide-2.result (rw (sum-reads b c.requires.2) at c.divide-2.ensures)
+    quotient c.args.table c.args.left c.args.rest.at c.args.rest.width.of b c.divide-2.result (rw (sum-reads b c.args.rest.narrow) at c.divide-2.ensures)
 
 pub overflow_cast-result-2 : goal.overflow_cast-result-2
 overflow_cast-result-2 c = record { sfits = omega (arith, (above_quotient c).small) }

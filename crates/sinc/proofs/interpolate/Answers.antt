@@ -2,7 +2,7 @@
 -- Assumes nothing.
 use mathlib.Core.Path.{◌≡◌, ap, ◌∙◌, subst}
 use mathlib.Core.List.{List}
-use Prim.Native.Nat.{ℕ, ◌≤◌, ◌<◌}
+use Prim.Native.Nat.{ℕ, ◌+◌, ◌≤◌, ◌<◌}
 use native.Mathlib.Omega.{arith}
 use borrow.Author.Rules.{rules}
 use lib.IntN.{ℤ, nat_abs}
@@ -28,26 +28,28 @@ loop-i-init c = search rules
 pub overflow_add-sum : goal.overflow_add-sum
 overflow_add-sum c =
     let a = c.args in
+    let x = a.window.stage.now in
     let i = c.loop-i.i in
-    let sample : SFits w16 (taps a.stage.now a.from.0 a.channels i) = search rules in
+    let sample : SFits w16 (taps x (a.window.from.0 + a.channel) a.window.channels i) = search rules in
     let weight : SFits w32 (values a.weights.now i) = search rules in
     rw c.loop-i.invariant.added
-    (sum_fits (tap a.stage.now a.from.0 a.channels a.weights.now i sample weight c.requires.small c.loop-i-test.true c.loop-i.invariant.limited))
+    (sum_fits (tap x (a.window.from.0 + a.channel) a.window.channels a.weights.now i sample weight c.requires.small c.loop-i-test.true c.loop-i.invariant.limited))
 
 pub loop-i-preserved : goal.loop-i-preserved
 loop-i-preserved c =
     let a = c.args in
+    let x = a.window.stage.now in
     let i = c.loop-i.i in
-    let sample : SFits w16 (taps a.stage.now a.from.0 a.channels i) = search rules in
+    let sample : SFits w16 (taps x (a.window.from.0 + a.channel) a.window.channels i) = search rules in
     let weight : SFits w32 (values a.weights.now i) = search rules in
-    let t = tap a.stage.now a.from.0 a.channels a.weights.now i sample weight c.requires.small c.loop-i-test.true c.loop-i.invariant.limited in
+    let t = tap x (a.window.from.0 + a.channel) a.window.channels a.weights.now i sample weight c.requires.small c.loop-i-test.true c.loop-i.invariant.limited in
     record { added = rw c.loop-i.invariant.added (sum-reads t); limited = next-abs t }
 
 pub returns : goal.returns
 unfolding weighted_sample
 returns c =
     let l = c.loop-i in
-    let total : ℕ → ℤ = weighted_sum (taps c.args.stage.now c.args.from.0 c.args.channels) (values c.args.weights.now) in
+    let total : ℕ → ℤ = weighted_sum (taps c.args.window.stage.now (c.args.window.from.0 + c.args.channel) c.args.window.channels) (values c.args.weights.now) in
     let e : l.i ≡ sinc_filter_points = omega arith in
     let small = subst (λ (k : ℕ). nat_abs (total k) ≤ limit k) e l.invariant.limited in
     let held = held-is _ (total sinc_filter_points) 65536 (l.invariant.added ∙ ap total e) small c.hold.ensures in

@@ -18,6 +18,6 @@ values weights i = get_or weights i (pos 0)
 
 abbrev pub invariant-loop-i : goal.invariant-loop-i
 invariant-loop-i l = record {
-  added : l.sum ≡ weighted_sum (taps l.stage l.f l.channels) (values l.weights) l.i;
-  limited : nat_abs (weighted_sum (taps l.stage l.f l.channels) (values l.weights) l.i) ≤ limit l.i;
+  added : l.sum ≡ weighted_sum (taps l.window.stage.now l.first l.window.channels) (values l.weights) l.i;
+  limited : nat_abs (weighted_sum (taps l.window.stage.now l.first l.window.channels) (values l.weights) l.i) ≤ limit l.i;
 }

@@ -1,7 +1,7 @@
 -- `sinc::tap_coefficient` meets its contract. Assumes nothing.
 use mathlib.Core.Path.{◌≡◌, sym, ◌∙◌}
 use Prim.Native.Nat.{ℕ, ◌-◌, ◌*◌, ◌/◌, ◌%◌, ◌≤◌, ◌<◌}
-use native.Mathlib.Nat.{mod-lt, div-mul-le_self, div-add-mod'}
+use native.Mathlib.Nat.{div-mul-le_self, div-add-mod'}
 use native.Mathlib.Omega.{arith}
 use mir.Syntax.{w32}
 use mir.Facts.{to_z-of_z}
@@ -23,18 +23,17 @@ module _ (r N : ℕ) {place : ℕ} (place_is : place ≡ lobe_points * r / N) wh
   within h = rw place_is (place-lt r N h)
 
 pub overflow_sub-remainder : goal.overflow_sub-remainder
-overflow_sub-remainder c = reached c.args.ratio c.args.width.of c.divide-place.ensures
+overflow_sub-remainder c = reached c.args.ratio.at c.args.ratio.width.of c.divide-place.ensures
 
 pub find_sinc_coefficient-requires : goal.find_sinc_coefficient-requires
 find_sinc_coefficient-requires c =
     let a = c.args in
-    let inside = within a.ratio a.width.of c.divide-place.ensures c.requires.1 in
-    rw (remainder_is a.ratio a.width.of c.divide-place.ensures, c.is_below_zero.ensures)
-    (omega (arith, inside), mod-lt (lobe_points * a.ratio) (omega arith), c.requires.2, lobe-side a.i c.divide-place.result c.requires.0 inside)
+    let inside = within a.ratio.at a.ratio.width.of c.divide-place.ensures a.ratio.below in
+    rw c.is_below_zero.ensures (omega (arith, inside), lobe-side a.i c.divide-place.result c.requires inside)
 
 pub returns : goal.returns
 returns c =
     let a = c.args in
     to_z-of_z {w = w32} (record { sfits = c.find_sinc_coefficient.type_inv })
-    ∙ rw (remainder_is a.ratio a.width.of c.divide-place.ensures, c.divide-place.ensures) at c.find_sinc_coefficient.ensures
-    ∙ sym (sinc_coefficient-is a.i a.ratio a.width.of)
+    ∙ rw (remainder_is a.ratio.at a.ratio.width.of c.divide-place.ensures, c.divide-place.ensures) at c.find_sinc_coefficient.ensures
+    ∙ sym (sinc_coefficient-is a.i a.ratio.at a.ratio.width.of)

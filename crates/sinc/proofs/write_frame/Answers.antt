@@ -20,20 +20,20 @@ use Rattle.sinc.proofs.write_frame.Goals.{Start}
 -- the frame to be written, and its sample of the channel c
 module _ (s : Start) where
   abbrev frame : List ℤ
-  frame = weighted_frame (drop s.args.from.0 s.args.stage.now) s.args.channels s.args.weights.now
+  frame = weighted_frame (drop s.args.window.from.0 s.args.window.stage.now) s.args.window.channels s.args.weights.now
 
   abbrev weight : ℕ → ℤ
   weight i = get_or s.args.weights.now i (pos 0)
 
   abbrev sample : ℕ → ℤ
-  sample = channel_sample (drop s.args.from.0 s.args.stage.now) s.args.channels s.args.weights.now
+  sample = channel_sample (drop s.args.window.from.0 s.args.window.stage.now) s.args.window.channels s.args.weights.now
 
   -- one sample more
-  turn_is : (c : ℕ) → c < s.args.channels → set (paste s.args.output.now s.args.to.0 frame c) (s.args.to.0 + c) (sample c)
+  turn_is : (c : ℕ) → c < s.args.window.channels → set (paste s.args.output.now s.args.to.0 frame c) (s.args.to.0 + c) (sample c)
       ≡ paste s.args.output.now s.args.to.0 frame (c + 1)
   turn_is c h =
-      frame-turn s.args.output.now s.args.to.0 (drop s.args.from.0 s.args.stage.now) s.args.channels s.args.weights.now
-      c (omega (arith, s.requires.channels_in_bounds.1)) h
+      frame-turn s.args.output.now s.args.to.0 (drop s.args.window.from.0 s.args.window.stage.now) s.args.window.channels s.args.weights.now
+      c (omega (arith, s.requires.channels_in_bounds)) h
 
 pub loop-c-preserved : goal.loop-c-preserved
 loop-c-preserved c =
@@ -42,6 +42,6 @@ loop-c-preserved c =
     let s = d.before in
     let a = s.args in
     let e : c.interpolate-sample.result ≡ sample s l.c =
-    channel-is a.stage.now a.from.0 a.channels l.c (a.from.0 + l.c) (weight s) refl c.interpolate-sample.ensures in
+    channel-is a.window.stage.now a.window.from.0 a.window.channels l.c (a.window.from.0 + l.c) (weight s) refl c.interpolate-sample.ensures in
     rw (to_z-of_z {w = w16} (record { sfits = c.interpolate-sample.type_inv }), e)
     (ap (λ (r : List ℤ). set r (a.to.0 + l.c) (sample s l.c)) l.invariant ∙ turn_is s l.c (omega arith))

@@ -8,4 +8,4 @@ use Rattle.sinc.proofs.write_frame.Given as goal
 
 abbrev pub invariant-loop-c : goal.invariant-loop-c
 invariant-loop-c l =
-    l.output ≡ paste l.initial.output l.t (weighted_frame (drop l.f l.stage) l.channels l.weights) l.c
+    l.output ≡ paste l.initial.output l.t (weighted_frame (drop l.window.from.0 l.window.stage.now) l.window.channels l.weights) l.c
