@@ -1,3 +1,4 @@
+pub mod Lent
 pub mod Serving
 pub mod Reels
 pub mod States

@@ -7,7 +7,7 @@
 --   BlockReadAs                       after a block was read
 -- Definitions only. Assumes nothing.
 use Rattle.std.specs.Prelude.{◌≡◌, ℕ, ◌+◌, ◌-◌, ◌*◌, ◌/◌, ◌%◌, ◌^◌, ◌<◌, ◌≤◌, min, List, nat_lt}
-use Rattle.std.specs.Prelude.{Bool, true, false, cond, not, ◌&&◌}
+use Rattle.std.specs.Prelude.{Bool, true, false, cond, not, ◌&&◌, Option}
 use Rattle.stream.specs.declared.SonicStream.{SonicStream}
 use Rattle.adding.specs.declared.Wrote.{Wrote}
 use Rattle.read.specs.declared.Gave.{Gave}
@@ -35,8 +35,8 @@ takes_more p r = takes p r.stream.held.0 r.state
 abbrev pub reads_more : Reel → Bool
 reads_more r = not r.ended && not (failed r.state)
 
--- a run that has not begun, with its input and the descriptor of its map
-unfoldable pub fresh_reel : SonicStream → Source → ℕ → Reel
+-- a run that has not begun, with its input and the descriptor of its map, if there is one
+unfoldable pub fresh_reel : SonicStream → Source → Option ℕ → Reel
 fresh_reel stream source map =
     record {
       stream = stream;

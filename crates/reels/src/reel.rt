@@ -1,21 +1,21 @@
 // A run: its stream, with what is told of it at the end.
-ghost use Rattle.std.specs.Prelude.{◌≡◌, ◌-◌, ◌*◌, ◌≤◌, length};
+ghost use Rattle.std.specs.Prelude.{◌≡◌, ◌*◌, ◌≤◌, length};
 ghost use Rattle.pcm.specs.Pcm.{Encoded};
 ghost use Rattle.read.specs.Reading.{read_call};
 ghost use Rattle.plans.specs.Plans.{block_samples, Usable};
 ghost use Rattle.reels.specs.States.{kept, failed};
-ghost use Rattle.reels.specs.Reels.{takes_more, reads_more, fresh_reel};
+ghost use Rattle.reels.specs.Reels.{takes_more, reads_more, fresh_reel, first_held};
 ghost use Rattle.reels.specs.Reels.{Answered, Stopped, FewerWait, Drained};
 
-use crate::state::{
-    RunState, Stalls, has_failed, leaves_room, passed_in, state_in, stream_after, then,
-};
+use crate::areas::Areas;
+use crate::state::{RunState, Stalls, leaves_room, passed_in, state_in, stream_after};
 use adding::Wrote;
 use frames::Frames;
 use inputs::Source;
 use passes::Passes;
 use plans::{BLOCK_SAMPLES, Plan};
 use read::Gave;
+use std::io;
 use std::io::Write;
 use stream::SonicStream;
 
@@ -43,33 +43,27 @@ pub struct Reel {
     pub gave: u64,
     // The stretched frames that waited in the tail before the last call.
     pub tail: Frames,
-    // The frames of which nothing came out, and the descriptor of the map, or NO_MAP.
+    // The frames of which nothing came out, and the descriptor of the map, if there is one.
     pub passes: Passes,
-    pub map: u32,
+    pub map: Option<u32>,
 }
 
-// The first frame held.
-pub fn first_held(written: u64, held: u64) -> u64
-    ensures { result ≡ written - held }
-{
-    if held < written { written - held } else { 0 }
-}
-
-// Writes out the first `count` values, and answers whether all were taken.
-fn write_values<W: Write>(writer: &mut W, values: &[f32], count: usize, bytes: &mut [u8]) -> bool
+// Writes out the first `count` values.
+fn write_values<W: Write>(
+    writer: &mut W,
+    values: &[f32],
+    count: usize,
+    bytes: &mut [u8],
+) -> io::Result<()>
     requires { (count ≤ length values.now) × (2 * count ≤ length bytes.old) }
     ensures { Encoded count values.now bytes.new }
 {
-    let size = 2 * count;
     pcm::encode(values, count, bytes);
-    writer.write_all(&bytes[..size]).is_ok()
+    writer.write_all(&bytes[..2 * count])
 }
 
 impl Reel {
-    // The descriptor of standard input, which no map is written to.
-    pub const NO_MAP: u32 = 0;
-
-    pub fn new(stream: SonicStream, source: Source, map: u32) -> Reel
+    pub fn new(stream: SonicStream, source: Source, map: Option<u32>) -> Reel
         ensures { result ≡ fresh_reel stream source map }
     {
         Reel {
@@ -92,48 +86,22 @@ impl Reel {
         }
     }
 
+    // The first frame held.
+    pub fn first_held(self) -> u64
+        ensures { result ≡ first_held self.written self.stream }
+    {
+        self.written.saturating_sub(self.stream.held.0 as u64)
+    }
+
     // Whether the stream takes a frame more. A run that has stalled goes on as long as its flush has room.
     pub fn takes_more(self, plan: Plan) -> bool
         requires { Usable plan }
         ensures { result ≡ takes_more plan self }
     {
-        let state = self.state;
-        match state {
+        match self.state {
             RunState::Going => true,
             RunState::Stalled(_) => leaves_room(self.stream.held.0, plan),
-            RunState::FlushStalled(_) => false,
-            RunState::Refused(_) => false,
-            RunState::ReadFailed => false,
-            RunState::WriteFailed => false,
-        }
-    }
-
-    // The same run in another state.
-    fn with_state(self, state: RunState) -> Reel
-        ensures { Stopped state self result }
-    {
-        let stream = self.stream;
-        let stalls = self.stalls;
-        let tail = self.tail;
-        let passes = self.passes;
-        let source = self.source;
-        Reel {
-            stream,
-            frames_in: self.frames_in,
-            written: self.written,
-            frames_out: self.frames_out,
-            source,
-            partial: self.partial,
-            state,
-            stalls,
-            ended: self.ended,
-            flushed: self.flushed,
-            from: self.from,
-            passed: self.passed,
-            gave: self.gave,
-            tail,
-            passes,
-            map: self.map,
+            _ => false,
         }
     }
 
@@ -141,93 +109,89 @@ impl Reel {
     pub fn stopped(self, by: RunState) -> Reel
         ensures { Stopped (kept self.state by) self result }
     {
-        let state = self.state;
-        self.with_state(then(state, by))
+        Reel {
+            state: self.state.then(by),
+            ..self
+        }
     }
 
     // Whether a read or a write failed.
     pub fn has_failed(self) -> bool
         ensures { result ≡ failed self.state }
     {
-        let state = self.state;
-        has_failed(state)
+        self.state.has_failed()
     }
 
     // Whether more of the input is read.
     pub fn reads_more(self) -> bool
         ensures { result ≡ reads_more self }
     {
-        if self.ended {
-            return false;
-        }
-        !self.has_failed()
+        !self.ended && !self.has_failed()
     }
 
     // After a write or a flush with this answer, which leaves `stall` if it stalled.
-    pub fn answered(mut self, answer: Wrote, stall: RunState) -> Reel
+    pub fn answered(self, answer: Wrote, stall: RunState) -> Reel
         ensures { Answered stall self.written self.flushed self.stalls self.passes self.gave self
             answer result }
     {
-        let place = first_held(self.written, self.stream.held.0 as u64);
-        let tail = self.stream.tail;
-        let before = self.state;
-        let state = then(before, state_in(stall, answer));
-        let stream = stream_after(answer);
-        self.from = place;
-        self.tail = tail;
-        self.stream = stream;
-        self.passed = passed_in(answer);
-        self.with_state(state)
+        Reel {
+            stream: stream_after(answer),
+            state: self.state.then(state_in(stall, answer)),
+            from: self.first_held(),
+            passed: passed_in(answer),
+            tail: self.stream.tail,
+            ..self
+        }
     }
 
     // Reads a block of the frames waiting, and writes it out.
-    fn write_out<W: Write>(
-        mut self,
+    fn write_out<W: Write, const STAGE: usize, const OUTPUT: usize>(
+        self,
         writer: &mut W,
-        output: &mut [i16],
-        values: &mut [f32],
-        bytes: &mut [u8],
+        areas: &mut Areas<STAGE, OUTPUT>,
     ) -> Reel
-        requires { (32 ≤ length values.old) × (2 * length values.old ≤ length bytes.old) }
-        ensures { FewerWait (length output.old)
-            (read_call self.stream block_samples values.old output.old).answer self result }
+        ensures { FewerWait OUTPUT
+            (read_call self.stream block_samples areas.old.values areas.old.output).answer self result }
     {
-        let channels = self.stream.channels as usize;
-        match read::read_f32(self.stream, Frames(BLOCK_SAMPLES), values, output) {
-            Gave::Refused(number, stream) => {
-                self.stream = stream;
-                self = self.stopped(RunState::Refused(number));
-            }
+        match read::read_f32(
+            self.stream,
+            Frames(BLOCK_SAMPLES),
+            &mut areas.values,
+            &mut areas.output,
+        ) {
+            Gave::Refused(number, stream) => Reel { stream, ..self }.stopped(RunState::Refused(
+                number,
+            )),
             Gave::Done(n, stream) => {
-                let count = n.samples(channels).0;
-                self.stream = stream;
-                if write_values(writer, values, count, bytes) {
-                    self.frames_out = std::num::wrapping_add_u64(self.frames_out, n.0 as u64);
-                } else {
-                    self = self.stopped(RunState::WriteFailed);
+                let count = n.samples(self.stream.channels as usize).0;
+                let read = Reel { stream, ..self };
+                match write_values(writer, &areas.values, count, &mut areas.bytes) {
+                    Ok(()) => Reel {
+                        frames_out: self.frames_out.wrapping_add(n.0 as u64),
+                        ..read
+                    },
+                    Err(_) => read.stopped(RunState::WriteFailed),
                 }
             }
         }
-        self
     }
 
     // Writes out the frames waiting, while there are as many as `few`, at least 1. Each turn gives one or more.
-    pub fn drain<W: Write>(
+    pub fn drain<W: Write, const STAGE: usize, const OUTPUT: usize>(
         self,
         few: usize,
         writer: &mut W,
-        output: &mut [i16],
-        values: &mut [f32],
-        bytes: &mut [u8],
+        areas: &mut Areas<STAGE, OUTPUT>,
     ) -> Reel
-        requires { (1 ≤ few) × (32 ≤ length values.old) × (2 * length values.old ≤ length bytes.old) }
-        ensures { Drained (length output.old) few self result }
+        requires { 1 ≤ few }
+        ensures { Drained OUTPUT few self result }
     {
         let mut reel = self;
-        let mut turns = reel.stream.waiting.0;
-        while turns > 0 && reel.stream.waiting.0 >= few && !reel.has_failed() {
-            reel = reel.write_out(writer, output, values, bytes);
-            turns -= 1;
+        for _turn in 0..self.stream.waiting.0 {
+            if reel.stream.waiting.0 < few || reel.has_failed() {
+                break;
+            }
+            reel = reel.write_out(writer, areas);
         }
         reel
     }

@@ -4,14 +4,14 @@ ghost use Rattle.std.specs.Prelude.{◌≡◌, ◌+◌, ◌*◌, nat_le};
 ghost use Rattle.adding.specs.Calls.{stream_after};
 ghost use Rattle.plans.specs.Plans.{Usable};
 ghost use Rattle.reels.specs.Reels.{passed_in};
-ghost use Rattle.reels.specs.States.{is_stalled, sound, fine, failed, kept, flush_stall, state_in, count_stall};
+ghost use Rattle.reels.specs.States.{sound, fine, failed, kept, flush_stall, state_in, count_stall};
 
 use adding::Wrote;
 use fill::Outcome;
 use plans::Plan;
 use stream::SonicStream;
 
-#[derive(Clone, Copy)]
+#[derive(Clone, Copy, Debug, PartialEq, Eq)]
 pub enum RunState {
     Going,
     // The last write stalled: the first frame held before it.
@@ -25,85 +25,68 @@ pub enum RunState {
     WriteFailed,
 }
 
+impl RunState {
+    // Whether nothing was refused and nothing failed.
+    pub fn is_sound(self) -> bool
+        ensures { result ≡ sound self }
+    {
+        matches!(
+            self,
+            RunState::Going | RunState::Stalled(_) | RunState::FlushStalled(_)
+        )
+    }
+
+    // Whether a run goes, or its flush alone stalled.
+    pub fn is_fine(self) -> bool
+        ensures { result ≡ fine self }
+    {
+        matches!(self, RunState::Going | RunState::FlushStalled(_))
+    }
+
+    // Whether a read or a write failed.
+    pub fn has_failed(self) -> bool
+        ensures { result ≡ failed self }
+    {
+        matches!(self, RunState::ReadFailed | RunState::WriteFailed)
+    }
+
+    // What follows a state: an earlier refusal or failure is kept.
+    pub fn then(self, next: RunState) -> RunState
+        ensures { result ≡ kept self next }
+    {
+        if self.is_sound() { next } else { self }
+    }
+
+    // What a flush that stalls leaves: if a write stalled before it, that stall.
+    pub fn flush_stall(self, place: u64) -> RunState
+        ensures { result ≡ flush_stall place self }
+    {
+        match self {
+            RunState::Going => RunState::FlushStalled(place),
+            _ => self,
+        }
+    }
+}
+
 // The writes that stalled, which do not come near 2^64, and the first frame held before the first of them.
-#[derive(Clone, Copy)]
+#[derive(Clone, Copy, Debug, PartialEq, Eq)]
 pub struct Stalls {
     pub count: u64,
     pub first: u64,
 }
 
-fn is_stalled(outcome: Outcome) -> bool
-    ensures { result ≡ is_stalled outcome }
-{
-    match outcome {
-        Outcome::Empty => false,
-        Outcome::Copied => false,
-        Outcome::Waiting => false,
-        Outcome::Stretched => false,
-        Outcome::Stalled => true,
-    }
-}
-
-// Whether nothing was refused and nothing failed.
-pub fn is_sound(state: RunState) -> bool
-    ensures { result ≡ sound state }
-{
-    match state {
-        RunState::Going => true,
-        RunState::Stalled(_) => true,
-        RunState::FlushStalled(_) => true,
-        RunState::Refused(_) => false,
-        RunState::ReadFailed => false,
-        RunState::WriteFailed => false,
-    }
-}
-
-// Whether a run goes, or its flush alone stalled.
-pub fn is_fine(state: RunState) -> bool
-    ensures { result ≡ fine state }
-{
-    match state {
-        RunState::Going => true,
-        RunState::Stalled(_) => false,
-        RunState::FlushStalled(_) => true,
-        RunState::Refused(_) => false,
-        RunState::ReadFailed => false,
-        RunState::WriteFailed => false,
-    }
-}
-
-// Whether a read or a write failed.
-pub fn has_failed(state: RunState) -> bool
-    ensures { result ≡ failed state }
-{
-    match state {
-        RunState::Going => false,
-        RunState::Stalled(_) => false,
-        RunState::FlushStalled(_) => false,
-        RunState::Refused(_) => false,
-        RunState::ReadFailed => true,
-        RunState::WriteFailed => true,
-    }
-}
-
-// What follows a state: an earlier refusal or failure is kept.
-pub fn then(state: RunState, next: RunState) -> RunState
-    ensures { result ≡ kept state next }
-{
-    if is_sound(state) { next } else { state }
-}
-
-// What a flush that stalls leaves: if a write stalled before it, that stall.
-pub fn flush_stall(state: RunState, place: u64) -> RunState
-    ensures { result ≡ flush_stall place state }
-{
-    match state {
-        RunState::Going => RunState::FlushStalled(place),
-        RunState::Stalled(at) => RunState::Stalled(at),
-        RunState::FlushStalled(at) => RunState::FlushStalled(at),
-        RunState::Refused(number) => RunState::Refused(number),
-        RunState::ReadFailed => RunState::ReadFailed,
-        RunState::WriteFailed => RunState::WriteFailed,
+impl Stalls {
+    // With a write that had this answer.
+    pub fn count_stall(self, place: u64, answer: Wrote) -> Stalls
+        ensures { result ≡ count_stall place answer self }
+    {
+        match answer {
+            Wrote::Done(told, _) if matches!(told.outcome, Outcome::Stalled) => Stalls {
+                count: self.count.wrapping_add(1),
+                first: if self.count == 0 { place } else { self.first },
+            },
+            _ => self,
+        }
     }
 }
 
@@ -113,39 +96,8 @@ pub(crate) fn state_in(stall: RunState, answer: Wrote) -> RunState
 {
     match answer {
         Wrote::Refused(number, _) => RunState::Refused(number),
-        Wrote::Done(told, _) => {
-            let outcome = told.outcome;
-            if is_stalled(outcome) {
-                return stall;
-            }
-            RunState::Going
-        }
-    }
-}
-
-// The writes that stalled, with one that had this answer.
-pub fn count_stall(stalls: Stalls, place: u64, answer: Wrote) -> Stalls
-    ensures { result ≡ count_stall place answer stalls }
-{
-    match answer {
-        Wrote::Refused(_, _) => stalls,
-        Wrote::Done(told, _) => {
-            let outcome = told.outcome;
-            if !is_stalled(outcome) {
-                return stalls;
-            }
-            let count = std::num::wrapping_add_u64(stalls.count, 1);
-            if stalls.count > 0 {
-                return Stalls {
-                    count,
-                    first: stalls.first,
-                };
-            }
-            Stalls {
-                count,
-                first: place,
-            }
-        }
+        Wrote::Done(told, _) if matches!(told.outcome, Outcome::Stalled) => stall,
+        Wrote::Done(_, _) => RunState::Going,
     }
 }
 
@@ -154,11 +106,7 @@ pub(crate) fn leaves_room(held: usize, plan: Plan) -> bool
     requires { Usable plan }
     ensures { result ≡ nat_le (held + (1 + 2 * plan.required)) plan.limit }
 {
-    let more = 1 + 2 * plan.required;
-    if plan.limit < more {
-        return false;
-    }
-    held <= plan.limit - more
+    held.saturating_add(1 + 2 * plan.required) <= plan.limit
 }
 
 // The stream that a call left.
@@ -166,8 +114,7 @@ pub(crate) fn stream_after(answer: Wrote) -> SonicStream
     ensures { result ≡ stream_after answer }
 {
     match answer {
-        Wrote::Refused(_, stream) => stream,
-        Wrote::Done(_, stream) => stream,
+        Wrote::Refused(_, stream) | Wrote::Done(_, stream) => stream,
     }
 }
 
