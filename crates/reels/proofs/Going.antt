@@ -5,16 +5,20 @@
 --   same-input, input-trans            what is known of the input
 --   same-notes, notes-trans            what is noted
 --   out-same, out-trans                frames written out, in no turn and in one more
+--   out-stopped                        a refusal or a failure behind a read
 --   stays-takes, out-takes             a stream that takes more did so before
 --   moved                              frames that wait no longer are counted
 -- Assumes nothing.
 use Rattle.std.proofs.Common.{◌≡◌, ℕ, ◌+◌, ◌-◌, ◌%◌, ◌^◌, ◌≤◌, Bool, true, false, cond, sym, refl, ap, ◌∙◌, arith}
 use native.Mathlib.Nat.{mod-add-mod}
+use Rattle.stream.specs.declared.SonicStream.{SonicStream}
 use Rattle.plans.specs.declared.Plan.{Plan}
+use Rattle.plans.specs.Plans.{output_area}
 use Rattle.reels.specs.declared.reel.Reel.{Reel}
 use Rattle.reels.specs.declared.state.RunState.{RunState}
 use Rattle.reels.specs.States.{sound, failed, takes, kept}
-use Rattle.reels.specs.Reels.{takes_more, SameInput, SameNotes, WrittenOut}
+use Rattle.reels.specs.Serving.{Serving}
+use Rattle.reels.specs.Reels.{takes_more, SameInput, SameNotes, Stopped, WrittenOut}
 
 -- a truth value is one of two
 pub failed-once : {f : Bool} → f ≡ true → f ≡ false → ⊥
@@ -98,6 +102,35 @@ out-trans {r} {s} {t} a b =
       state_stays = λ e. b.state_stays e ∙ a.state_stays (before e);
       accounted = λ e. b.accounted e ∙ a.accounted (before e);
       serving_kept = λ p z y. b.serving_kept p z (a.serving_kept p z y);
+    }
+
+-- a read left the stream t, and then the run stopped
+pub out-stopped : {samples : ℕ} {r r' : Reel} {t : SonicStream} (state : RunState) → sound state ≡ false
+    → Stopped (kept r.state state) (record r { stream = t }) r' → t.channels ≡ r.stream.channels → t.held.0 ≡ r.stream.held.0
+    → ((p : Plan) → samples ≡ output_area p.small → Serving p r → Serving p r') → WrittenOut samples r r'
+out-stopped {r = r} {r' = r'} state u k channels held serving =
+    let unsound : sound r'.state ≡ false = ap sound k.state_is ∙ kept-unsound r.state state u in
+    let i = k.input_kept in
+    let n = k.notes_kept in
+    record {
+      input_kept = record { frames_same = i.frames_same; source_same = i.source_same; partial_same = i.partial_same; ended_same = i.ended_same };
+      written_kept = k.written_kept;
+      flushed_kept = k.flushed_kept;
+      notes_kept =
+          record {
+            stalls_same = n.stalls_same;
+            from_same = n.from_same;
+            passed_same = n.passed_same;
+            gave_same = n.gave_same;
+            tail_same = n.tail_same;
+            passes_same = n.passes_same;
+          };
+      map_kept = k.map_kept;
+      channels_kept = ap (λ (s : SonicStream). s.channels) k.stream_kept ∙ channels;
+      held_kept = ap (λ (s : SonicStream). s.held.0) k.stream_kept ∙ held;
+      state_stays = λ e. absurd (failed-once e unsound);
+      accounted = λ e. absurd (failed-once e unsound);
+      serving_kept = serving;
     }
 
 -- a stream that takes more, in a state that a sound one may have become, did so before

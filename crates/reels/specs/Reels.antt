@@ -36,7 +36,7 @@ abbrev pub reads_more : Reel → Bool
 reads_more r = not r.ended && not (failed r.state)
 
 -- a run that has not begun, with its input and the descriptor of its map, if there is one
-unfoldable pub fresh_reel : SonicStream → Source → Option ℕ → Reel
+abbrev pub fresh_reel : SonicStream → Source → Option ℕ → Reel
 fresh_reel stream source map =
     record {
       stream = stream;
