@@ -10,21 +10,13 @@ use Rattle.reels.specs.declared.state.RunState.{RunState}
 
 -- refused with no other number than that of a total
 abbrev pub OnlyTotals : RunState → Type 0
-OnlyTotals RunState.Going = Unit {0}
-OnlyTotals (RunState.Stalled at) = Unit {0}
-OnlyTotals (RunState.FlushStalled at) = Unit {0}
 OnlyTotals (RunState.Refused number) = number ≡ total_full
-OnlyTotals RunState.ReadFailed = Unit {0}
-OnlyTotals RunState.WriteFailed = Unit {0}
+OnlyTotals _ = Unit {0}
 
 -- a run that is going holds fewer frames than a search looks at
 abbrev pub FewHeld : Plan → ℕ → RunState → Type 0
 FewHeld p held RunState.Going = held < p.required
-FewHeld p held (RunState.Stalled at) = Unit {0}
-FewHeld p held (RunState.FlushStalled at) = Unit {0}
-FewHeld p held (RunState.Refused number) = Unit {0}
-FewHeld p held RunState.ReadFailed = Unit {0}
-FewHeld p held RunState.WriteFailed = Unit {0}
+FewHeld p held _ = Unit {0}
 
 -- what holds of the reel between its calls
 pub record Serving (p : Plan) (r : Reel) : Type 0 where

@@ -6,7 +6,7 @@
 -- Definitions only. Assumes nothing.
 use Rattle.std.specs.Prelude.{ℕ, ◌+◌, ◌*◌, ◌%◌, ◌^◌, Bool, true, false, cond, ◌==◌, nat_le}
 use Rattle.fill.specs.declared.Outcome.{Outcome}
-use Rattle.fill.specs.declared.Outcome.TheVariants.{Empty, Copied, Waiting, Stretched, Stalled}
+use Rattle.fill.specs.declared.Outcome.TheVariants.{Stalled}
 use Rattle.adding.specs.declared.Wrote.{Wrote}
 use Rattle.plans.specs.declared.Plan.{Plan}
 use Rattle.reels.specs.declared.state.RunState.{RunState}
@@ -14,50 +14,36 @@ use Rattle.reels.specs.declared.state.Stalls.{Stalls}
 
 -- whether an outcome is a stall
 abbrev pub is_stalled : Outcome → Bool
-is_stalled Empty = false
-is_stalled Copied = false
-is_stalled Waiting = false
-is_stalled Stretched = false
 is_stalled Stalled = true
+is_stalled _ = false
 
 -- ---- what a state shows
 
 -- nothing was refused and nothing failed
 abbrev pub sound : RunState → Bool
-sound RunState.Going = true
-sound (RunState.Stalled at) = true
-sound (RunState.FlushStalled at) = true
 sound (RunState.Refused number) = false
 sound RunState.ReadFailed = false
 sound RunState.WriteFailed = false
+sound _ = true
 
 -- the run goes, or its flush alone stalled
 abbrev pub fine : RunState → Bool
 fine RunState.Going = true
-fine (RunState.Stalled at) = false
 fine (RunState.FlushStalled at) = true
-fine (RunState.Refused number) = false
-fine RunState.ReadFailed = false
-fine RunState.WriteFailed = false
+fine _ = false
 
 -- a read or a write failed
 abbrev pub failed : RunState → Bool
-failed RunState.Going = false
-failed (RunState.Stalled at) = false
-failed (RunState.FlushStalled at) = false
-failed (RunState.Refused number) = false
 failed RunState.ReadFailed = true
 failed RunState.WriteFailed = true
+failed _ = false
 
 -- with so many frames held the stream takes one more: the run is going, or it has stalled and a flush has room behind
 -- that frame
 abbrev pub takes : Plan → ℕ → RunState → Bool
 takes p held RunState.Going = true
 takes p held (RunState.Stalled at) = nat_le (held + (1 + 2 * p.required)) p.limit
-takes p held (RunState.FlushStalled at) = false
-takes p held (RunState.Refused number) = false
-takes p held RunState.ReadFailed = false
-takes p held RunState.WriteFailed = false
+takes p held _ = false
 
 -- ---- the state after a call or a failure
 
@@ -68,11 +54,7 @@ kept state next = cond (sound state) next state
 -- what a flush that stalls at this place leaves: if a write stalled before it, that stall
 abbrev pub flush_stall : ℕ → RunState → RunState
 flush_stall place RunState.Going = RunState.FlushStalled place
-flush_stall place (RunState.Stalled at) = RunState.Stalled at
-flush_stall place (RunState.FlushStalled at) = RunState.FlushStalled at
-flush_stall place (RunState.Refused number) = RunState.Refused number
-flush_stall place RunState.ReadFailed = RunState.ReadFailed
-flush_stall place RunState.WriteFailed = RunState.WriteFailed
+flush_stall place state = state
 
 -- what a call leaves, with this state if it stalled: one that does not stall ends a stall
 abbrev pub state_in : RunState → Wrote → RunState

@@ -4,12 +4,11 @@ ghost use Rattle.pcm.specs.Pcm.{Decoded};
 ghost use Rattle.plans.specs.Plans.{block_samples, Usable};
 ghost use Rattle.reels.specs.Reels.{BlockCounted, BlockReadAs};
 
-use crate::areas::Areas;
 use crate::reel::Reel;
 use crate::state::RunState;
 use frames::Frames;
 use inputs::{BlockBytes, fill};
-use plans::Plan;
+use plans::{BLOCK_BYTES, BLOCK_SAMPLES, Plan};
 use std::io::Read;
 
 // A reel with a block read, and the block's samples.
@@ -40,22 +39,23 @@ fn count(reel: Reel, filled: BlockBytes, plan: Plan) -> Reel
 }
 
 // Reads a block. Of a WAVE file no more is read than its data chunk has.
-pub fn read_block<R: Read, const STAGE: usize, const OUTPUT: usize>(
+pub fn read_block<R: Read>(
     reader: &mut R,
     reel: Reel,
     plan: Plan,
-    areas: &mut Areas<STAGE, OUTPUT>,
+    block: &mut [i16; BLOCK_SAMPLES],
+    bytes: &mut [u8; BLOCK_BYTES],
 ) -> BlockRead
     requires { Usable plan × (reel.partial ≡ 0) }
-    ensures { (result.samples ≤ block_samples) × BlockReadAs plan reel areas.new.bytes result
-        × Decoded result.samples areas.new.bytes areas.new.block }
+    ensures { (result.samples ≤ block_samples) × BlockReadAs plan reel bytes.new result
+        × Decoded result.samples bytes.new block.new }
 {
     let channels = plan.channels;
     let source = reel.source;
     let size = source.block(2 * plan.block);
-    let filled = fill(reader, &mut areas.bytes[..size], source.first, source.ready);
+    let filled = fill(reader, &mut bytes[..size], source.first, source.ready);
     let samples = Frames(filled.bytes / (2 * channels)).samples(channels).0;
-    pcm::decode(&areas.bytes, samples, &mut areas.block);
+    pcm::decode(bytes, samples, block);
     BlockRead {
         reel: count(reel, filled, plan),
         samples,

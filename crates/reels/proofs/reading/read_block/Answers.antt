@@ -19,7 +19,7 @@ returns g c =
     let source = a.reel.source in
     let e = c.block-size.ensures in
     let size_fits : size ≤ block_bytes = omega (arith, e, block-most source (2 * a.plan.block)) in
-    let filled-long : length (take size a.areas.now.bytes) ≡ size = length-take-le size a.areas.now.bytes (omega (arith, size_fits)) in
+    let filled-long : length (take size a.bytes.now) ≡ size = length-take-le size a.bytes.now (omega (arith, size_fits)) in
     let few : 2 * (filled.bytes / (2 * a.plan.channels) * a.plan.channels) ≤ block_bytes =
     omega (arith, whole-fit filled.bytes a.plan.channels, c.fill-filled.ensures.0, filled-long, size_fits) in
     let begins = subst (λ (k : ℕ). Begins source.first (min source.ready k) now) (filled-long ∙ e) c.fill-filled.ensures.2 in
