@@ -15,11 +15,11 @@ abbrev pub span_of : ℕ → ℕ → Span
 span_of first end = record { first = first; frames = end - first }
 
 -- after a write that passed over so many periods, one at the most by the plan: the frames that left the input
-unfoldable pub noted_write : Passes → ℕ → ℕ → ℕ → Passes
+abbrev pub noted_write : Passes → ℕ → ℕ → ℕ → Passes
 noted_write p passed first end = cond (eqb passed 0) p (noted p passed (span_of first end))
 
 -- after a flush that gave no frame: the frames that were held, unless they stand behind a stall
-unfoldable pub noted_flush : Passes → Bool → ℕ → ℕ → ℕ → Passes
+abbrev pub noted_flush : Passes → Bool → ℕ → ℕ → ℕ → Passes
 noted_flush p fine gave first end = cond (fine && eqb gave 0) (noted p 0 (span_of first end)) p
 
 -- ---- the map
@@ -38,12 +38,8 @@ pub record MapWritten (r r' : Reel) : Type 0 where
 
 -- the frames from a stall on, of a run that ended stalled
 abbrev pub stalled_from : ℕ → RunState → Span
-stalled_from end RunState.Going = span_of 0 0
 stalled_from end (RunState.Stalled at) = span_of at end
-stalled_from end (RunState.FlushStalled at) = span_of 0 0
-stalled_from end (RunState.Refused number) = span_of 0 0
-stalled_from end RunState.ReadFailed = span_of 0 0
-stalled_from end RunState.WriteFailed = span_of 0 0
+stalled_from end _ = span_of 0 0
 
 -- those, if no flush gave a frame of them
 abbrev pub unskimmed_of : Reel → Span

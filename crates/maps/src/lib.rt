@@ -11,8 +11,9 @@ ghost use Rattle.maps.specs.Maps.{span_of, noted_write, noted_flush, MapWritten,
 use passes::{Passes, Span, map};
 use plans::Plan;
 use ports::Ports;
-use reels::reel::{Reel, first_held};
-use reels::state::{RunState, is_fine};
+use reels::reel::Reel;
+use reels::state::RunState;
+use std::io;
 
 // Frames of a reel, by the first of them and the first behind them.
 fn span(first: u64, end: u64) -> Span
@@ -20,7 +21,7 @@ fn span(first: u64, end: u64) -> Span
 {
     Span {
         first,
-        frames: if first < end { end - first } else { 0 },
+        frames: end.saturating_sub(first),
     }
 }
 
@@ -32,8 +33,8 @@ pub fn noted_write(reel: Reel) -> Passes
     if reel.passed == 0 {
         return reel.passes;
     }
-    let end = first_held(reel.written, reel.stream.held.0 as u64);
-    reel.passes.note(reel.passed, span(reel.from, end))
+    reel.passes
+        .note(reel.passed, span(reel.from, reel.first_held()))
 }
 
 // After the flush: if no frame waits, nothing came of the frames that were held. Those behind a stall are not noted.
@@ -41,32 +42,27 @@ pub fn noted_flush(reel: Reel) -> Passes
     ensures { result ≡ noted_flush reel.passes (fine reel.state) reel.stream.waiting.0 reel.from
         reel.written }
 {
-    let state = reel.state;
-    if !is_fine(state) {
-        return reel.passes;
-    }
-    if reel.stream.waiting.0 > 0 {
+    if !reel.state.is_fine() || reel.stream.waiting.0 > 0 {
         return reel.passes;
     }
     reel.passes.note(0, span(reel.from, reel.written))
 }
 
 // After a part of the map was written, or was not taken: that is a failure, and no more is written.
-fn mapped(mut reel: Reel, taken: bool) -> Reel
+fn mapped(reel: Reel, written: io::Result<()>) -> Reel
     ensures { MapWritten reel result }
 {
-    if !taken {
-        reel.map = Reel::NO_MAP;
-        return reel.stopped(RunState::WriteFailed);
+    match written {
+        Ok(()) => reel,
+        Err(_) => Reel { map: None, ..reel }.stopped(RunState::WriteFailed),
     }
-    reel
 }
 
 // Begins the map, if one is wanted.
 pub fn begin(reel: Reel, ports: &mut Ports) -> Reel
     ensures { MapWritten reel result }
 {
-    if reel.map == Reel::NO_MAP {
+    if reel.map.is_none() {
         return reel;
     }
     mapped(reel, map::write_head(&mut ports.map))
@@ -77,7 +73,7 @@ fn put_line(reel: Reel, stretch: Span, plan: Plan, ports: &mut Ports) -> Reel
     requires { InLimits plan.rate plan.channels }
     ensures { MapWritten reel result }
 {
-    if reel.map == Reel::NO_MAP || stretch.frames == 0 {
+    if reel.map.is_none() || stretch.frames == 0 {
         return reel;
     }
     mapped(reel, map::write_line(&mut ports.map, stretch, plan.rate))
@@ -98,21 +94,9 @@ pub fn put_ended(reel: Reel, before: Span, plan: Plan, ports: &mut Ports) -> Ree
 fn unskimmed(reel: Reel) -> Span
     ensures { result ≡ unskimmed_of reel }
 {
-    let none = Span {
-        first: 0,
-        frames: 0,
-    };
-    if reel.gave > 0 {
-        return none;
-    }
-    let state = reel.state;
-    match state {
-        RunState::Going => none,
-        RunState::Stalled(at) => span(at, reel.frames_in),
-        RunState::FlushStalled(_) => none,
-        RunState::Refused(_) => none,
-        RunState::ReadFailed => none,
-        RunState::WriteFailed => none,
+    match reel.state {
+        RunState::Stalled(at) if reel.gave == 0 => span(at, reel.frames_in),
+        _ => Span::NONE,
     }
 }
 

@@ -5,11 +5,9 @@ use Rattle.blocks.specs.Blocks.{PartWritten}
 use Rattle.blocks.proofs.write_block.Given as goal
 
 abbrev pub invariant-loop-at : goal.invariant-loop-at
-invariant-loop-at l =
-    (l.at ≤ length l.block) × (length l.input ≡ length l.initial.input) × (length l.stage ≡ length l.initial.stage)
-    × (length l.output ≡ length l.initial.output) × (length l.scratch ≡ length l.initial.scratch) × (length l.values ≡ length l.initial.values)
-    × (length l.bytes ≡ length l.initial.bytes) × (l.at % l.plan.channels ≡ 0) × PartWritten l.plan (l.at / l.plan.channels) l.initial.reel l.reel
+invariant-loop-at g l =
+    (l.at ≤ length l.block) × (l.at % l.plan.channels ≡ 0) × PartWritten l.plan (l.at / l.plan.channels) l.initial.reel l.reel
     × (sound l.reel.state ≡ true → l.reel.stream.waiting.0 ≤ l.few)
 
 abbrev pub decreases-loop-at : goal.decreases-loop-at
-decreases-loop-at l = length l.block - l.at
+decreases-loop-at g l = length l.block - l.at
