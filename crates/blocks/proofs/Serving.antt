@@ -6,19 +6,19 @@ use Rattle.period.specs.Rates.{max_required}
 use Rattle.stream.specs.declared.SonicStream.{SonicStream}
 use Rattle.fill.specs.declared.Told.{Told}
 use Rattle.fill.specs.declared.Outcome.TheVariants.{Stalled}
-use Rattle.adding.specs.Calls.{write_call, OrderAfter}
+use Rattle.adding.specs.declared.Wrote.{Wrote}
+use Rattle.adding.specs.Calls.{write_call, stream_after, OrderAfter}
 use Rattle.plans.specs.declared.Plan.{Plan}
 use Rattle.plans.specs.Plans.{block_samples, is_small, limit_of, plan_of, Usable}
 use Rattle.serving.specs.Steady.{AreasSized, WriteWent}
 use Rattle.serving.proofs.Claims.{write-served}
 use Rattle.reels.specs.declared.reel.Reel.{Reel}
 use Rattle.reels.specs.declared.state.RunState.{RunState}
-use Rattle.reels.specs.States.{takes, is_stalled}
+use Rattle.reels.specs.States.{takes, kept, state_in, is_stalled}
 use Rattle.reels.specs.Serving.{FewHeld, Serving}
 use Rattle.reels.specs.Reels.{takes_more}
 use Rattle.reels.proofs.Going.{takes-sound}
 use Rattle.reels.proofs.Serving.{becomes, answered-serving}
-use Rattle.blocks.specs.Blocks.{WriteAnswered}
 
 -- ---- room for a frame
 
@@ -43,18 +43,18 @@ few-after p s at n plan o t true e left = tt
 few-after p s at n plan o t false e left =
     ⊎_elim (λ h. absurd (true≢false (ap is_stalled (sym h.0) ∙ e))) (λ h. rw plan h) left
 
-pub write-serving : (p : Plan) (r t : Reel) (samples : List Float) (a : Areas) (written : ℕ) → AreasSized p.small a
+pub write-serving : (p : Plan) (r t : Reel) (samples : List Float) (a : Areas) (at : ℕ) (given : Wrote) → AreasSized p.small a
     → r.stream.waiting.0 ≤ block_samples / p.channels → r.stream.held.0 + length samples / p.channels ≤ p.limit
-    → takes_more p r ≡ true → Serving p r → OrderAfter (write_call r.stream samples a).answer
-    → WriteAnswered written r (write_call r.stream samples a).answer t → Serving p t
-write-serving p r t samples a written z waits few e y order w =
+    → takes_more p r ≡ true → Serving p r → given ≡ (write_call r.stream samples a).answer → OrderAfter given
+    → t.stream ≡ stream_after given → t.state ≡ kept r.state (state_in (RunState.Stalled at) given) → Serving p t
+write-serving p r t samples a at given z waits few e y same order stream state =
     let s = r.stream in
     let within : s.held.0 + length samples / s.channels ≤ limit_of s =
     subst (λ (q : Plan). s.held.0 + length samples / q.channels ≤ q.limit) y.plan_is few in
     let block : s.waiting.0 ≤ block_samples / s.channels = subst (λ (q : Plan). s.waiting.0 ≤ block_samples / q.channels) y.plan_is waits in
     let sized : AreasSized (is_small s) a = subst (λ (q : Plan). AreasSized q.small a) y.plan_is z in
-    let never = write-served s y.steady a sized block samples within (write_call s samples a).answer refl order in
-    let state = w.state_is ∙ becomes r.state _ (takes-sound p s.held.0 r.state e) in
+    let never = write-served s y.steady a sized block samples within given same order in
+    let sound = takes-sound p s.held.0 r.state e in
     answered-serving p s y.steady y.plan_is _ (WriteWent s (length samples / s.channels)) tt
-    (λ o u g. (g.steady, g.same, few-after p s _ _ y.plan_is o u (is_stalled o.outcome) refl g.left)) t (write_call s samples a).answer never
-    w.stream_is state
+    (λ o u g. (g.steady, g.same, few-after p s _ _ y.plan_is o u (is_stalled o.outcome) refl g.left)) t given never stream
+    (state ∙ becomes r.state _ sound)

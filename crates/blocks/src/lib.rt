@@ -4,13 +4,13 @@
 // `specs/Blocks.antt` says what is promised.
 #![tactic(auto)]
 
-ghost use Rattle.std.specs.Prelude.{◌≡◌, ◌+◌, ◌-◌, ◌/◌, ◌%◌, ◌^◌, ◌<◌, ◌≤◌, map, length};
+ghost use Rattle.std.specs.Prelude.{◌≡◌, true, ◌+◌, ◌-◌, ◌/◌, ◌%◌, ◌^◌, ◌<◌, ◌≤◌, map, length};
 ghost use Rattle.floats.specs.Write.{sample_out};
-ghost use Rattle.adding.specs.Calls.{write_call, OrderAfter};
-ghost use Rattle.plans.specs.Plans.{Usable};
+ghost use Rattle.adding.specs.Calls.{write_call};
+ghost use Rattle.plans.specs.Plans.{block_samples, Usable};
 ghost use Rattle.reels.specs.Lent.{lent, AreSized};
 ghost use Rattle.reels.specs.Serving.{Serving};
-ghost use Rattle.reels.specs.Reels.{Drained};
+ghost use Rattle.reels.specs.Reels.{takes_more, Drained};
 ghost use Rattle.blocks.specs.Blocks.{WriteAnswered, NoneWaits, BlockWritten, Turned};
 
 use frames::{Frames, Samples};
@@ -33,18 +33,20 @@ fn write_end(at: usize, len: usize, held: Frames, plan: Plan) -> usize
     at + size.min(len - at)
 }
 
-// One write.
+// One write, which fits: the job stays served.
 fn write<const STAGE: usize, const OUTPUT: usize>(
     reel: Reel,
     samples: &[i16],
-    channels: usize,
+    plan: Plan,
     areas: &mut Areas<STAGE, OUTPUT>,
 ) -> Reel
-    requires { (1 ≤ channels) × (reel.stream.channels ≡ channels) × (length samples.now % channels ≡ 0) }
-    ensures write_answered { WriteAnswered ((reel.written + length samples.now / channels) % 2 ^ 64) reel
+    requires usable { Usable plan × (reel.stream.channels ≡ plan.channels) × (length samples.now % plan.channels ≡ 0) }
+    requires served { AreSized plan STAGE OUTPUT × Serving plan reel × (takes_more plan reel ≡ true)
+        × (reel.stream.waiting.0 ≤ block_samples / plan.channels)
+        × (reel.stream.held.0 + length samples.now / plan.channels ≤ plan.limit) }
+    ensures write_answered { WriteAnswered ((reel.written + length samples.now / plan.channels) % 2 ^ 64) reel
         (write_call reel.stream (map sample_out samples.now) (lent areas.old)).answer result }
-    ensures order_after { OrderAfter
-        (write_call reel.stream (map sample_out samples.now) (lent areas.old)).answer }
+    ensures serving { Serving plan result }
 {
     let answer = sonic::write_i16(
         reel.stream,
@@ -54,7 +56,7 @@ fn write<const STAGE: usize, const OUTPUT: usize>(
         &mut areas.output,
         &mut areas.scratch,
     );
-    let n = Samples(samples.len()).frames(channels);
+    let n = Samples(samples.len()).frames(plan.channels);
     let place = reel.first_held();
     let after = Reel {
         stalls: reel.stalls.count_stall(place, answer),
@@ -102,7 +104,7 @@ fn write_block<const STAGE: usize, const OUTPUT: usize>(
     while at < block.len() && reel.takes_more(plan) {
         let end = write_end(at, block.len(), reel.stream.held, plan);
         let last = reel.passes.last;
-        reel = write(reel, &block[at..end], plan.channels, areas);
+        reel = write(reel, &block[at..end], plan, areas);
         reel = maps::put_ended(reel, last, plan, ports);
         reel = drain_full(reel, few, ports, areas);
         at = end;

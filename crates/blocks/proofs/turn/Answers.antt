@@ -1,39 +1,32 @@
-use Rattle.std.proofs.Common.{ℕ, ◌/◌, ◌%◌, ap, ◌∙◌, subst, arith, length-take}
+use Rattle.std.proofs.Common.{ℕ, ◌/◌, ◌%◌, ap, ◌∙◌, subst, arith, rules}
 use Rattle.stream.specs.declared.SonicStream.{SonicStream}
 use Rattle.reels.proofs.Blocks.{front_length}
 use Rattle.blocks.specs.Blocks.{BlockWritten}
 use Rattle.blocks.proofs.Parts.{read-serving, read-none-waits, samples-whole, turned}
 use Rattle.blocks.proofs.turn.Goals as goal
 
-pub slice_bounds-write_block-end-2 : goal.slice_bounds-write_block-end-2
-slice_bounds-write_block-end-2 c = simp length-take (omega (arith, c.read_block-read.ensures.0))
-
 pub write_block-requires : goal.write_block-requires
-write_block-requires c =
+write_block-requires g c =
     let a = c.args in
     let p = c.requires in
     let b = c.read_block-read.result in
-    let e = c.read_block-read.ensures in
-    record {
-      usable = (
-        p.usable.0,
-        ap (λ (s : SonicStream). s.channels) e.1.counted.stream_kept ∙ p.usable.1,
-        ap (λ (k : ℕ). k % a.plan.channels) (front_length _ b.samples e.0) ∙ samples-whole a.plan a.reel b e.1,
-      );
-      in_bounds = (
-        omega arith,
-        omega arith,
-        p.block_samples_value.3,
-        read-serving a.plan a.reel b e.1 p.block_samples_value.4,
-        read-none-waits a.plan a.reel b e.1 p.block_samples_value.5,
-      );
-    }
+    let e = c.read_block-read.ensures in (
+      search rules,
+      (
+        (
+          p.usable.0,
+          ap (λ (s : SonicStream). s.channels) e.1.counted.stream_kept ∙ p.usable.1,
+          ap (λ (k : ℕ). k % a.plan.channels) (front_length _ b.samples (omega arith)) ∙ samples-whole a.plan a.reel b e.1,
+        ),
+        (p.served.0, read-serving a.plan a.reel b e.1 p.served.1, read-none-waits a.plan a.reel b e.1 p.served.2),
+      ),
+    )
 
 pub returns : goal.returns
-returns c =
+returns g c =
     let a = c.args in
     let b = c.read_block-read.result in
     let e = c.read_block-read.ensures in
-    let size = front_length _ b.samples e.0 in
+    let size = front_length c.read_block-read.new.block b.samples (omega arith) in
     turned a.plan a.reel b c.write_block.result c.requires.usable.0.limits.channels_low c.requires.usable.2 e.1
     (subst (λ (n : ℕ). BlockWritten a.plan (n / a.plan.channels) b.reel c.write_block.result) size c.write_block.ensures)

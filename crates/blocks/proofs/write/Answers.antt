@@ -1,28 +1,23 @@
-use Rattle.std.proofs.Common.{ℕ, ◌+◌, ◌%◌, ◌^◌, map, ap, ◌∙◌, subst}
-use Rattle.adding.specs.declared.Wrote.{Wrote}
-use Rattle.frames.specs.Areas.{areas}
+use Rattle.std.proofs.Common.{◌≡◌, ℕ, ◌+◌, ◌/◌, ◌≤◌, List, map, length, sym, ◌∙◌, subst, arith}
+use lib.Ieee.{Float}
+use lib.ListN.{length-map}
+use Rattle.frames.specs.Areas.{Areas}
 use Rattle.floats.specs.Write.{sample_out}
-use Rattle.adding.specs.Calls.{write_call, OrderAfter}
-use Rattle.reels.specs.declared.state.RunState.{RunState}
-use Rattle.blocks.proofs.Parts.{answered-with, counted-as, noted-as}
+use Rattle.reels.specs.Lent.{lent}
+use Rattle.serving.specs.Steady.{AreasSized}
+use Rattle.blocks.proofs.Serving.{write-serving}
 use Rattle.blocks.proofs.write.Goals as goal
 
-pub returns : goal.returns
-returns c =
-    let z = c.args in
+pub returns-clause-serving : goal.returns-clause-serving
+returns-clause-serving g c =
+    let a = c.args in
+    let z = c.requires.served in
+    let values : List Float = map sample_out a.samples.now in
+    let areas : Areas = lent a.areas.now in
+    let sized : AreasSized a.plan.small areas =
+    record { input = omega arith; stage = omega (arith, z.0.stage_is); output = omega (arith, z.0.output_is); scratch = omega arith } in
+    let within : a.reel.stream.held.0 + length values / a.plan.channels ≤ a.plan.limit =
+    subst (λ (k : ℕ). a.reel.stream.held.0 + k / a.plan.channels ≤ a.plan.limit) (sym (length-map a.samples.now sample_out)) z.4 in
     let w = c.write_i16-answer.ensures in
-    let answer : Wrote =
-    (write_call z.reel.stream (map sample_out z.samples.now) (areas z.input.now z.stage.now z.output.now z.scratch.now)).answer in
-    let t = c.answered-after.result in
-    let a = c.answered-after.ensures in
-    let same = w.call_ensures.answer in
-    let place = c.first_held-place.ensures in
-    let written = c.wrapping_add_u64.ensures.value ∙ ap (λ (k : ℕ). (z.reel.written + k) % 2 ^ 64) c.frames-n.ensures in
-    let counted = counted-as z.reel.stalls place same c.count_stall-stalls.ensures in
-    let noted = c.noted_write-passes.ensures ∙ noted-as a same written in
-    record {
-      write_answered =
-          answered-with t c.wrapping_add_u64.result t.flushed c.count_stall-stalls.result c.noted_write-passes.result t.gave {answer = answer}
-          (ap RunState.Stalled place) same written a.flushed_is counted noted a.gave_is a;
-      order_after = subst OrderAfter same w.order_after;
-    }
+    write-serving a.plan a.reel _ values areas _ c.write_i16-answer.result sized z.3 within z.2 z.1 w.call_ensures.answer w.order_after
+    c.answered.ensures.stream_is c.answered.ensures.state_is
