@@ -1,37 +1,32 @@
-// The areas of the skim tool, arrays on the stack, which a run is lent. A crate apart, since arrays of this length take
-// long to check.
+// The areas of the skim tool, arrays on the stack, which a run is lent.
 #![tactic(auto)]
 
-ghost use Rattle.std.specs.Prelude.{◌≡◌, false};
 ghost use Rattle.plans.specs.Plans.{Usable};
+ghost use Rattle.reels.specs.Lent.{AreSized};
 ghost use Rattle.skimming.specs.Skimming.{Underway, Complete};
 
-use plans::{BLOCK_BYTES, BLOCK_SAMPLES, Plan};
+use plans::{BLOCK_BYTES, BLOCK_SAMPLES, INPUT_AREA, Plan, SCRATCH_AREA};
 use ports::Ports;
+use reels::areas::Areas;
 use reels::reel::Reel;
 
-// Does a job that is not small.
-pub fn skim(reel: Reel, plan: Plan, ports: &mut Ports) -> Reel
-    requires { Usable plan × Underway plan reel × (plan.small ≡ false) }
+// Does a job, in a stage and an output of so many samples.
+pub fn skim<const STAGE: usize, const OUTPUT: usize>(
+    reel: Reel,
+    plan: Plan,
+    ports: &mut Ports,
+) -> Reel
+    requires { Usable plan × Underway plan reel × AreSized plan STAGE OUTPUT }
     ensures { Complete plan result }
 {
-    let mut input = [0i16; plans::INPUT_AREA];
-    let mut stage = [0i16; plans::STAGE_AREA];
-    let mut output = [0i16; plans::OUTPUT_AREA];
-    let mut scratch = [0i16; plans::SCRATCH_AREA];
+    let mut areas = Areas {
+        input: [0i16; INPUT_AREA],
+        stage: [0i16; STAGE],
+        output: [0i16; OUTPUT],
+        scratch: [0i16; SCRATCH_AREA],
+        values: [0f32; BLOCK_SAMPLES],
+        bytes: [0u8; BLOCK_BYTES],
+    };
     let mut block = [0i16; BLOCK_SAMPLES];
-    let mut values = [0f32; BLOCK_SAMPLES];
-    let mut bytes = [0u8; BLOCK_BYTES];
-    running::run(
-        reel,
-        plan,
-        ports,
-        &mut input,
-        &mut stage,
-        &mut output,
-        &mut scratch,
-        &mut block,
-        &mut values,
-        &mut bytes,
-    )
+    running::run(reel, plan, ports, &mut areas, &mut block)
 }

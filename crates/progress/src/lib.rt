@@ -38,9 +38,8 @@ pub fn show(ports: &Ports, reel: Reel, before: u64, plan: Plan)
     }
     let done = minutes(reel.frames_in, plan);
     if done != minutes(before, plan) && ports.terminal {
-        say::number(&ports.rt, "\rskim: ", done);
-        say::number(&ports.rt, " min done, ", done * 60_000 / taken(&ports.rt));
-        say::text(&ports.rt, " times real time");
+        let times = done * 60_000 / taken(&ports.rt);
+        let _ = eprint!(ports.rt; "\rskim: {done} min done, {times} times real time");
     }
 }
 
@@ -49,6 +48,6 @@ pub fn end(ports: &Ports, plan: Plan, frames: u64)
     requires { InLimits plan.rate plan.channels }
 {
     if minutes(frames, plan) > 0 && ports.terminal {
-        say::text(&ports.rt, "\n");
+        let _ = eprintln!(ports.rt; "");
     }
 }

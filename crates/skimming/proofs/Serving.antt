@@ -1,26 +1,25 @@
 -- A reel of a served job, after the flush: flush-serving. Assumes nothing.
 use mathlib.Core.Path.{◌≡◌, refl, sym, ◌∙◌, subst}
-use mathlib.Core.Bool.{Bool, true, false, not, cond, true≢false}
+use mathlib.Core.Bool.{Bool, true, false, cond, true≢false}
 use Prim.Native.Nat.{ℕ, ◌+◌, ◌*◌, ◌/◌, ◌≤◌, ◌<◌}
 use native.Mathlib.Omega.{arith}
 use borrow.Author.Tests.{leb-true}
-use lib.Dec.{eqb}
 use Rattle.frames.specs.Areas.{Areas}
 use Rattle.period.specs.Rates.{max_required}
-use Rattle.adding.specs.Calls.{flush_call}
-use Rattle.stream.proofs.InOrder.{both}
+use Rattle.adding.specs.declared.Wrote.{Wrote}
+use Rattle.adding.specs.Calls.{flush_call, stream_after, OrderAfter}
 use Rattle.plans.specs.declared.Plan.{Plan}
 use Rattle.plans.specs.Plans.{block_samples, is_small, limit_of, Usable}
 use Rattle.serving.specs.Steady.{AreasSized, FlushWent}
 use Rattle.serving.proofs.Claims.{flush-served}
 use Rattle.reels.specs.declared.reel.Reel.{Reel}
 use Rattle.reels.specs.declared.state.RunState.{RunState}
-use Rattle.reels.specs.States.{takes, flush_stall, is_stalled}
+use Rattle.reels.specs.States.{takes, kept, flush_stall, state_in, is_stalled}
 use Rattle.reels.specs.Serving.{OnlyTotals, FewHeld, Serving}
 use Rattle.reels.specs.Reels.{takes_more, first_held}
 use Rattle.reels.proofs.Going.{takes-sound}
 use Rattle.reels.proofs.Serving.{becomes, answered-serving}
-use Rattle.skimming.specs.Skimming.{flushes, Flushed, Underway}
+use Rattle.skimming.specs.Skimming.{Underway}
 
 -- room for the silence of a flush
 room : (p : Plan) (held : ℕ) (s : RunState) → Usable p → FewHeld p held s → takes p held s ≡ true → held + 2 * p.required ≤ p.limit
@@ -52,9 +51,10 @@ few-after : (p : Plan) (held place : ℕ) (s : RunState) (b : Bool) → held ≡
 few-after p held place s true none some = few-stall p held place s
 few-after p held place s false none some = omega (arith, none, some)
 
-module _ (p : Plan) (r t : Reel) (a : Areas) (z : AreasSized p.small a) (u : Usable p) (l : Underway p r) where
-  flushed-serving : takes_more p r ≡ true → Flushed p (flush_call r.stream a).answer r t → flushes p r ≡ true → Serving p t
-  flushed-serving e f d =
+module _ (p : Plan) (r t : Reel) (a : Areas) (given : Wrote) (z : AreasSized p.small a) (u : Usable p) (l : Underway p r) where
+  pub flush-serving : takes_more p r ≡ true → given ≡ (flush_call r.stream a).answer → OrderAfter given
+      → t.stream ≡ stream_after given → t.state ≡ kept r.state (state_in (flush_stall (first_held r.written r.stream) r.state) given) → Serving p t
+  flush-serving e same order stream state =
       let s = r.stream in
       let y = l.serving in
       let going = takes-sound p s.held.0 r.state e in
@@ -62,16 +62,8 @@ module _ (p : Plan) (r t : Reel) (a : Areas) (z : AreasSized p.small a) (u : Usa
       subst (λ (q : Plan). s.held.0 + 2 * q.required ≤ q.limit) y.plan_is (room p s.held.0 r.state u y.few_held e) in
       let waits : s.waiting.0 ≤ block_samples / s.channels = omega (arith, l.none_waits going) in
       let sized : AreasSized (is_small s) a = subst (λ (q : Plan). AreasSized q.small a) y.plan_is z in
-      let never = flush-served s y.steady a sized waits few (flush_call s a).answer refl (f.ordered d) in
-      let w = f.done d in
+      let never = flush-served s y.steady a sized waits few given same order in
       let some : 0 < p.required = omega (arith, u.required_some) in
       answered-serving p s y.steady y.plan_is _ (FlushWent s) (only-stall (first_held r.written s) r.state y.only_totals)
       (λ o v g. (g.steady, g.same, few-after p v.held.0 (first_held r.written s) r.state (is_stalled o.outcome) g.none some)) t
-      (flush_call s a).answer never w.stream_is (w.state_is ∙ becomes r.state _ going)
-
-  pub flush-serving : Flushed p (flush_call r.stream a).answer r t → Serving p t
-  flush-serving f = go (flushes p r) refl
-    where
-      go : (b : Bool) → flushes p r ≡ b → Serving p t
-      go true d = flushed-serving (both (takes_more p r) (not (eqb r.written 0)) d).0 f d
-      go false d = subst (Serving p) (sym (f.skipped d)) l.serving
+      given never stream (state ∙ becomes r.state _ going)

@@ -1,6 +1,7 @@
 -- A stream and its plan are ready for a run, and so they are when the map is begun. Assumes nothing.
 use mathlib.Core.Path.{◌≡◌, refl, sym, ap, subst, ◌∙◌}
 use mathlib.Core.Bool.{Bool, true, false, cond}
+use Rattle.std.proofs.Common.{Option}
 use Prim.Native.Nat.{ℕ, ◌*◌, ◌/◌}
 use native.Mathlib.Nat.{mul-mod_left}
 use native.Mathlib.Omega.{arith}
@@ -19,9 +20,8 @@ use Rattle.maps.specs.Maps.{MapWritten}
 use Rattle.maps.proofs.Kept.{map-takes, map-serving}
 use Rattle.skimming.specs.Skimming.{Underway}
 
-module _ (s : SonicStream) (source : Source) (map : ℕ) where
+module _ (s : SonicStream) (source : Source) (map : Option ℕ) where
   fresh-ready : Fresh s → served s ≡ true → Underway (plan_of s) (fresh_reel s source map)
-  unfolding fresh_reel
   fresh-ready f v =
       record {
         channels_are = refl;

@@ -1,25 +1,22 @@
 -- From one step of a run to the next:
---   flush-none, flush-due, Ending          whether a run is flushed, and what that shows
+--   flush-none, Ending                     whether a run is flushed, and what that shows
 --   underway-again, underway-stopped       what the turns keep, and a failure
 --   complete, complete-mapped              the whole run, and its map ended
---   flush-noted                            what is noted after the flush
 -- Assumes nothing.
 use mathlib.Core.Path.{◌≡◌, refl, sym, ap, ◌∙◌, subst}
 use mathlib.Core.Bool.{Bool, true, false, not, ◌&&◌}
 use Prim.Native.Nat.{ℕ, ◌≤◌}
 use native.Mathlib.Omega.{arith}
-use borrow.Author.Tests.{ne_eqb}
 use lib.Dec.{eqb}
 use Rattle.adding.specs.declared.Wrote.{Wrote}
 use Rattle.plans.specs.declared.Plan.{Plan}
 use Rattle.plans.specs.Plans.{output_area}
 use Rattle.reels.specs.declared.reel.Reel.{Reel}
 use Rattle.reels.specs.declared.state.RunState.{RunState}
-use Rattle.adding.specs.Calls.{stream_after}
-use Rattle.reels.specs.States.{sound, fine, kept, state_in}
+use Rattle.reels.specs.States.{sound, kept}
 use Rattle.reels.specs.Serving.{OnlyTotals, Serving}
-use Rattle.reels.specs.Reels.{takes_more, SameInput, Stopped, Answered, Drained, first_held}
-use Rattle.maps.specs.Maps.{noted_flush, MapWritten}
+use Rattle.reels.specs.Reels.{takes_more, SameInput, Stopped, Drained}
+use Rattle.maps.specs.Maps.{MapWritten}
 use Rattle.maps.proofs.Kept.{map-takes}
 use Rattle.blocks.specs.Blocks.{Turned}
 use Rattle.skimming.specs.Skimming.{flushes, Flushed, Underway, Complete}
@@ -33,9 +30,6 @@ use Rattle.reels.proofs.Going.{failed-once, takes-sound, kept-unsound, same-inpu
 pub flush-none : (g : Bool) (w : ℕ) → w ≡ 0 → g && not (eqb w 0) ≡ true → ⊥
 flush-none true w e h = let z : ◌≡◌ {A = ℕ} 0 1 = cc in omega arith
 flush-none false w e h = let z : ◌≡◌ {A = ℕ} 0 1 = cc in omega arith
-
-pub flush-due : (g : Bool) (w : ℕ) → g ≡ true → (w ≡ 0 → ⊥) → g && not (eqb w 0) ≡ true
-flush-due g w e h = rw (e, ne_eqb w 0 h)
 
 -- what the flush of a run shows that was not flushed before
 record Ending (p : Plan) (r s : Reel) : Type 0 where
@@ -124,11 +118,3 @@ complete-mapped {p} a m =
           λ e. ap (λ (s : SonicStream). s.waiting.0) m.stream_kept ∙ a.none_waits (ap sound (sym (m.state_stays e)) ∙ e);
       only_totals = m.only_kept a.only_totals;
     }
-
--- what is noted after the flush, by what the reel was before it and by its answer
-pub flush-noted : {r t : Reel} {leaves stall : RunState} {given answer : Wrote}
-    → Answered leaves r.written r.flushed r.stalls r.passes r.gave r given t → leaves ≡ stall → given ≡ answer
-    → noted_flush t.passes (fine t.state) t.stream.waiting.0 t.from t.written
-    ≡ noted_flush r.passes (fine (kept r.state (state_in stall answer))) (stream_after answer).waiting.0 (first_held r.written r.stream)
-    r.written
-flush-noted a left same = rw (a.passes_is, a.state_is, a.from_is, a.written_is, a.stream_is, left, same)

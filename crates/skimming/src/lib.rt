@@ -2,80 +2,73 @@
 // Once the stream takes no more, the input is only counted. `specs/Skimming.antt` says what is promised.
 #![tactic(auto)]
 
-ghost use Rattle.std.specs.Prelude.{◌≡◌, true, ◌*◌, ◌≤◌, length};
-ghost use Rattle.frames.specs.Areas.{areas};
+ghost use Rattle.std.specs.Prelude.{◌≡◌, true};
 ghost use Rattle.adding.specs.Calls.{flush_call};
-ghost use Rattle.plans.specs.Plans.{block_samples, block_bytes, Usable};
+ghost use Rattle.plans.specs.Plans.{Usable};
+ghost use Rattle.reels.specs.Lent.{lent, AreSized};
 ghost use Rattle.reels.specs.Reels.{takes_more};
-ghost use Rattle.serving.specs.Steady.{AreasSized};
+ghost use Rattle.reels.specs.Serving.{Serving};
 ghost use Rattle.skimming.specs.Skimming.{Flushed, Underway, Complete};
 
 use blocks::turn;
-use plans::Plan;
+use plans::{BLOCK_SAMPLES, Plan};
 use ports::Ports;
-use reels::reel::{Reel, first_held};
-use reels::state::{RunState, flush_stall};
+use reels::areas::Areas;
+use reels::reel::Reel;
+use reels::state::RunState;
 
 // The blocks that are read between two times that the caller may tell how far the run is: at 1,000 Hz and one channel
 // about a minute.
 const TURNS: u64 = 16;
 
-// Flushes the stream, if anything was written to it and it takes more.
-fn flush(
-    mut reel: Reel,
+// Flushes the stream, if anything was written to it and it takes more. The job stays served.
+fn flush<const STAGE: usize, const OUTPUT: usize>(
+    reel: Reel,
     plan: Plan,
-    input: &mut [i16],
-    stage: &mut [i16],
-    output: &mut [i16],
-    scratch: &mut [i16],
+    areas: &mut Areas<STAGE, OUTPUT>,
 ) -> Reel
-    requires { Usable plan }
-    ensures { Flushed plan
-        (flush_call reel.stream (areas input.old stage.old output.old
-        scratch.old)).answer reel result }
+    requires { Usable plan × Underway plan reel × AreSized plan STAGE OUTPUT }
+    ensures flushed { Flushed plan (flush_call reel.stream (lent areas.old)).answer reel result }
+    ensures serving { Serving plan result }
 {
-    if reel.written == 0 {
+    if reel.written == 0 || !reel.takes_more(plan) {
         return reel;
     }
-    if !reel.takes_more(plan) {
-        return reel;
+    let answer = sonic::flush(
+        reel.stream,
+        &mut areas.input,
+        &mut areas.stage,
+        &mut areas.output,
+        &mut areas.scratch,
+    );
+    let after = reel.answered(answer, reel.state.flush_stall(reel.first_held()));
+    let flushed = Reel {
+        flushed: true,
+        gave: after.stream.waiting.0 as u64,
+        ..after
+    };
+    Reel {
+        passes: maps::noted_flush(flushed),
+        ..flushed
     }
-    let answer = sonic::flush(reel.stream, input, stage, output, scratch);
-    let place = first_held(reel.written, reel.stream.held.0 as u64);
-    let state = reel.state;
-    reel = reel.answered(answer, flush_stall(state, place));
-    reel.flushed = true;
-    reel.gave = reel.stream.waiting.0 as u64;
-    let passes = maps::noted_flush(reel);
-    reel.passes = passes;
-    reel
 }
 
 // Reads and writes some blocks, or as many as are left before the input ends or a read or a write fails.
-pub fn turns(
+pub fn turns<const STAGE: usize, const OUTPUT: usize>(
     mut reel: Reel,
     plan: Plan,
     ports: &mut Ports,
-    input: &mut [i16],
-    stage: &mut [i16],
-    output: &mut [i16],
-    scratch: &mut [i16],
-    block: &mut [i16],
-    values: &mut [f32],
-    bytes: &mut [u8],
+    areas: &mut Areas<STAGE, OUTPUT>,
+    block: &mut [i16; BLOCK_SAMPLES],
 ) -> Reel
-    requires usable { Usable plan × Underway plan reel }
-    requires block_samples_value { (block_samples ≡ length block.old) × (block_samples ≡ length values.old)
-        × (block_bytes ≡ length bytes.old)
-        × AreasSized plan.small (areas input.old stage.old output.old scratch.old) }
+    requires { Usable plan × Underway plan reel × AreSized plan STAGE OUTPUT }
     ensures { Underway plan result }
 {
-    let mut turns = TURNS;
-    while turns > 0 && reel.reads_more() {
-        reel = turn(
-            reel, plan, ports, input, stage, output, scratch, block, values, bytes,
-        );
-        turns -= 1;
+    for _turn in 0..TURNS {
+        if !reel.reads_more() {
+            break;
+        }
+        reel = turn(reel, plan, ports, areas, block);
     }
     reel
 }
@@ -86,32 +79,25 @@ fn closed(reel: Reel, plan: Plan) -> Reel
     ensures { Underway plan result × (takes_more plan result ≡ true → result.ended ≡ true)
         × (reel.ended ≡ true → result ≡ reel) }
 {
-    if !reel.ended {
-        return reel.stopped(RunState::ReadFailed);
+    if reel.ended {
+        reel
+    } else {
+        reel.stopped(RunState::ReadFailed)
     }
-    reel
 }
 
 // Ends a run: flushes the stream, writes out what that gives, and ends the map.
-pub fn finish(
-    mut reel: Reel,
+pub fn finish<const STAGE: usize, const OUTPUT: usize>(
+    reel: Reel,
     plan: Plan,
     ports: &mut Ports,
-    input: &mut [i16],
-    stage: &mut [i16],
-    output: &mut [i16],
-    scratch: &mut [i16],
-    values: &mut [f32],
-    bytes: &mut [u8],
+    areas: &mut Areas<STAGE, OUTPUT>,
 ) -> Reel
-    requires usable { Usable plan × Underway plan reel }
-    requires in_bounds { (32 ≤ length values.old) × (2 * length values.old ≤ length bytes.old)
-        × AreasSized plan.small (areas input.old stage.old output.old scratch.old) }
+    requires { Usable plan × Underway plan reel × AreSized plan STAGE OUTPUT }
     ensures { Complete plan result }
 {
-    reel = closed(reel, plan);
-    let last = reel.passes.last;
-    reel = flush(reel, plan, input, stage, output, scratch);
-    reel = reel.drain(1, &mut ports.output, output, values, bytes);
-    maps::end(reel, last, plan, ports)
+    let ended = closed(reel, plan);
+    let flushed = flush(ended, plan, areas);
+    let drained = flushed.drain(1, &mut ports.output, areas);
+    maps::end(drained, ended.passes.last, plan, ports)
 }

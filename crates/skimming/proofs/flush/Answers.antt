@@ -1,48 +1,42 @@
-use Rattle.std.proofs.Common.{◌≡◌, ℕ, true, false, not, refl, ap, ◌∙◌, subst, rules}
+use Rattle.std.proofs.Common.{◌≡◌, ℕ, true, false, not, ap, ◌∙◌, arith, rules, refl}
 use lib.Dec.{eqb}
-use Rattle.adding.specs.declared.Wrote.{Wrote}
-use Rattle.frames.specs.Areas.{areas}
-use Rattle.stream.specs.declared.SonicStream.{SonicStream}
-use Rattle.adding.specs.Calls.{flush_call, stream_after, OrderAfter}
+use Rattle.frames.specs.Areas.{Areas}
 use Rattle.stream.proofs.InOrder.{both}
-use Rattle.reels.specs.States.{flush_stall}
+use Rattle.serving.specs.Steady.{AreasSized}
+use Rattle.reels.specs.Lent.{lent}
+use Rattle.reels.specs.declared.state.RunState.{RunState}
+use Rattle.reels.specs.States.{kept, flush_stall, state_in}
 use Rattle.reels.specs.Reels.{takes_more}
 use Rattle.reels.proofs.Going.{failed-once}
-use Rattle.blocks.proofs.Parts.{answered-with}
 use Rattle.skimming.specs.Skimming.{flushes}
-use Rattle.skimming.proofs.Turning.{flush-none, flush-due, flush-noted}
+use Rattle.skimming.proofs.Serving.{flush-serving}
+use Rattle.skimming.proofs.Turning.{flush-none}
 use Rattle.skimming.proofs.flush.Goals as goal
+use Rattle.skimming.proofs.flush.Goals.{then-reel-eq0-via-then-reel-eq0, then-reel-eq0-via-else-reel-eq0+then-not-takes_more}
 
-pub returns-then-reel-eq0 : goal.returns-then-reel-eq0
-returns-then-reel-eq0 c =
+pub returns-then-reel-eq0-clause-flushed : goal.returns-then-reel-eq0-clause-flushed
+returns-then-reel-eq0-clause-flushed g c =
     let a = c.args in
-    let none = flush-none (takes_more a.plan a.reel) a.reel.written c.if-reel-eq0.true in
-    record { skipped = λ e. refl; done = λ e. absurd (none e); ordered = λ e. absurd (none e) }
-
-pub returns-then-not-takes_more : goal.returns-then-not-takes_more
-returns-then-not-takes_more c =
-    let a = c.args in
-    let stopped : takes_more a.plan a.reel ≡ false = search rules in
     let none : flushes a.plan a.reel ≡ true → ⊥ =
-    λ e. failed-once (both (takes_more a.plan a.reel) (not (eqb a.reel.written 0)) e).0 stopped in
+    elim c.then-reel-eq0.branch [
+      | then-reel-eq0-via-then-reel-eq0 w ↦ flush-none (takes_more a.plan a.reel) a.reel.written w.if-reel-eq0.true
+      | then-reel-eq0-via-else-reel-eq0+then-not-takes_more w ↦
+          let stopped : takes_more a.plan a.reel ≡ false = search rules in
+          λ e. failed-once (both (takes_more a.plan a.reel) (not (eqb a.reel.written 0)) e).0 stopped
+    ] in
     record { skipped = λ e. refl; done = λ e. absurd (none e); ordered = λ e. absurd (none e) }
 
-pub returns : goal.returns
-returns c =
-    let p = c.args.plan in
-    let r = c.args.reel in
-    let t = c.answered-reel.result in
-    let a = c.answered-reel.ensures in
-    let answer : Wrote =
-    (flush_call r.stream (areas c.args.input.now c.args.stage.now c.args.output.now c.args.scratch.now)).answer in
-    let same = c.flush-answer.ensures.call_ensures.answer in
-    let left = c.flush_stall.ensures ∙ ap (λ (x : ℕ). flush_stall x r.state) c.first_held-place.ensures in
-    let gave = ap (λ (s : SonicStream). s.waiting.0) a.stream_is ∙ ap (λ (w : Wrote). (stream_after w).waiting.0) same in
-    let goes : takes_more p r ≡ true = search rules in
-    record {
-      skipped = λ e. absurd (failed-once (flush-due (takes_more p r) r.written goes c.if-reel-eq0.false) e);
-      done =
-          λ d. answered-with t t.written true t.stalls c.noted_flush-passes.result t.stream.waiting.0 {answer = answer} left same
-          a.written_is refl a.stalls_is (c.noted_flush-passes.ensures ∙ flush-noted a left same) gave a;
-      ordered = λ d. subst OrderAfter same c.flush-answer.ensures.order_after;
-    }
+pub returns-clause-serving : goal.returns-clause-serving
+returns-clause-serving g c =
+    let a = c.args in
+    let r = a.reel in
+    let z = c.requires.2 in
+    let areas : Areas = lent a.areas.now in
+    let sized : AreasSized a.plan.small areas =
+    record { input = omega arith; stage = omega (arith, z.stage_is); output = omega (arith, z.output_is); scratch = omega arith } in
+    let goes : takes_more a.plan r ≡ true = search rules in
+    let w = c.flush-answer.ensures in
+    let stall = c.flush_stall.ensures ∙ ap (λ (n : ℕ). flush_stall n r.state) c.first_held.ensures in
+    flush-serving a.plan r _ areas c.flush-answer.result sized c.requires.0 c.requires.1 goes w.call_ensures.answer w.order_after
+    c.answered-after.ensures.stream_is
+    (c.answered-after.ensures.state_is ∙ ap (λ (s : RunState). kept r.state (state_in s c.flush-answer.result)) stall)
