@@ -1,8 +1,8 @@
 -- What a read answers:
 --   Given, given-of   an accepted read: frames that fit the slice, one or more if any waits, and those that wait after it
---   Same, same_of     a refused read: the stream is as it was
+--   same_of           a refused read: the stream is as it was
 -- Assumes nothing.
-use Rattle.std.proofs.Common.{◌≡◌, ℕ, zero, suc, ◌-◌, ◌*◌, ◌/◌, ◌<◌, ◌≤◌, min, true, List, [], length, ℤ, refl, le_trans, mul-le-mul_right, le-div_iff_mul-le, div-mul-le_self, arith}
+use Rattle.std.proofs.Common.{◌≡◌, ℕ, ◌-◌, ◌*◌, ◌/◌, ◌<◌, ◌≤◌, min, true, List, [], length, ℤ, Option, Some, None, Result, Ok, Err, refl, ap, le_trans, mul-le-mul_right, le-div_iff_mul-le, div-mul-le_self, arith}
 use native.Mathlib.Nat.{min-le_left, min-le_right, le-min}
 use lib.Ieee.{Float}
 use Rattle.frames.specs.declared.Frames.{Frames}
@@ -12,6 +12,8 @@ use Rattle.stream.specs.declared.SonicStream.{SonicStream}
 use Rattle.stream.specs.Stream.{state_of, stream_of, unlent}
 use Rattle.stream.specs.Refusals.{is_in_order, read_refusal}
 use Rattle.stream.proofs.InOrder.{limits_of}
+use Rattle.stream.specs.declared.refusal.Refusal.{Refusal}
+use Rattle.stream.specs.declared.refusal.Refused.{Refused}
 use Rattle.read.specs.declared.Gave.{Gave}
 use Rattle.read.specs.Reading.{read_count, read_by, read_call}
 use Rattle.stream.proofs.Passing.{read-ordered}
@@ -25,11 +27,6 @@ pub record Given (s : SonicStream) (slice : List Float) (n : Frames) (t : SonicS
   pub left : t.waiting.0 ≡ s.waiting.0 - n.0
   pub channels_kept : t.channels ≡ s.channels
   pub held_kept : t.held.0 ≡ s.held.0
-
--- a refusal with this number, which left the stream t
-pub record Same (s : SonicStream) (number : ℕ) (t : SonicStream) : Type 0 where
-  pub numbered : 0 < number
-  pub stream_same : t ≡ s
 
 module _ (s : SonicStream) (slice : List Float) (output : List ℤ) where
   abbrev count : ℕ
@@ -67,27 +64,25 @@ module _ (s : SonicStream) (slice : List Float) (output : List ℤ) where
         held_kept = length-frames_of s.channels s.held.0 [];
       }
 
-  abbrev by : ℕ → Gave
+  abbrev by : Option Refusal → Result Gave Refused
   by k = (read_by k s count (frames_of s.channels s.waiting.0 output)).answer
 
-  pub given-of : (n : Frames) (t : SonicStream) → Gave.Done n t ≡ (read_call s block_samples slice output).answer → Given s slice n t
+  pub given-of : (g : Gave) → Ok g ≡ (read_call s block_samples slice output).answer → Given s slice g.frames g.stream
   unfolding read_call
-  given-of n t = go (read_refusal s output) refl
+  given-of g = go (read_refusal s output) refl
     where
-      go : (k : ℕ) → read_refusal s output ≡ k → Gave.Done n t ≡ by k → Given s slice n t
-      go zero z e =
-          let same : n ≡ record { 0 = count } = cc in
-          let left : t ≡ stream_of (unlent s) (s.waiting.0 - count) = cc in
-          rw (same, left) (given (read-ordered s output z))
-      go (suc k) z e = let z : ◌≡◌ {A = ℕ} 0 1 = cc in absurd (omega arith)
+      go : (k : Option Refusal) → read_refusal s output ≡ k → Ok g ≡ by k → Given s slice g.frames g.stream
+      go None z e =
+          let same : g ≡ record { frames = record { 0 = count }; stream = stream_of (unlent s) (s.waiting.0 - count) } = cc in
+          rw same (given (read-ordered s output z))
+      go (Some k) z e = cc
 
-  pub same_of : (number : ℕ) (t : SonicStream) → Gave.Refused number t ≡ (read_call s block_samples slice output).answer → Same s number t
+  pub same_of : (r : Refused) → Err r ≡ (read_call s block_samples slice output).answer → r.stream ≡ s
   unfolding read_call
-  same_of number t = go (read_refusal s output)
+  same_of r = go (read_refusal s output)
     where
-      go : (k : ℕ) → Gave.Refused number t ≡ by k → Same s number t
-      go zero e = let z : ◌≡◌ {A = ℕ} 0 1 = cc in absurd (omega arith)
-      go (suc k) e =
-          let number_is : number ≡ suc k = cc in
-          let stream_is : t ≡ s = cc in
-          record { numbered = omega arith; stream_same = stream_is }
+      go : (k : Option Refusal) → Err r ≡ by k → r.stream ≡ s
+      go None e = cc
+      go (Some k) e =
+          let same : r ≡ record { refusal = k; stream = s } = cc in
+          ap (λ (x : Refused). x.stream) same

@@ -28,7 +28,7 @@ pub takes-sound : (p : Plan) (held : ℕ) (s : RunState) → takes p held s ≡ 
 takes-sound p held RunState.Going e = refl
 takes-sound p held (RunState.Stalled at) e = refl
 takes-sound p held (RunState.FlushStalled at) e = refl
-takes-sound p held (RunState.Refused number) e = e
+takes-sound p held (RunState.Refused refusal) e = e
 takes-sound p held RunState.ReadFailed e = e
 takes-sound p held RunState.WriteFailed e = e
 
@@ -36,7 +36,7 @@ pub failed-unsound : (s : RunState) → failed s ≡ true → sound s ≡ false
 failed-unsound RunState.Going e = sym e
 failed-unsound (RunState.Stalled at) e = sym e
 failed-unsound (RunState.FlushStalled at) e = sym e
-failed-unsound (RunState.Refused number) e = refl
+failed-unsound (RunState.Refused refusal) e = refl
 failed-unsound RunState.ReadFailed e = refl
 failed-unsound RunState.WriteFailed e = refl
 

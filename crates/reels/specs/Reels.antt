@@ -7,9 +7,10 @@
 --   BlockReadAs                       after a block was read
 -- Definitions only. Assumes nothing.
 use Rattle.std.specs.Prelude.{◌≡◌, ℕ, ◌+◌, ◌-◌, ◌*◌, ◌/◌, ◌%◌, ◌^◌, ◌<◌, ◌≤◌, min, List, nat_lt}
-use Rattle.std.specs.Prelude.{Bool, true, false, cond, not, ◌&&◌, Option}
+use Rattle.std.specs.Prelude.{Bool, true, false, cond, not, ◌&&◌, Option, Result, Ok, Err}
 use Rattle.stream.specs.declared.SonicStream.{SonicStream}
-use Rattle.adding.specs.declared.Wrote.{Wrote}
+use Rattle.stream.specs.declared.refusal.Refused.{Refused}
+use Rattle.process.specs.declared.Wrote.{Wrote}
 use Rattle.read.specs.declared.Gave.{Gave}
 use Rattle.adding.specs.Calls.{stream_after}
 use Rattle.read.specs.Reading.{stream_after_read}
@@ -19,7 +20,7 @@ use Rattle.plans.specs.declared.Plan.{Plan}
 use Rattle.plans.specs.Plans.{output_area}
 use Rattle.inputs.specs.declared.Source.{Source}
 use Rattle.inputs.specs.declared.BlockBytes.{BlockBytes}
-use Rattle.inputs.specs.Sources.{block_of, source_after, Begins}
+use Rattle.inputs.specs.Sources.{first_of, ready_of, block_of, source_after, Begins}
 use Rattle.reels.specs.declared.reading.BlockRead.{BlockRead}
 use Rattle.reels.specs.declared.reel.Reel.{Reel}
 use Rattle.reels.specs.declared.state.RunState.{RunState}
@@ -80,9 +81,9 @@ abbrev pub first_held : ℕ → SonicStream → ℕ
 first_held written s = written - s.held.0
 
 -- the periods that it passed over
-abbrev pub passed_in : Wrote → ℕ
-passed_in (Wrote.Refused number s) = 0
-passed_in (Wrote.Done told s) = told.passed
+abbrev pub passed_in : Result Wrote Refused → ℕ
+passed_in (Err refused) = 0
+passed_in (Ok wrote) = wrote.told.passed
 
 -- after a refusal or a failure: only the state is another
 pub record Stopped (state : RunState) (r r' : Reel) : Type 0 where
@@ -98,7 +99,7 @@ pub record Stopped (state : RunState) (r r' : Reel) : Type 0 where
 -- after a call that leaves `stall` if it stalled, with so many frames written, flushed or not, with these stalls and
 -- these frames noted, and so many given by the flush
 pub record Answered (stall : RunState) (written : ℕ) (flushed : Bool) (stalls : Stalls) (passes : Passes) (gave : ℕ)
-    (r : Reel) (answer : Wrote) (r' : Reel) : Type 0 where
+    (r : Reel) (answer : Result Wrote Refused) (r' : Reel) : Type 0 where
   pub stream_is : r'.stream ≡ stream_after answer
   pub state_is : r'.state ≡ kept r.state (state_in stall answer)
   pub stalls_is : r'.stalls ≡ stalls
@@ -145,7 +146,7 @@ pub record WrittenOut (samples : ℕ) (r r' : Reel) : Type 0 where
   pub serving_kept : (p : Plan) → samples ≡ output_area p.small → Serving p r → Serving p r'
 
 -- after one turn, a read with this answer, which takes a frame or more if any waits
-pub record FewerWait (samples : ℕ) (answer : Gave) (r r' : Reel) : Type 0 where
+pub record FewerWait (samples : ℕ) (answer : Result Gave Refused) (r r' : Reel) : Type 0 where
   pub out : WrittenOut samples r r'
   pub stream_is : r'.stream ≡ stream_after_read answer
   pub fewer : sound r'.state ≡ true → 0 < r.stream.waiting.0
@@ -163,6 +164,6 @@ pub record Drained (samples few : ℕ) (r r' : Reel) : Type 0 where
 pub record BlockReadAs (p : Plan) (r : Reel) (bytes : List ℕ) (b : BlockRead) : Type 0 where
   pub filled : BlockBytes
   pub fits : filled.bytes ≤ block_of r.source (2 * p.block)
-  pub begins : Begins r.source.first (min r.source.ready (block_of r.source (2 * p.block))) bytes
+  pub begins : Begins (first_of r.source) (min (ready_of r.source) (block_of r.source (2 * p.block))) bytes
   pub counted : BlockCounted p r filled b.reel
   pub samples_are : b.samples ≡ filled.bytes / (2 * p.channels) * p.channels

@@ -1,16 +1,16 @@
 -- A reel of a job that the areas serve: no call of it is refused, but for a total past 64 bits. Definitions only.
 -- Assumes nothing.
 use Rattle.std.specs.Prelude.{◌≡◌, ℕ, ◌<◌}
-use Rattle.stream.specs.Refusals.{total_full}
+use Rattle.stream.specs.declared.refusal.Refusal.TheVariants.{TotalFull}
 use Rattle.plans.specs.declared.Plan.{Plan}
-use Rattle.plans.specs.Plans.{plan_of}
+use Rattle.plans.specs.Plans.{IsPlanOf}
 use Rattle.serving.specs.Steady.{Steady}
 use Rattle.reels.specs.declared.reel.Reel.{Reel}
 use Rattle.reels.specs.declared.state.RunState.{RunState}
 
--- refused with no other number than that of a total
+-- refused for a total alone
 abbrev pub OnlyTotals : RunState → Type 0
-OnlyTotals (RunState.Refused number) = number ≡ total_full
+OnlyTotals (RunState.Refused refusal) = refusal ≡ TotalFull
 OnlyTotals _ = Unit {0}
 
 -- a run that is going holds fewer frames than a search looks at
@@ -21,6 +21,6 @@ FewHeld p held _ = Unit {0}
 -- what holds of the reel between its calls
 pub record Serving (p : Plan) (r : Reel) : Type 0 where
   pub steady : Steady r.stream
-  pub plan_is : p ≡ plan_of r.stream
+  pub plan_is : IsPlanOf r.stream p
   pub few_held : FewHeld p r.stream.held.0 r.state
   pub only_totals : OnlyTotals r.state

@@ -4,10 +4,11 @@
 --   kept, flush_stall, state_in    the state after a call or a failure
 --   count_stall                   the writes that stalled
 -- Definitions only. Assumes nothing.
-use Rattle.std.specs.Prelude.{ℕ, ◌+◌, ◌*◌, ◌%◌, ◌^◌, Bool, true, false, cond, ◌==◌, nat_le}
+use Rattle.std.specs.Prelude.{ℕ, ◌+◌, ◌*◌, ◌%◌, ◌^◌, Bool, true, false, cond, ◌==◌, nat_le, Result, Ok, Err}
 use Rattle.fill.specs.declared.Outcome.{Outcome}
 use Rattle.fill.specs.declared.Outcome.TheVariants.{Stalled}
-use Rattle.adding.specs.declared.Wrote.{Wrote}
+use Rattle.stream.specs.declared.refusal.Refused.{Refused}
+use Rattle.process.specs.declared.Wrote.{Wrote}
 use Rattle.plans.specs.declared.Plan.{Plan}
 use Rattle.reels.specs.declared.state.RunState.{RunState}
 use Rattle.reels.specs.declared.state.Stalls.{Stalls}
@@ -21,7 +22,7 @@ is_stalled _ = false
 
 -- nothing was refused and nothing failed
 abbrev pub sound : RunState → Bool
-sound (RunState.Refused number) = false
+sound (RunState.Refused refusal) = false
 sound RunState.ReadFailed = false
 sound RunState.WriteFailed = false
 sound _ = true
@@ -57,9 +58,9 @@ flush_stall place RunState.Going = RunState.FlushStalled place
 flush_stall place state = state
 
 -- what a call leaves, with this state if it stalled: one that does not stall ends a stall
-abbrev pub state_in : RunState → Wrote → RunState
-state_in stall (Wrote.Refused number s) = RunState.Refused number
-state_in stall (Wrote.Done told s) = cond (is_stalled told.outcome) stall RunState.Going
+abbrev pub state_in : RunState → Result Wrote Refused → RunState
+state_in stall (Err refused) = RunState.Refused refused.refusal
+state_in stall (Ok wrote) = cond (is_stalled wrote.told.outcome) stall RunState.Going
 
 -- ---- the writes that stalled
 
@@ -68,6 +69,6 @@ abbrev pub more_stalls : ℕ → Stalls → Stalls
 more_stalls place s = record { count = (s.count + 1) % 2 ^ 64; first = cond (s.count == 0) place s.first }
 
 -- with a write that had this answer
-abbrev pub count_stall : ℕ → Wrote → Stalls → Stalls
-count_stall place (Wrote.Refused number t) s = s
-count_stall place (Wrote.Done told t) s = cond (is_stalled told.outcome) (more_stalls place s) s
+abbrev pub count_stall : ℕ → Result Wrote Refused → Stalls → Stalls
+count_stall place (Err refused) s = s
+count_stall place (Ok wrote) s = cond (is_stalled wrote.told.outcome) (more_stalls place s) s

@@ -1,7 +1,7 @@
 // Blocks of the input.
 ghost use Rattle.std.specs.Prelude.{◌≡◌, ◌≤◌};
 ghost use Rattle.pcm.specs.Pcm.{Decoded};
-ghost use Rattle.plans.specs.Plans.{block_samples, Usable};
+ghost use Rattle.plans.specs.Plans.{block_samples};
 ghost use Rattle.reels.specs.Reels.{BlockCounted, BlockReadAs};
 
 use crate::reel::Reel;
@@ -20,7 +20,7 @@ pub struct BlockRead {
 
 // Counts the frames of a block. One that is not full is the last, and no other leaves bytes over.
 fn count(reel: Reel, filled: BlockBytes, plan: Plan) -> Reel
-    requires { Usable plan × (reel.partial ≡ 0) }
+    requires { reel.partial ≡ 0 }
     ensures { BlockCounted plan reel filled result }
 {
     let frame = 2 * plan.channels;
@@ -46,14 +46,14 @@ pub fn read_block<R: Read>(
     block: &mut [i16; BLOCK_SAMPLES],
     bytes: &mut [u8; BLOCK_BYTES],
 ) -> BlockRead
-    requires { Usable plan × (reel.partial ≡ 0) }
+    requires { reel.partial ≡ 0 }
     ensures { (result.samples ≤ block_samples) × BlockReadAs plan reel bytes.new result
         × Decoded result.samples bytes.new block.new }
 {
     let channels = plan.channels;
     let source = reel.source;
     let size = source.block(2 * plan.block);
-    let filled = fill(reader, &mut bytes[..size], source.first, source.ready);
+    let filled = fill(reader, &mut bytes[..size], source.first(), source.ready());
     let samples = Frames(filled.bytes / (2 * channels)).samples(channels).0;
     pcm::decode(bytes, samples, block);
     BlockRead {

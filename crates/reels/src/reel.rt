@@ -2,22 +2,21 @@
 ghost use Rattle.std.specs.Prelude.{◌≡◌, ◌*◌, ◌≤◌, length};
 ghost use Rattle.pcm.specs.Pcm.{Encoded};
 ghost use Rattle.read.specs.Reading.{read_call};
-ghost use Rattle.plans.specs.Plans.{block_samples, Usable};
+ghost use Rattle.plans.specs.Plans.{block_samples};
 ghost use Rattle.reels.specs.States.{kept, failed};
 ghost use Rattle.reels.specs.Reels.{takes_more, reads_more, fresh_reel, first_held};
 ghost use Rattle.reels.specs.Reels.{Answered, Stopped, FewerWait, Drained};
 
 use crate::areas::Areas;
 use crate::state::{RunState, Stalls, leaves_room, passed_in, state_in, stream_after};
-use adding::Wrote;
 use frames::Frames;
 use inputs::Source;
 use passes::Passes;
 use plans::{BLOCK_SAMPLES, Plan};
-use read::Gave;
+use process::Wrote;
 use std::io;
 use std::io::Write;
-use stream::SonicStream;
+use stream::{Refused, SonicStream};
 
 #[derive(Clone, Copy)]
 pub struct Reel {
@@ -95,7 +94,6 @@ impl Reel {
 
     // Whether the stream takes a frame more. A run that has stalled goes on as long as its flush has room.
     pub fn takes_more(self, plan: Plan) -> bool
-        requires { Usable plan }
         ensures { result ≡ takes_more plan self }
     {
         match self.state {
@@ -130,7 +128,7 @@ impl Reel {
     }
 
     // After a write or a flush with this answer, which leaves `stall` if it stalled.
-    pub fn answered(self, answer: Wrote, stall: RunState) -> Reel
+    pub fn answered(self, answer: Result<Wrote, Refused>, stall: RunState) -> Reel
         ensures { Answered stall self.written self.flushed self.stalls self.passes self.gave self
             answer result }
     {
@@ -153,21 +151,22 @@ impl Reel {
         ensures { FewerWait OUTPUT
             (read_call self.stream block_samples areas.old.values areas.old.output).answer self result }
     {
-        match read::read_f32(
-            self.stream,
-            Frames(BLOCK_SAMPLES),
-            &mut areas.values,
-            &mut areas.output,
-        ) {
-            Gave::Refused(number, stream) => Reel { stream, ..self }.stopped(RunState::Refused(
-                number,
-            )),
-            Gave::Done(n, stream) => {
-                let count = n.samples(self.stream.channels as usize).0;
-                let read = Reel { stream, ..self };
+        let frames = Frames(BLOCK_SAMPLES);
+        match read::read_f32(self.stream, frames, &mut areas.values, &mut areas.output) {
+            Err(refused) => Reel {
+                stream: refused.stream,
+                ..self
+            }
+            .stopped(RunState::Refused(refused.refusal)),
+            Ok(gave) => {
+                let count = gave.frames.samples(self.stream.channels as usize).0;
+                let read = Reel {
+                    stream: gave.stream,
+                    ..self
+                };
                 match write_values(writer, &areas.values, count, &mut areas.bytes) {
                     Ok(()) => Reel {
-                        frames_out: self.frames_out.wrapping_add(n.0 as u64),
+                        frames_out: self.frames_out.wrapping_add(gave.frames.0 as u64),
                         ..read
                     },
                     Err(_) => read.stopped(RunState::WriteFailed),

@@ -2,14 +2,13 @@
 // follows a call.
 ghost use Rattle.std.specs.Prelude.{◌≡◌, ◌+◌, ◌*◌, nat_le};
 ghost use Rattle.adding.specs.Calls.{stream_after};
-ghost use Rattle.plans.specs.Plans.{Usable};
 ghost use Rattle.reels.specs.Reels.{passed_in};
 ghost use Rattle.reels.specs.States.{sound, fine, failed, kept, flush_stall, state_in, count_stall};
 
-use adding::Wrote;
 use fill::Outcome;
 use plans::Plan;
-use stream::SonicStream;
+use process::Wrote;
+use stream::{Refusal, Refused, SonicStream};
 
 #[derive(Clone, Copy, Debug, PartialEq, Eq)]
 pub enum RunState {
@@ -18,8 +17,7 @@ pub enum RunState {
     Stalled(u64),
     // The flush of a run that was going stalled: the first frame held before it.
     FlushStalled(u64),
-    // The number of the refusal.
-    Refused(u32),
+    Refused(Refusal),
     ReadFailed,
     // Standard output or the map took no more.
     WriteFailed,
@@ -77,11 +75,11 @@ pub struct Stalls {
 
 impl Stalls {
     // With a write that had this answer.
-    pub fn count_stall(self, place: u64, answer: Wrote) -> Stalls
+    pub fn count_stall(self, place: u64, answer: Result<Wrote, Refused>) -> Stalls
         ensures { result ≡ count_stall place answer self }
     {
         match answer {
-            Wrote::Done(told, _) if matches!(told.outcome, Outcome::Stalled) => Stalls {
+            Ok(wrote) if wrote.told.outcome == Outcome::Stalled => Stalls {
                 count: self.count.wrapping_add(1),
                 first: if self.count == 0 { place } else { self.first },
             },
@@ -91,39 +89,36 @@ impl Stalls {
 }
 
 // What a call leaves: `stall` if it stalled.
-pub(crate) fn state_in(stall: RunState, answer: Wrote) -> RunState
+pub(crate) fn state_in(stall: RunState, answer: Result<Wrote, Refused>) -> RunState
     ensures { result ≡ state_in stall answer }
 {
     match answer {
-        Wrote::Refused(number, _) => RunState::Refused(number),
-        Wrote::Done(told, _) if matches!(told.outcome, Outcome::Stalled) => stall,
-        Wrote::Done(_, _) => RunState::Going,
+        Err(refused) => RunState::Refused(refused.refusal),
+        Ok(wrote) if wrote.told.outcome == Outcome::Stalled => stall,
+        Ok(_) => RunState::Going,
     }
 }
 
 // Whether a flush has room behind one frame more than so many.
 pub(crate) fn leaves_room(held: usize, plan: Plan) -> bool
-    requires { Usable plan }
     ensures { result ≡ nat_le (held + (1 + 2 * plan.required)) plan.limit }
 {
     held.saturating_add(1 + 2 * plan.required) <= plan.limit
 }
 
 // The stream that a call left.
-pub(crate) fn stream_after(answer: Wrote) -> SonicStream
+pub(crate) fn stream_after(answer: Result<Wrote, Refused>) -> SonicStream
     ensures { result ≡ stream_after answer }
 {
     match answer {
-        Wrote::Refused(_, stream) | Wrote::Done(_, stream) => stream,
+        Ok(wrote) => wrote.stream,
+        Err(refused) => refused.stream,
     }
 }
 
 // The periods that it passed over.
-pub(crate) fn passed_in(answer: Wrote) -> u64
+pub(crate) fn passed_in(answer: Result<Wrote, Refused>) -> u64
     ensures { result ≡ passed_in answer }
 {
-    match answer {
-        Wrote::Refused(_, _) => 0,
-        Wrote::Done(told, _) => told.passed as u64,
-    }
+    answer.map_or(0, |wrote| wrote.told.passed as u64)
 }

@@ -1,7 +1,7 @@
 -- The whole frames of a block fit.
 use Rattle.std.proofs.Common.{◌≡◌, ℕ, ◌*◌, ◌/◌, ◌≤◌, min, length, take, ◌∙◌, subst, arith, length-take-le}
 use native.Mathlib.Nat.{min-le_right}
-use Rattle.inputs.specs.Sources.{block_of, Begins}
+use Rattle.inputs.specs.Sources.{first_of, ready_of, block_of, Begins}
 use Rattle.inputs.proofs.Begun.{begins-front, block-most}
 use Rattle.plans.specs.Plans.{block_bytes}
 use Rattle.reels.proofs.Blocks.{whole-fit}
@@ -22,13 +22,13 @@ returns g c =
     let filled-long : length (take size a.bytes.now) ≡ size = length-take-le size a.bytes.now (omega (arith, size_fits)) in
     let few : 2 * (filled.bytes / (2 * a.plan.channels) * a.plan.channels) ≤ block_bytes =
     omega (arith, whole-fit filled.bytes a.plan.channels, c.fill-filled.ensures.0, filled-long, size_fits) in
-    let begins = subst (λ (k : ℕ). Begins source.first (min source.ready k) now) (filled-long ∙ e) c.fill-filled.ensures.2 in
+    let begins = rw (c.first.ensures, c.ready.ensures, filled-long ∙ e) at c.fill-filled.ensures.2 in
     let long : length now ≡ block_of source (2 * a.plan.block) = c.fill-filled.auto.block ∙ filled-long ∙ e in (
       omega (arith, few, c.samples-samples.ensures),
       record {
         filled = filled;
         fits = omega (arith, c.fill-filled.ensures.0, filled-long, e);
-        begins = begins-front source.first _ now _ (omega (arith, long, min-le_right source.ready (block_of source (2 * a.plan.block)))) begins;
+        begins = begins-front (first_of source) _ now _ (omega (arith, long, min-le_right (ready_of source) (block_of source (2 * a.plan.block)))) begins;
         counted = c.count.ensures;
         samples_are = c.samples-samples.ensures;
       },
