@@ -1,46 +1,32 @@
 -- From one step of a block to the next:
---   part-start, part-more, part_end      the writes of a block
+--   part-more, part_end                   the writes of a block
 --   CountShows, read-serving, read-none-waits, samples-whole, turned    a block read; and written
 -- Assumes nothing.
-use Rattle.std.proofs.Common.{◌≡◌, ℕ, ◌+◌, ◌*◌, ◌/◌, ◌%◌, ◌^◌, ◌<◌, ◌≤◌, Bool, true, false, cond, List, sym, refl, ap, ◌∙◌, subst, mod-eq_of_lt, mul-div_cancel, arith, ltb-false}
+use Rattle.std.proofs.Common.{◌≡◌, ℕ, ◌+◌, ◌*◌, ◌/◌, ◌%◌, ◌^◌, ◌≤◌, Bool, true, false, cond, List, sym, refl, ap, ◌∙◌, subst, mul-div_cancel, arith, ltb-false, Result}
 use native.Mathlib.Nat.{mul-mod_left}
 use Rattle.stream.specs.declared.SonicStream.{SonicStream}
-use Rattle.adding.specs.declared.Wrote.{Wrote}
-use Rattle.passes.specs.declared.Passes.{Passes}
+use Rattle.stream.specs.declared.refusal.Refused.{Refused}
+use Rattle.process.specs.declared.Wrote.{Wrote}
 use Rattle.inputs.proofs.Begun.{block-most}
 use Rattle.plans.specs.declared.Plan.{Plan}
 use Rattle.plans.specs.Plans.{output_area}
 use Rattle.reels.specs.declared.reading.BlockRead.{BlockRead}
 use Rattle.reels.specs.declared.reel.Reel.{Reel}
 use Rattle.reels.specs.declared.state.RunState.{RunState}
-use Rattle.reels.specs.declared.state.Stalls.{Stalls}
-use Rattle.adding.specs.Calls.{stream_after}
-use Rattle.reels.specs.States.{sound, kept, count_stall}
+use Rattle.reels.specs.States.{sound, kept}
 use Rattle.reels.specs.Serving.{OnlyTotals, Serving}
-use Rattle.reels.specs.Reels.{takes_more, first_held, passed_in, Answered, WrittenOut, Drained, BlockReadAs}
-use Rattle.maps.specs.Maps.{noted_write, MapWritten}
+use Rattle.reels.specs.Reels.{takes_more, WrittenOut, Drained, BlockReadAs}
+use Rattle.maps.specs.Maps.{MapWritten}
 use Rattle.reels.proofs.Blocks.{counted, full-whole}
-use Rattle.reels.proofs.Going.{failed-once, kept-unsound, stays-takes, same-input, input-trans, out-takes}
+use Rattle.reels.proofs.Going.{failed-once, kept-unsound, stays-takes, input-trans, out-takes}
 use Rattle.reels.proofs.Serving.{only_kept, serving-stays}
 use Rattle.maps.proofs.Kept.{map-serving}
 use Rattle.blocks.specs.Blocks.{WriteAnswered, PartWritten, NoneWaits, BlockWritten, Turned}
 
 -- ---- the writes of a block
 
-pub part-start : {p : Plan} {r : Reel} (n : ℕ) → n ≡ 0 → r.written < 2 ^ 64 → Serving p r → PartWritten p n r r
-part-start {p} {r} n z h y =
-    let same : r.written + n ≡ r.written = omega arith in
-    record {
-      still = λ e. e;
-      written_is = λ e. sym (ap (λ (k : ℕ). k % 2 ^ 64) same ∙ mod-eq_of_lt h);
-      input_kept = same-input;
-      flushed_kept = refl;
-      channels_kept = refl;
-      serving = y;
-    }
-
 -- one more write, a part of the map written and frames written out after it
-pub part-more : {plan : Plan} {r s t u v : Reel} {answer : Wrote} {samples : ℕ} (n k m : ℕ) → n + k ≡ m → samples ≡ output_area plan.small
+pub part-more : {plan : Plan} {r s t u v : Reel} {answer : Result Wrote Refused} {samples : ℕ} (n k m : ℕ) → n + k ≡ m → samples ≡ output_area plan.small
     → takes_more plan s ≡ true → PartWritten plan n r s
     → WriteAnswered ((s.written + k) % 2 ^ 64) s answer t → t.stream.channels ≡ s.stream.channels → Serving plan t → MapWritten t u → WrittenOut samples u v
     → PartWritten plan m r v

@@ -1,9 +1,10 @@
 -- A write leaves the stream's channels as they were. Assumes nothing.
-use Rattle.std.proofs.Common.{◌≡◌, ℕ, zero, suc, List, length, refl, ap, ◌∙◌}
+use Rattle.std.proofs.Common.{◌≡◌, ℕ, Option, Some, None, List, length, refl, ap, ◌∙◌}
 use lib.Ieee.{Float}
 use Rattle.frames.specs.Areas.{Areas}
 use Rattle.frames.specs.Framing.{Frame}
 use Rattle.stream.specs.declared.SonicStream.{SonicStream}
+use Rattle.stream.specs.declared.refusal.Refusal.{Refusal}
 use Rattle.stream.specs.State.{State}
 use Rattle.stream.specs.Stream.{state_of, stream_of}
 use Rattle.fill.specs.declared.Told.{Told}
@@ -12,11 +13,11 @@ use Rattle.process.proofs.Taken.{write-settings}
 use Rattle.adding.specs.Calls.{refused_call, accepted_call, call_by, refusal_of, write_call, stream_after}
 
 module _ (s : SonicStream) (a : Areas) where
-  channels-by : (k : ℕ) (told : Told) (t : State) (frames : List Frame) → t.channels ≡ s.channels
+  channels-by : (k : Option Refusal) (told : Told) (t : State) (frames : List Frame) → t.channels ≡ s.channels
       → (stream_after (call_by k s a (accepted_call s a told t frames)).answer).channels ≡ s.channels
   unfolding refused_call accepted_call stream_of
-  channels-by zero told t frames same = same
-  channels-by (suc k) told t frames same = refl
+  channels-by None told t frames same = same
+  channels-by (Some k) told t frames same = refl
 
   write-channels : (samples : List Float) → (stream_after (write_call s samples a).answer).channels ≡ s.channels
   unfolding write_call state_of

@@ -1,7 +1,8 @@
 -- What is promised of a block that is read and written: none of its frames is left out unseen. Definitions only.
 -- Assumes nothing.
-use Rattle.std.specs.Prelude.{◌≡◌, ℕ, ◌+◌, ◌%◌, ◌^◌, true, false}
-use Rattle.adding.specs.declared.Wrote.{Wrote}
+use Rattle.std.specs.Prelude.{◌≡◌, ℕ, ◌+◌, ◌%◌, ◌^◌, true, false, Result}
+use Rattle.stream.specs.declared.refusal.Refused.{Refused}
+use Rattle.process.specs.declared.Wrote.{Wrote}
 use Rattle.adding.specs.Calls.{stream_after}
 use Rattle.plans.specs.declared.Plan.{Plan}
 use Rattle.reels.specs.declared.reel.Reel.{Reel}
@@ -13,7 +14,7 @@ use Rattle.maps.specs.Maps.{noted_write}
 
 -- after a write, with so many frames written: a stall is counted; of a period that it passed over, the frames from the
 -- first one held before it to the first one held after it are noted
-abbrev pub WriteAnswered : ℕ → Reel → Wrote → Reel → Type 0
+abbrev pub WriteAnswered : ℕ → Reel → Result Wrote Refused → Reel → Type 0
 WriteAnswered written r answer r' =
     let place : ℕ = first_held r.written r.stream in
     Answered (RunState.Stalled place) written r.flushed

@@ -7,7 +7,7 @@
 ghost use Rattle.std.specs.Prelude.{◌≡◌, true, ◌+◌, ◌-◌, ◌/◌, ◌%◌, ◌^◌, ◌<◌, ◌≤◌, map, length};
 ghost use Rattle.floats.specs.Write.{sample_out};
 ghost use Rattle.adding.specs.Calls.{write_call};
-ghost use Rattle.plans.specs.Plans.{block_samples, Usable};
+ghost use Rattle.plans.specs.Plans.{block_samples};
 ghost use Rattle.reels.specs.Lent.{lent, AreSized};
 ghost use Rattle.reels.specs.Serving.{Serving};
 ghost use Rattle.reels.specs.Reels.{takes_more, Drained};
@@ -23,7 +23,7 @@ use reels::state::RunState;
 
 // Where a write that begins at `at` ends: it fills the input up to the plan's `full` frames, or takes all that is left.
 fn write_end(at: usize, len: usize, held: Frames, plan: Plan) -> usize
-    requires { Usable plan × (at < len) × (at % plan.channels ≡ 0) × (len % plan.channels ≡ 0)
+    requires { (at < len) × (at % plan.channels ≡ 0) × (len % plan.channels ≡ 0)
         × (held.0 + 1 ≤ plan.limit) }
     ensures { (at < result) × (result ≤ len) × (result % plan.channels ≡ 0)
         × (held.0 + (result - at) / plan.channels ≤ plan.limit) }
@@ -40,7 +40,7 @@ fn write<const STAGE: usize, const OUTPUT: usize>(
     plan: Plan,
     areas: &mut Areas<STAGE, OUTPUT>,
 ) -> Reel
-    requires usable { Usable plan × (reel.stream.channels ≡ plan.channels) × (length samples.now % plan.channels ≡ 0) }
+    requires usable { (reel.stream.channels ≡ plan.channels) × (length samples.now % plan.channels ≡ 0) }
     requires served { AreSized plan STAGE OUTPUT × Serving plan reel × (takes_more plan reel ≡ true)
         × (reel.stream.waiting.0 ≤ block_samples / plan.channels)
         × (reel.stream.held.0 + length samples.now / plan.channels ≤ plan.limit) }
@@ -95,7 +95,7 @@ fn write_block<const STAGE: usize, const OUTPUT: usize>(
     ports: &mut Ports,
     areas: &mut Areas<STAGE, OUTPUT>,
 ) -> Reel
-    requires usable { Usable plan × (reel.stream.channels ≡ plan.channels) × (length block.now % plan.channels ≡ 0) }
+    requires usable { (reel.stream.channels ≡ plan.channels) × (length block.now % plan.channels ≡ 0) }
     requires served { AreSized plan STAGE OUTPUT × Serving plan reel × NoneWaits reel }
     ensures { BlockWritten plan (length block.now / plan.channels) reel result }
 {
@@ -105,7 +105,7 @@ fn write_block<const STAGE: usize, const OUTPUT: usize>(
         let end = write_end(at, block.len(), reel.stream.held, plan);
         let last = reel.passes.last;
         reel = write(reel, &block[at..end], plan, areas);
-        reel = maps::put_ended(reel, last, plan, ports);
+        reel = maps::put_ended(reel, last, plan.opening(), ports);
         reel = drain_full(reel, few, ports, areas);
         at = end;
     }
@@ -120,7 +120,7 @@ pub fn turn<const STAGE: usize, const OUTPUT: usize>(
     areas: &mut Areas<STAGE, OUTPUT>,
     block: &mut [i16; BLOCK_SAMPLES],
 ) -> Reel
-    requires usable { Usable plan × (reel.stream.channels ≡ plan.channels) × (plan.block % plan.channels ≡ 0)
+    requires usable { (reel.stream.channels ≡ plan.channels) × (plan.block % plan.channels ≡ 0)
         × (reel.partial ≡ 0) }
     requires served { AreSized plan STAGE OUTPUT × Serving plan reel × NoneWaits reel }
     ensures { Turned plan reel result }

@@ -1,7 +1,6 @@
 // The areas of the skim tool, arrays on the stack, which a run is lent.
 #![tactic(auto)]
 
-ghost use Rattle.plans.specs.Plans.{Usable};
 ghost use Rattle.reels.specs.Lent.{AreSized};
 ghost use Rattle.skimming.specs.Skimming.{Underway, Complete};
 
@@ -16,7 +15,7 @@ pub fn skim<const STAGE: usize, const OUTPUT: usize>(
     plan: Plan,
     ports: &mut Ports,
 ) -> Reel
-    requires { Usable plan × Underway plan reel × AreSized plan STAGE OUTPUT }
+    requires { Underway plan reel × AreSized plan STAGE OUTPUT }
     ensures { Complete plan result }
 {
     let mut areas = Areas {

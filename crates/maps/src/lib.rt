@@ -3,13 +3,12 @@
 #![tactic(auto)]
 
 ghost use Rattle.std.specs.Prelude.{◌≡◌};
-ghost use Rattle.period.specs.Rates.{InLimits};
 ghost use Rattle.reels.specs.Reels.{first_held};
 ghost use Rattle.reels.specs.States.{fine};
 ghost use Rattle.maps.specs.Maps.{span_of, noted_write, noted_flush, MapWritten, unskimmed_of};
 
 use passes::{Passes, Span, map};
-use plans::Plan;
+use plans::Opening;
 use ports::Ports;
 use reels::reel::Reel;
 use reels::state::RunState;
@@ -69,25 +68,23 @@ pub fn begin(reel: Reel, ports: &mut Ports) -> Reel
 }
 
 // Writes the line of a stretch, if a map is wanted and the stretch has a frame.
-fn put_line(reel: Reel, stretch: Span, plan: Plan, ports: &mut Ports) -> Reel
-    requires { InLimits plan.rate plan.channels }
+fn put_line(reel: Reel, stretch: Span, opening: Opening, ports: &mut Ports) -> Reel
     ensures { MapWritten reel result }
 {
     if reel.map.is_none() || stretch.frames == 0 {
         return reel;
     }
-    mapped(reel, map::write_line(&mut ports.map, stretch, plan.rate))
+    mapped(reel, map::write_line(&mut ports.map, stretch, opening.rate))
 }
 
 // Writes the line of what was the last stretch before a call, if another has begun.
-pub fn put_ended(reel: Reel, before: Span, plan: Plan, ports: &mut Ports) -> Reel
-    requires { InLimits plan.rate plan.channels }
+pub fn put_ended(reel: Reel, before: Span, opening: Opening, ports: &mut Ports) -> Reel
     ensures { MapWritten reel result }
 {
     if reel.passes.last.first == before.first {
         return reel;
     }
-    put_line(reel, before, plan, ports)
+    put_line(reel, before, opening, ports)
 }
 
 // The frames from a stall on, if the run ended stalled and its flush, if it had one, gave no frame; otherwise none.
@@ -102,11 +99,10 @@ fn unskimmed(reel: Reel) -> Span
 
 // Ends the map, with what was the last stretch before the flush: writes its line if another has begun, that of the
 // last stretch, and that of the frames from a stall on.
-pub fn end(reel: Reel, before: Span, plan: Plan, ports: &mut Ports) -> Reel
-    requires { InLimits plan.rate plan.channels }
+pub fn end(reel: Reel, before: Span, opening: Opening, ports: &mut Ports) -> Reel
     ensures { MapWritten reel result }
 {
     let last = reel.passes.last;
-    let after = put_line(put_ended(reel, before, plan, ports), last, plan, ports);
-    put_line(after, unskimmed(reel), plan, ports)
+    let after = put_line(put_ended(reel, before, opening, ports), last, opening, ports);
+    put_line(after, unskimmed(reel), opening, ports)
 }

@@ -2,9 +2,8 @@
 #![tactic(auto)]
 
 ghost use Rattle.std.specs.Prelude.{◌≡◌, ◌*◌, ◌/◌, ◌≤◌};
-ghost use Rattle.period.specs.Rates.{InLimits};
 
-use plans::Plan;
+use plans::Opening;
 use ports::Ports;
 use reels::reel::Reel;
 use std::time::{CpuClock, Duration};
@@ -21,33 +20,30 @@ fn taken(clock: &impl CpuClock) -> u64
 }
 
 // The whole minutes of so many frames.
-fn minutes(frames: u64, plan: Plan) -> u64
-    requires { InLimits plan.rate plan.channels }
-    ensures { result ≡ frames / (60 * plan.rate) }
+fn minutes(frames: u64, opening: Opening) -> u64
+    ensures { result ≡ frames / (60 * opening.rate) }
 {
-    frames / (60 * plan.rate)
+    frames / (60 * opening.rate)
 }
 
 // After a minute of the reel, and not after a failure, of which the system would say no more: the minutes done, and how
 // many times shorter than them the processor time is. The line is written over.
-pub fn show(ports: &Ports, reel: Reel, before: u64, plan: Plan)
-    requires { InLimits plan.rate plan.channels }
+pub fn show(ports: &Ports, reel: Reel, before: u64, opening: Opening)
 {
     if reel.has_failed() {
         return;
     }
-    let done = minutes(reel.frames_in, plan);
-    if done != minutes(before, plan) && ports.terminal {
+    let done = minutes(reel.frames_in, opening);
+    if done != minutes(before, opening) && ports.terminal {
         let times = done * 60_000 / taken(&ports.rt);
         let _ = eprint!(ports.rt; "\rskim: {done} min done, {times} times real time");
     }
 }
 
 // Ends the line of the progress, if one was shown.
-pub fn end(ports: &Ports, plan: Plan, frames: u64)
-    requires { InLimits plan.rate plan.channels }
+pub fn end(ports: &Ports, opening: Opening, frames: u64)
 {
-    if minutes(frames, plan) > 0 && ports.terminal {
+    if minutes(frames, opening) > 0 && ports.terminal {
         let _ = eprintln!(ports.rt; "");
     }
 }

@@ -2,7 +2,7 @@
 --   whole-fit, full-whole     the samples of the whole frames of so many bytes; a full block leaves none over
 --   whole-ends                the end of a write
 --   joined-frames, counted    frames of two parts, and their count modulo 2^64
---   few-least, front_length   a block holds a frame or more; the samples of its front
+--   front_length              the samples of a block's front
 --   write-length, write-frames, write-whole    the samples and the frames of a write
 -- Assumes nothing.
 use Rattle.std.proofs.Common.{◌≡◌, ℕ, ◌+◌, ◌-◌, ◌*◌, ◌/◌, ◌%◌, ◌^◌, ◌≤◌, List, length, take, drop, ℤ, sym, ap, ◌∙◌, add_assoc, mul_assoc, mul_comm, add_comm, div-add-mod', le-div_iff_mul-le, div-mul-le_self, arith, length-drop, length-take}
@@ -35,10 +35,6 @@ joined-frames at end ch c h e =
 pub counted : (w n k after : ℕ) → after ≡ (w + n) % 2 ^ 64 → (after + k) % 2 ^ 64 ≡ (w + (n + k)) % 2 ^ 64
 counted w n k after e =
     ap (λ (x : ℕ). (x + k) % 2 ^ 64) e ∙ mod-add-mod (w + n) (2 ^ 64) k ∙ ap (λ (x : ℕ). x % 2 ^ 64) (add_assoc w n k)
-
--- a block holds a frame or more
-pub few-least : (ch : ℕ) → 1 ≤ ch → ch ≤ 32 → 1 ≤ block_samples / ch
-few-least ch low high = (le-div_iff_mul-le {k = ch} {x = 1} {y = block_samples} low).1 (omega arith)
 
 pub write-length : (block : List ℤ) (at end : ℕ) → at ≤ end → end ≤ length block → length (take (end - at) (drop at block)) ≡ end - at
 write-length block at end h l = length-take (end - at) (drop at block) ∙ min-eq_left {n = end - at} (omega (arith, length-drop at block))

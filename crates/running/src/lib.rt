@@ -2,7 +2,6 @@
 // far the run is.
 #![tactic(auto)]
 
-ghost use Rattle.plans.specs.Plans.{Usable};
 ghost use Rattle.reels.specs.Lent.{AreSized};
 ghost use Rattle.skimming.specs.Skimming.{Underway, Complete};
 
@@ -20,7 +19,7 @@ pub fn run<const STAGE: usize, const OUTPUT: usize>(
     areas: &mut Areas<STAGE, OUTPUT>,
     block: &mut [i16; BLOCK_SAMPLES],
 ) -> Reel
-    requires { Usable plan × Underway plan reel × AreSized plan STAGE OUTPUT }
+    requires { Underway plan reel × AreSized plan STAGE OUTPUT }
     ensures { Complete plan result }
 {
     for _round in 0..u64::MAX {
@@ -29,7 +28,7 @@ pub fn run<const STAGE: usize, const OUTPUT: usize>(
         }
         let before = reel.frames_in;
         reel = skimming::turns(reel, plan, ports, areas, block);
-        progress::show(ports, reel, before, plan);
+        progress::show(ports, reel, before, plan.opening());
     }
     skimming::finish(reel, plan, ports, areas)
 }

@@ -4,12 +4,14 @@ use mathlib.Core.Bool.{Bool, true, false, cond, true≢false}
 use Prim.Native.Nat.{ℕ, ◌+◌, ◌*◌, ◌/◌, ◌≤◌, ◌<◌}
 use native.Mathlib.Omega.{arith}
 use borrow.Author.Tests.{leb-true}
+use Rattle.std.specs.Prelude.{Result}
 use Rattle.frames.specs.Areas.{Areas}
 use Rattle.period.specs.Rates.{max_required}
-use Rattle.adding.specs.declared.Wrote.{Wrote}
+use Rattle.stream.specs.declared.refusal.Refused.{Refused}
+use Rattle.process.specs.declared.Wrote.{Wrote}
 use Rattle.adding.specs.Calls.{flush_call, stream_after, OrderAfter}
 use Rattle.plans.specs.declared.Plan.{Plan}
-use Rattle.plans.specs.Plans.{block_samples, is_small, limit_of, Usable}
+use Rattle.plans.specs.Plans.{block_samples, is_small, limit_of}
 use Rattle.serving.specs.Steady.{AreasSized, FlushWent}
 use Rattle.serving.proofs.Claims.{flush-served}
 use Rattle.reels.specs.declared.reel.Reel.{Reel}
@@ -22,20 +24,20 @@ use Rattle.reels.proofs.Serving.{becomes, answered-serving}
 use Rattle.skimming.specs.Skimming.{Underway}
 
 -- room for the silence of a flush
-room : (p : Plan) (held : ℕ) (s : RunState) → Usable p → FewHeld p held s → takes p held s ≡ true → held + 2 * p.required ≤ p.limit
-room p held RunState.Going u few e = omega (arith, few, u.calls_fit)
-room p held (RunState.Stalled at) u few e = omega (arith, leb-true (held + (1 + 2 * p.required)) p.limit e)
-room p held (RunState.FlushStalled at) u few e = absurd (true≢false (sym e))
-room p held (RunState.Refused number) u few e = absurd (true≢false (sym e))
-room p held RunState.ReadFailed u few e = absurd (true≢false (sym e))
-room p held RunState.WriteFailed u few e = absurd (true≢false (sym e))
+room : (p : Plan) (held : ℕ) (s : RunState) → FewHeld p held s → takes p held s ≡ true → held + 2 * p.required ≤ p.limit
+room p held RunState.Going few e = omega (arith, few, p.calls_fit)
+room p held (RunState.Stalled at) few e = omega (arith, leb-true (held + (1 + 2 * p.required)) p.limit e)
+room p held (RunState.FlushStalled at) few e = absurd (true≢false (sym e))
+room p held (RunState.Refused refusal) few e = absurd (true≢false (sym e))
+room p held RunState.ReadFailed few e = absurd (true≢false (sym e))
+room p held RunState.WriteFailed few e = absurd (true≢false (sym e))
 
 -- what a flush that stalls leaves
 only-stall : (place : ℕ) (s : RunState) → OnlyTotals s → OnlyTotals (flush_stall place s)
 only-stall place RunState.Going o = tt
 only-stall place (RunState.Stalled at) o = tt
 only-stall place (RunState.FlushStalled at) o = tt
-only-stall place (RunState.Refused number) o = o
+only-stall place (RunState.Refused refusal) o = o
 only-stall place RunState.ReadFailed o = tt
 only-stall place RunState.WriteFailed o = tt
 
@@ -43,7 +45,7 @@ few-stall : (p : Plan) (held place : ℕ) (s : RunState) → FewHeld p held (flu
 few-stall p held place RunState.Going = tt
 few-stall p held place (RunState.Stalled at) = tt
 few-stall p held place (RunState.FlushStalled at) = tt
-few-stall p held place (RunState.Refused number) = tt
+few-stall p held place (RunState.Refused refusal) = tt
 few-stall p held place RunState.ReadFailed = tt
 few-stall p held place RunState.WriteFailed = tt
 
@@ -51,7 +53,7 @@ few-after : (p : Plan) (held place : ℕ) (s : RunState) (b : Bool) → held ≡
 few-after p held place s true none some = few-stall p held place s
 few-after p held place s false none some = omega (arith, none, some)
 
-module _ (p : Plan) (r t : Reel) (a : Areas) (given : Wrote) (z : AreasSized p.small a) (u : Usable p) (l : Underway p r) where
+module _ (p : Plan) (r t : Reel) (a : Areas) (given : Result Wrote Refused) (z : AreasSized p.small a) (l : Underway p r) where
   pub flush-serving : takes_more p r ≡ true → given ≡ (flush_call r.stream a).answer → OrderAfter given
       → t.stream ≡ stream_after given → t.state ≡ kept r.state (state_in (flush_stall (first_held r.written r.stream) r.state) given) → Serving p t
   flush-serving e same order stream state =
@@ -59,11 +61,11 @@ module _ (p : Plan) (r t : Reel) (a : Areas) (given : Wrote) (z : AreasSized p.s
       let y = l.serving in
       let going = takes-sound p s.held.0 r.state e in
       let few : s.held.0 + 2 * max_required s.rate ≤ limit_of s =
-      subst (λ (q : Plan). s.held.0 + 2 * q.required ≤ q.limit) y.plan_is (room p s.held.0 r.state u y.few_held e) in
+      omega (arith, room p s.held.0 r.state y.few_held e, y.plan_is.required_is, y.plan_is.limit_is) in
       let waits : s.waiting.0 ≤ block_samples / s.channels = omega (arith, l.none_waits going) in
-      let sized : AreasSized (is_small s) a = subst (λ (q : Plan). AreasSized q.small a) y.plan_is z in
+      let sized : AreasSized (is_small s) a = subst (λ (small : Bool). AreasSized small a) y.plan_is.small_is z in
       let never = flush-served s y.steady a sized waits few given same order in
-      let some : 0 < p.required = omega (arith, u.required_some) in
+      let some : 0 < p.required = omega (arith, p.required_some) in
       answered-serving p s y.steady y.plan_is _ (FlushWent s) (only-stall (first_held r.written s) r.state y.only_totals)
       (λ o v g. (g.steady, g.same, few-after p v.held.0 (first_held r.written s) r.state (is_stalled o.outcome) g.none some)) t
       given never stream (state ∙ becomes r.state _ going)

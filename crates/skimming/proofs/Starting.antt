@@ -1,16 +1,13 @@
 -- A stream and its plan are ready for a run, and so they are when the map is begun. Assumes nothing.
-use mathlib.Core.Path.{◌≡◌, refl, sym, ap, subst, ◌∙◌}
-use mathlib.Core.Bool.{Bool, true, false, cond}
-use Rattle.std.proofs.Common.{Option}
+use mathlib.Core.Path.{◌≡◌, refl, sym, ap, ◌∙◌}
+use Rattle.std.proofs.Common.{Option, Some}
 use Prim.Native.Nat.{ℕ, ◌*◌, ◌/◌}
 use native.Mathlib.Nat.{mul-mod_left}
 use native.Mathlib.Omega.{arith}
 use Rattle.stream.specs.declared.SonicStream.{SonicStream}
 use Rattle.plans.specs.declared.Plan.{Plan}
-use Rattle.plans.specs.declared.Service.{Service}
-use Rattle.plans.specs.Plans.{block_samples, served, plan_of, service_of}
+use Rattle.plans.specs.Plans.{block_samples, IsServiceOf}
 use Rattle.reels.specs.declared.reel.Reel.{Reel}
-use Rattle.stream.proofs.InOrder.{limits_of}
 use Rattle.serving.specs.Steady.{Fresh}
 use Rattle.serving.proofs.Fresh.{steady-unheld}
 use Rattle.inputs.specs.declared.Source.{Source}
@@ -20,32 +17,23 @@ use Rattle.maps.specs.Maps.{MapWritten}
 use Rattle.maps.proofs.Kept.{map-takes, map-serving}
 use Rattle.skimming.specs.Skimming.{Underway}
 
-module _ (s : SonicStream) (source : Source) (map : Option ℕ) where
-  fresh-ready : Fresh s → served s ≡ true → Underway (plan_of s) (fresh_reel s source map)
-  fresh-ready f v =
-      record {
-        channels_are = refl;
-        block_whole = mul-mod_left (block_samples / s.channels) s.channels;
-        level = λ e. refl;
-        partial_last = λ e. refl;
-        unflushed = refl;
-        serving =
-            record {
-              steady = steady-unheld s f.unheld v (omega (arith, ap (λ (n : ℕ). n * s.channels) f.waiting));
-              plan_is = refl;
-              few_held = omega (arith, f.unheld.held, (limits_of s f.unheld.in_order).rate_low);
-              only_totals = tt;
-            };
-        none_waits = λ e. f.waiting;
-      }
-
-  pub ready_of : (p : Plan) → Fresh s → service_of s ≡ Service.Planned p → Underway p (fresh_reel s source map)
-  unfolding service_of
-  ready_of p f = go (served s) refl
-    where
-      go : (b : Bool) → served s ≡ b → cond b (Service.Planned (plan_of s)) Service.None ≡ Service.Planned p → Underway p (fresh_reel s source map)
-      go true v e = let same : plan_of s ≡ p = cc in subst (λ (q : Plan). Underway q (fresh_reel s source map)) same (fresh-ready f v)
-      go false v e = let z : ◌≡◌ {A = ℕ} 0 1 = cc in absurd (omega arith)
+pub ready_of : (s : SonicStream) (source : Source) (map : Option ℕ) (p : Plan) → Fresh s → IsServiceOf s (Some p) → Underway p (fresh_reel s source map)
+ready_of s source map p f v =
+    record {
+      channels_are = sym v.1.channels_is;
+      block_whole = rw (v.1.block_is, v.1.channels_is) (mul-mod_left (block_samples / s.channels) s.channels);
+      level = λ e. refl;
+      partial_last = λ e. refl;
+      unflushed = refl;
+      serving =
+          record {
+            steady = steady-unheld s f.unheld v.0 (omega (arith, ap (λ (n : ℕ). n * s.channels) f.waiting));
+            plan_is = v.1;
+            few_held = omega (arith, f.unheld.held, p.required_some);
+            only_totals = tt;
+          };
+      none_waits = λ e. f.waiting;
+    }
 
 pub ready-mapped : {p : Plan} {r t : Reel} → Underway p r → MapWritten r t → Underway p t
 ready-mapped {p} a m =

@@ -8,7 +8,9 @@ use mathlib.Core.Bool.{Bool, true, false, not, ◌&&◌}
 use Prim.Native.Nat.{ℕ, ◌≤◌}
 use native.Mathlib.Omega.{arith}
 use lib.Dec.{eqb}
-use Rattle.adding.specs.declared.Wrote.{Wrote}
+use Rattle.std.specs.Prelude.{Result}
+use Rattle.stream.specs.declared.refusal.Refused.{Refused}
+use Rattle.process.specs.declared.Wrote.{Wrote}
 use Rattle.plans.specs.declared.Plan.{Plan}
 use Rattle.plans.specs.Plans.{output_area}
 use Rattle.reels.specs.declared.reel.Reel.{Reel}
@@ -38,7 +40,7 @@ record Ending (p : Plan) (r s : Reel) : Type 0 where
   written_kept : s.written ≡ r.written
   input_kept : SameInput r s
 
-ending_of : {answer : Wrote} (p : Plan) (r s : Reel) → r.flushed ≡ false → Flushed p answer r s → Ending p r s
+ending_of : {answer : Result Wrote Refused} (p : Plan) (r s : Reel) → r.flushed ≡ false → Flushed p answer r s → Ending p r s
 ending_of p r s u f = go (flushes p r) refl
   where
     go : (b : Bool) → flushes p r ≡ b → Ending p r s
@@ -87,7 +89,7 @@ underway-stopped {p} {r} {t} l k =
       none_waits = λ e. absurd (failed-once e (unsound-of k));
     }
 
-pub complete : {p : Plan} {r s t : Reel} {answer : Wrote} {samples : ℕ} (few : ℕ) → few ≤ 1 → samples ≡ output_area p.small → Underway p r → (takes_more p r ≡ true → r.ended ≡ true)
+pub complete : {p : Plan} {r s t : Reel} {answer : Result Wrote Refused} {samples : ℕ} (few : ℕ) → few ≤ 1 → samples ≡ output_area p.small → Underway p r → (takes_more p r ≡ true → r.ended ≡ true)
     → Flushed p answer r s → Serving p s → Drained samples few s t → Complete p t
 complete {p} {r} {s} {t} few one z l end f y d =
     let o = d.out in

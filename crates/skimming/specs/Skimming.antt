@@ -3,8 +3,9 @@
 --   FlushAnswered, Flushed         after the flush
 --   Underway, Complete             before, between and after the turns of a run; after a whole run
 -- Definitions only. Assumes nothing.
-use Rattle.std.specs.Prelude.{◌≡◌, Bool, true, false, not, ◌&&◌, ℕ, ◌%◌, eqb}
-use Rattle.adding.specs.declared.Wrote.{Wrote}
+use Rattle.std.specs.Prelude.{◌≡◌, Bool, true, false, not, ◌&&◌, ℕ, ◌%◌, eqb, Result}
+use Rattle.stream.specs.declared.refusal.Refused.{Refused}
+use Rattle.process.specs.declared.Wrote.{Wrote}
 use Rattle.adding.specs.Calls.{stream_after, OrderAfter}
 use Rattle.plans.specs.declared.Plan.{Plan}
 use Rattle.reels.specs.declared.reel.Reel.{Reel}
@@ -22,7 +23,7 @@ flushes p r = takes_more p r && not (eqb r.written 0)
 -- ---- a whole run
 
 -- after a flush: if it gave no frame, those that were held are noted, unless they stand behind a stall
-abbrev pub FlushAnswered : Reel → Wrote → Reel → Type 0
+abbrev pub FlushAnswered : Reel → Result Wrote Refused → Reel → Type 0
 FlushAnswered r answer r' =
     let place : ℕ = first_held r.written r.stream in
     let stall : RunState = flush_stall place r.state in
@@ -32,7 +33,7 @@ FlushAnswered r answer r' =
     gave r answer r'
 
 -- after the flush, if there is one, with this answer
-pub record Flushed (p : Plan) (answer : Wrote) (r r' : Reel) : Type 0 where
+pub record Flushed (p : Plan) (answer : Result Wrote Refused) (r r' : Reel) : Type 0 where
   pub skipped : flushes p r ≡ false → r' ≡ r
   pub done : flushes p r ≡ true → FlushAnswered r answer r'
   pub ordered : flushes p r ≡ true → OrderAfter answer

@@ -4,7 +4,6 @@
 
 ghost use Rattle.std.specs.Prelude.{◌≡◌, true};
 ghost use Rattle.adding.specs.Calls.{flush_call};
-ghost use Rattle.plans.specs.Plans.{Usable};
 ghost use Rattle.reels.specs.Lent.{lent, AreSized};
 ghost use Rattle.reels.specs.Reels.{takes_more};
 ghost use Rattle.reels.specs.Serving.{Serving};
@@ -27,7 +26,7 @@ fn flush<const STAGE: usize, const OUTPUT: usize>(
     plan: Plan,
     areas: &mut Areas<STAGE, OUTPUT>,
 ) -> Reel
-    requires { Usable plan × Underway plan reel × AreSized plan STAGE OUTPUT }
+    requires { Underway plan reel × AreSized plan STAGE OUTPUT }
     ensures flushed { Flushed plan (flush_call reel.stream (lent areas.old)).answer reel result }
     ensures serving { Serving plan result }
 {
@@ -61,7 +60,7 @@ pub fn turns<const STAGE: usize, const OUTPUT: usize>(
     areas: &mut Areas<STAGE, OUTPUT>,
     block: &mut [i16; BLOCK_SAMPLES],
 ) -> Reel
-    requires { Usable plan × Underway plan reel × AreSized plan STAGE OUTPUT }
+    requires { Underway plan reel × AreSized plan STAGE OUTPUT }
     ensures { Underway plan result }
 {
     for _turn in 0..TURNS {
@@ -93,11 +92,11 @@ pub fn finish<const STAGE: usize, const OUTPUT: usize>(
     ports: &mut Ports,
     areas: &mut Areas<STAGE, OUTPUT>,
 ) -> Reel
-    requires { Usable plan × Underway plan reel × AreSized plan STAGE OUTPUT }
+    requires { Underway plan reel × AreSized plan STAGE OUTPUT }
     ensures { Complete plan result }
 {
     let ended = closed(reel, plan);
     let flushed = flush(ended, plan, areas);
     let drained = flushed.drain(1, &mut ports.output, areas);
-    maps::end(drained, ended.passes.last, plan, ports)
+    maps::end(drained, ended.passes.last, plan.opening(), ports)
 }

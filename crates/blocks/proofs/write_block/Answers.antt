@@ -27,7 +27,7 @@ write-reel-requires g c =
     let within = subst (λ (k : ℕ). c.loop-at.reel.stream.held.0 + k / a.plan.channels ≤ a.plan.limit)
     (sym (write-length a.block.now c.loop-at.at c.write_end-end.result before end.1)) end.3 in (
       search rules,
-      ((p.0, inv.2.channels_kept ∙ p.1, whole), (c.requires.served.0, inv.2.serving, goes, omega (arith, few, c.frames-few.ensures), within)),
+      ((inv.2.channels_kept ∙ p.0, whole), (c.requires.served.0, inv.2.serving, goes, omega (arith, few, c.frames-few.ensures), within)),
     )
 
 pub loop-at-preserved : goal.loop-at-preserved
@@ -41,7 +41,7 @@ loop-at-preserved g c =
     let areas : Areas = lent c.loop-at.areas in
     let done = c.write-reel.ensures in
     let same = write_keeps r.stream values areas done.write_answered.stream_is in
-    let frames = write-frames a.block.now at end.result c.requires.usable.0.limits.channels_low (omega (arith, end.ensures.0)) end.ensures.1 inv.1 in
+    let frames = write-frames a.block.now at end.result a.plan.limits.channels_low (omega (arith, end.ensures.0)) end.ensures.1 inv.1 in
     let goes : takes_more a.plan r ≡ true = sym c.takes_more.ensures ∙ c.if-takes_more.true in (
       end.ensures.1,
       end.ensures.2,

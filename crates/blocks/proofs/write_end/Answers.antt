@@ -21,7 +21,7 @@ ends at len frames ch h a l = go (leb (frames * ch) (len - at)) refl
 
 pub samples-size-requires : goal.samples-size-requires
 samples-size-requires c =
-    let p = c.requires.0 in
+    let p = c.args.plan in
     let most : c.max-frames.result ≤ input_area = omega (arith, p.full_fits, p.calls_fit, p.limit_fits) in
     omega (
       arith,
@@ -30,10 +30,10 @@ samples-size-requires c =
 
 pub returns : goal.returns
 returns c =
-    let p = c.requires.0 in
+    let p = c.args.plan in
     let a = c.args in
     let frames = c.max-frames.result in
-    let room : a.held.0 + frames ≤ a.plan.limit = omega (arith, p.full_fits, p.calls_fit, c.requires.4) in
+    let room : a.held.0 + frames ≤ a.plan.limit = omega (arith, p.full_fits, p.calls_fit, c.requires.3) in
     let size = c.samples-size.ensures in
     let size_is : c.min.result ≡ min (frames * a.plan.channels) (a.len - a.at) = c.min.ensures ∙ ap (λ (k : ℕ). min k (a.len - a.at)) size in
     let some : 1 ≤ frames * a.plan.channels = mul-le-mul {n₁ = 1} {m₁ = 1} (omega arith) p.limits.channels_low in
@@ -41,6 +41,6 @@ returns c =
     (omega (arith, size_is, min-le_left (frames * a.plan.channels) (a.len - a.at))) in (
       omega arith,
       omega arith,
-      ap (λ (k : ℕ). (a.at + k) % a.plan.channels) size_is ∙ ends a.at a.len frames a.plan.channels (omega arith) c.requires.2 c.requires.3,
+      ap (λ (k : ℕ). (a.at + k) % a.plan.channels) size_is ∙ ends a.at a.len frames a.plan.channels (omega arith) c.requires.1 c.requires.2,
       omega (arith, most, room),
     )

@@ -30,13 +30,13 @@ pub returns-clause-serving : goal.returns-clause-serving
 returns-clause-serving g c =
     let a = c.args in
     let r = a.reel in
-    let z = c.requires.2 in
+    let z = c.requires.1 in
     let areas : Areas = lent a.areas.now in
     let sized : AreasSized a.plan.small areas =
     record { input = omega arith; stage = omega (arith, z.stage_is); output = omega (arith, z.output_is); scratch = omega arith } in
     let goes : takes_more a.plan r ≡ true = search rules in
     let w = c.flush-answer.ensures in
     let stall = c.flush_stall.ensures ∙ ap (λ (n : ℕ). flush_stall n r.state) c.first_held.ensures in
-    flush-serving a.plan r _ areas c.flush-answer.result sized c.requires.0 c.requires.1 goes w.call_ensures.answer w.order_after
+    flush-serving a.plan r _ areas c.flush-answer.result sized c.requires.0 goes w.call_ensures.answer w.order_after
     c.answered-after.ensures.stream_is
     (c.answered-after.ensures.state_is ∙ ap (λ (s : RunState). kept r.state (state_in s c.flush-answer.result)) stall)
