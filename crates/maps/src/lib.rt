@@ -103,6 +103,11 @@ pub fn end(reel: Reel, before: Span, opening: Opening, ports: &mut Ports) -> Ree
     ensures { MapWritten reel result }
 {
     let last = reel.passes.last;
-    let after = put_line(put_ended(reel, before, opening, ports), last, opening, ports);
+    let after = put_line(
+        put_ended(reel, before, opening, ports),
+        last,
+        opening,
+        ports,
+    );
     put_line(after, unskimmed(reel), opening, ports)
 }

@@ -28,8 +28,7 @@ fn minutes(frames: u64, opening: Opening) -> u64
 
 // After a minute of the reel, and not after a failure, of which the system would say no more: the minutes done, and how
 // many times shorter than them the processor time is. The line is written over.
-pub fn show(ports: &Ports, reel: Reel, before: u64, opening: Opening)
-{
+pub fn show(ports: &Ports, reel: Reel, before: u64, opening: Opening) {
     if reel.has_failed() {
         return;
     }
@@ -41,8 +40,7 @@ pub fn show(ports: &Ports, reel: Reel, before: u64, opening: Opening)
 }
 
 // Ends the line of the progress, if one was shown.
-pub fn end(ports: &Ports, opening: Opening, frames: u64)
-{
+pub fn end(ports: &Ports, opening: Opening, frames: u64) {
     if minutes(frames, opening) > 0 && ports.terminal {
         let _ = eprintln!(ports.rt; "");
     }
