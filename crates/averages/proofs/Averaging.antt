@@ -17,7 +17,7 @@ use mir.Facts.{to_z-of_z, to_z_pos, sfits_widen}
 use mir.Syntax.{w16, w32}
 use mir.Val.{SFits, to_z, of_z}
 use Rattle.laws.proofs.Integers.{mag-neg, sfits-of-nat_abs}
-use Rattle.laws.proofs.Widening.{widened-reads, widened-fits}
+use Rattle.laws.proofs.Widening.{widened-reads}
 use Rattle.averages.specs.Averages.{sum_from, mean_from, down_sample_input, most_averaged}
 
 -- ---- from −32,768·n to 32,767·n
@@ -70,10 +70,7 @@ module _ {x : List ℤ} {from n : ℕ} {z : ℤ} (total : Total x from n z) (sam
   sample-fits : SFits w16 s
   sample-fits = record { sfits = sample }
 
-  pub sample-widens : SFits w32 (to_z w16 (of_z w16 s))
-  sample-widens = widened-fits tt sample-fits
-
-  pub added-fits : SFits w32 (z +ℤ to_z w32 (of_z w32 (to_z w16 (of_z w16 s))))
+  added-fits : SFits w32 (z +ℤ to_z w32 (of_z w32 (to_z w16 (of_z w16 s))))
   added-fits = rw (widened-reads w32 tt sample-fits) (total-fits (total-more total sample) (omega arith))
 
   pub added-total : Total x from (n + 1) (to_z w32 (of_z w32 (z +ℤ to_z w32 (of_z w32 (to_z w16 (of_z w16 s))))))
@@ -91,10 +88,10 @@ module _ {x : List ℤ} {from n : ℕ} {z : ℤ} (total : Total x from n z) (som
   mean-fits : SFits w16 (quot_z z (pos n))
   mean-fits = mean-within z n some total.within
 
-  pub quotient_fits : SFits w32 (quot_z z (to_z w32 n))
+  quotient_fits : SFits w32 (quot_z z (to_z w32 n))
   quotient_fits = rw count-reads (sfits_widen {w = w16} tt mean-fits)
 
-  pub quotient-narrows : SFits w16 (to_z w32 (of_z w32 (quot_z z (to_z w32 n))))
+  quotient-narrows : SFits w16 (to_z w32 (of_z w32 (quot_z z (to_z w32 n))))
   quotient-narrows = rw (to_z-of_z quotient_fits, count-reads) mean-fits
 
   pub mean-reads : to_z w16 (of_z w16 (to_z w32 (of_z w32 (quot_z z (to_z w32 n))))) ≡ mean_from x from n

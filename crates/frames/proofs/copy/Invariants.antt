@@ -4,4 +4,4 @@ use lib.Seq.{paste}
 use Rattle.frames.proofs.copy.Given as goal
 
 abbrev pub invariant-loop-i : goal.invariant-loop-i
-invariant-loop-i l = l.area ≡ paste l.initial.area l.to.0 (drop l.from.0 l.source) l.i
+invariant-loop-i l = l.area ≡ paste l.initial.area l.fn.to.0 (drop l.fn.from.0 l.fn.source) l.i

@@ -1,18 +1,22 @@
 -- `period::pitch::search_values` meets its contract: the samples, or the front of the scratch, are the values. Assumes nothing.
+use Rattle.std.proofs.Common.{◌≡◌, ◌++◌, ◌*◌, sym, ap, ◌∙◌, length, take, drop, arith}
 use mathlib.Core.List.{List}
-use mathlib.Core.Path.{◌≡◌, sym, ap, ◌∙◌}
-use Prim.Native.Nat.{◌*◌}
-use native.Mathlib.Omega.{arith}
+use Prim.Native.Nat.{ℕ}
 use borrow.Author.Tests.{eq-eqb, ne_eqb}
 use lib.IntN.{ℤ}
-use lib.ListN.{length, take, drop}
 use lib.Seq.{take_at}
 use Rattle.search.specs.Outward.{wanted_in}
 use Rattle.averages.specs.Averages.{down_sample_input}
 use Rattle.period.specs.Pitch.{values_of}
 use Rattle.averages.proofs.Averaging.{length-down_sample_input}
 use Rattle.period.proofs.pitch.search_values.Goals as goal
-use Rattle.period.proofs.pitch.search_values.Goals.{After-down_sample_input, Start}
+
+-- the averages at the front of the scratch
+front : (x d : List ℤ) (n per : ℕ) {out : List ℤ} → out ≡ down_sample_input x n per ++ drop n d → take n out ≡ down_sample_input x n per
+front x d n per e = ap (take n) e ∙ take_at (down_sample_input x n per) (drop n d) n (length-down_sample_input x n per)
+
+front_length : (x d : List ℤ) (n per : ℕ) {out : List ℤ} → out ≡ down_sample_input x n per ++ drop n d → length (take n out) ≡ n
+front_length x d n per e = ap length (front x d n per e) ∙ length-down_sample_input x n per
 
 pub candidate_in_range-requires : goal.candidate_in_range-requires
 candidate_in_range-requires c =
@@ -25,32 +29,15 @@ pub returns-then-n-eq1 : goal.returns-then-n-eq1
 unfolding values_of
 returns-then-n-eq1 c = rw (eq-eqb _ 1 c.if-n-eq1.true) c.candidate_in_range.ensures
 
--- the front of the scratch after the averages are made
-module _ (c : After-down_sample_input) where
-  abbrev start : Start
-  start = c.before.before.before
-
-  abbrev means : List ℤ
-  means = down_sample_input start.args.samples.now start.args.num_values start.args.per_value.0
-
-  front : take start.args.num_values c.down_sample_input.new.out ≡ means
-  front =
-      ap (take start.args.num_values) c.down_sample_input.ensures
-      ∙ take_at means (drop start.args.num_values start.args.scratch.now) start.args.num_values (length-down_sample_input _ _ _)
-
-  front_length : length (take start.args.num_values c.down_sample_input.new.out) ≡ start.args.num_values
-  front_length = ap length front ∙ length-down_sample_input _ _ _
-
 pub slice_bounds-candidate_in_range-end-2 : goal.slice_bounds-candidate_in_range-end-2
-slice_bounds-candidate_in_range-end-2 c = sym (front_length c.before)
+slice_bounds-candidate_in_range-end-2 c = sym (front_length _ _ _ _ c.down_sample_input.ensures)
 
 pub candidate_in_range-requires-2 : goal.candidate_in_range-requires-2
-candidate_in_range-requires-2 c = rw (front_length c.before) (start c.before).requires.searchable
+candidate_in_range-requires-2 c = rw (front_length _ _ _ _ c.down_sample_input.ensures) c.requires.searchable
 
 pub returns : goal.returns
 unfolding values_of
 returns c =
-    let d = c.before.before in
-    let a = (start d).args in
-    let e = ap (λ (l : List ℤ). wanted_in a.wanted l a.low a.high) (front d) in
-    rw (ne_eqb _ 1 d.if-n-eq1.false) (c.candidate_in_range-2.ensures ∙ e)
+    let a = c.args in
+    let e = ap (λ (l : List ℤ). wanted_in a.wanted l a.low a.high) (front _ _ _ _ c.down_sample_input.ensures) in
+    rw (ne_eqb _ 1 c.if-n-eq1.false) (c.candidate_in_range-2.ensures ∙ e)
