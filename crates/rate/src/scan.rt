@@ -91,6 +91,7 @@ fn scan_tail(
     let mut n = at.new;
     let mut made: usize = 0;
     let mut j: usize = 0;
+    // labelled, and left from the inner loop, as docs/DECISIONS.md has it
     'scan: while j + SINC_FILTER_POINTS < t {
         let right = (p + 1) * new_rate;
         let end = (p + 1) * phases;

@@ -84,6 +84,7 @@ fn tap_coefficient(table: SincTable, i: usize, ratio: Ratio) -> i32
 fn coefficients(table: SincTable, ratio: Ratio) -> [i32; SINC_FILTER_POINTS]
     ensures { CoefficientsOf ratio.at ratio.width.of result }
 {
+    // A loop: what `array::from_fn` made of them was not proved.
     let mut weights = [0i32; SINC_FILTER_POINTS];
     for i in 0..SINC_FILTER_POINTS {
         let weight = tap_coefficient(table, i, ratio);

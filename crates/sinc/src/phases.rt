@@ -44,6 +44,7 @@ pub fn weighted_frame(
         window.entry.channels }
 {
     if window.channels == 1 {
+        // without `..window`, which is refused beside a ghost field
         let mono = Window {
             stage: window.stage,
             from: window.from,
