@@ -17,7 +17,7 @@ pub use speed::change_speed;
 // What is fixed for a call: what follows from the opening, the local speed, the play time, the frames held, whether it
 // steps over a period that gives no frame, and which of several periods with the same mean its searches find. The
 // definitions speak of the call of any state, so that its facts stand in `ReadyCall`.
-#[derive(Clone, Copy)]
+#[derive(Clone, Copy, Debug, PartialEq)]
 pub struct StretchCall {
     pub channels: usize,
     pub rate: usize,
@@ -30,7 +30,7 @@ pub struct StretchCall {
 }
 
 // A call that is ready: opened, with the period of a sample that its rate gives, and few frames.
-#[derive(Clone, Copy)]
+#[derive(Clone, Copy, Debug, PartialEq)]
 pub struct ReadyCall {
     pub call: StretchCall,
     pub ghost ready: { StretchReady call },
@@ -39,7 +39,7 @@ pub struct ReadyCall {
 // Where a call has come to: the frames used, the time error, the period record, and the sum of differences that its
 // last search found, 0 before the first. That the record is in order hangs on the call's rate, which a place does not
 // hold, so it stays a clause (`PrevInOrder`).
-#[derive(Clone, Copy)]
+#[derive(Clone, Copy, Debug, PartialEq)]
 pub struct Place {
     pub position: Frames,
     pub time_error: f32,
@@ -49,7 +49,7 @@ pub struct Place {
 
 // A step: the frames copied; the period skipped and the frames made; the period inserted and the frames made behind it;
 // the period passed over.
-#[derive(Clone, Copy)]
+#[derive(Clone, Copy, Debug, PartialEq, Eq)]
 pub enum Step {
     Copied(Frames),
     Skipped(Frames, Frames),
@@ -105,7 +105,7 @@ impl Step {
 }
 
 // The step that is due, and the period record and the sum of the last search after it.
-#[derive(Clone, Copy)]
+#[derive(Clone, Copy, Debug, PartialEq, Eq)]
 pub struct NextStep {
     pub step: Step,
     pub prev: PeriodRecord,
@@ -114,7 +114,7 @@ pub struct NextStep {
 
 // Where the frames of a call go: to the place `to` of an area, which has room for `room` frames there; no more than
 // `most` may be made.
-#[derive(Clone, Copy)]
+#[derive(Clone, Copy, Debug, PartialEq, Eq)]
 pub struct Target {
     pub to: Samples,
     pub room: Frames,
@@ -123,7 +123,7 @@ pub struct Target {
 
 // What one turn of a call came to: the place after it, its frames, the periods that it passes over, and whether it
 // stalls.
-#[derive(Clone, Copy)]
+#[derive(Clone, Copy, Debug, PartialEq)]
 pub struct Went {
     pub place: Place,
     pub frames: Frames,
@@ -133,7 +133,7 @@ pub struct Went {
 
 // What a call gives: the frames made, the frames of the input used, the periods passed over, the sum of its last
 // search, the time error and the period record after it, whether it stalled.
-#[derive(Clone, Copy)]
+#[derive(Clone, Copy, Debug, PartialEq)]
 pub struct Stretch {
     pub made: Frames,
     pub used: Frames,
