@@ -68,8 +68,10 @@ def place_of(crate, refusal):
     if found := GOAL.match(refusal):
         with open(os.path.join("crates", crate, found["path"]), encoding="utf-8") as text:
             lines, end = text.readlines(), int(found["line"])
-        # the line may be that of an attribute
+        # the line may be that of an attribute, which takes one line or more
         while lines[end - 1].lstrip().startswith("#["):
+            while not lines[end - 1].rstrip().endswith("]"):
+                end += 1
             end += 1
         above = [FUNCTION.match(line) for line in lines[:end]]
         return f"`{found['goal']}` of {[name[1] for name in above if name][-1]}"

@@ -40,7 +40,7 @@ pub enum Chunk {
     Data(usize, Format),
 }
 
-// Whether a chunk is the data chunk, and its size.
+// Whether a chunk is the data chunk, and its size, which either kind has.
 #[derive(Clone, Copy)]
 pub struct ChunkHead {
     pub is_data: bool,

@@ -1,5 +1,6 @@
 -- docs/RULES.md, "Read and flush": what a read answers, gives and keeps. Definitions only. Assumes nothing.
-use Rattle.std.specs.Prelude.{◌≡◌, List, [], map, ℕ, ◌-◌, ◌*◌, ◌/◌, min, ℤ, Float, length, take, drop, Option, Some, None, Result, Ok, Err}
+use Rattle.std.specs.Prelude.{◌≡◌, List, [], map, ℕ, ◌-◌, ◌*◌, ◌/◌, min, ℤ, Float, length, take, drop, Option, Some}
+use Rattle.std.specs.Prelude.{None, Result, Ok, Err}
 use Rattle.frames.specs.Framing.{Frame, frames_of}
 use Rattle.floats.specs.Write.{sample_out}
 use Rattle.stream.specs.declared.SonicStream.{SonicStream}

@@ -1,6 +1,6 @@
 -- What the tests of refusal 3 show, as facts on numbers. Here:
 --   Tests, tests-of, in-order-of             the five tests of a stream in order, from it and to it
---   limits-in, limits_range, limits_of       rate and channels
+--   limits-in, limits-range, limits_of       rate and channels
 --   within-range                             a setting in its range
 --   Ranges, ranges-of, settings-of, ranges-same      the three of them, from their test and to it, and of equal settings
 --   period_in, prev-order, position-order    the period record and the positions
@@ -80,14 +80,14 @@ limits-in rate channels r c =
       channels_high = ltb-false 32 channels q.1;
     }
 
-pub limits_range : (s : SonicStream) → limits_in_order s ≡ true → InLimits s.rate s.channels
+pub limits-range : (s : SonicStream) → limits_in_order s ≡ true → InLimits s.rate s.channels
 unfolding limits_in_order
-limits_range s e =
+limits-range s e =
     let a = both (not (rate_bad s.rate)) (not (channels_bad s.channels)) e in
     limits-in s.rate s.channels (not-true (rate_bad s.rate) a.0) (not-true (channels_bad s.channels) a.1)
 
 pub limits_of : (s : SonicStream) → is_in_order s ≡ true → InLimits s.rate s.channels
-limits_of s e = limits_range s (tests-of s e).limits
+limits_of s e = limits-range s (tests-of s e).limits
 
 -- ---- settings
 

@@ -1,6 +1,7 @@
 -- docs/RULES.md, "Areas and refusals": the table's tests, in its order. Definitions only.
 -- Assumes nothing.
-use Rattle.std.specs.Prelude.{Bool, not, cond, ◌&&◌, ◌||◌, List, ℕ, ◌+◌, ◌*◌, leb, ltb, eqb, ℤ, Float, length, Option, Some, None}
+use Rattle.std.specs.Prelude.{Bool, not, cond, ◌&&◌, ◌||◌, List, ℕ, ◌+◌, ◌*◌, leb, ltb, eqb, ℤ, Float, length, Option}
+use Rattle.std.specs.Prelude.{Some, None}
 use Rattle.std.specs.Float.Ieee.{le, eq}
 use Rattle.frames.specs.Areas.{Areas}
 use Rattle.floats.specs.Numbers.{one}

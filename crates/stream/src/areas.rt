@@ -1,6 +1,6 @@
 // Refusals 4 and 5, which go by the lengths of areas. A length is divided by the channels, so that no count overflows.
-// `1 ≤ channels` stays in the contracts: C hands any stream value over, so that `SonicStream` has no ghost field, and the
-// areas are lent apart.
+// `1 ≤ channels` stays in the contracts: C hands any stream value over, so that `SonicStream` has no ghost field, and
+// the areas are lent apart.
 ghost use Rattle.std.specs.Prelude.{◌≡◌, [], ◌+◌, ◌*◌, ◌≤◌, length};
 ghost use Rattle.frames.specs.Areas.{areas};
 ghost use Rattle.stream.specs.Refusals.{too_long, too_short, sizes_bad, parts_bad, areas_bad, output_bad};

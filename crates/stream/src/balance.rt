@@ -10,6 +10,7 @@ pub struct Balance {
     pub inserted: u64,
 }
 
+#[tactic(auto, unfolding(crate::specs::Balance::book_of, crate::specs::Balance::past, crate::specs::Balance::booked))]
 impl Balance {
     // Fresh totals, and those of a call that skips and inserts nothing.
     pub const NONE: Balance = Balance {
@@ -18,7 +19,6 @@ impl Balance {
     };
 
     // The totals with those of a call; None, refusal 12, if one would pass 64 bits.
-    #[tactic(auto, unfolding(crate::specs::Balance::book_of, crate::specs::Balance::past, crate::specs::Balance::booked))]
     pub fn book(self, call: Balance) -> Option<Balance>
         ensures { result ≡ book_of self call }
     {

@@ -69,7 +69,6 @@ fn positions_in_order(stream: SonicStream) -> bool
 
 impl SonicStream {
     // The sample period that the rate gives, of a stream in order. A call computes T here and nowhere else.
-    #[tactic(auto, using(crate::proofs::InOrder::limits_range), unfolding(crate::specs::Order::order_of, crate::specs::Refusals::is_in_order, crate::specs::Refusals::period_in_order))]
     pub fn ordered(self) -> Option<f32>
         ensures { result ≡ order_of self }
     {
