@@ -25,5 +25,6 @@ pub mod PaceSteps
 pub mod Facts
 pub mod Figures
 pub mod CutBits
+pub mod Stores
 pub mod SampleOut
 pub mod SampleBack

@@ -1,12 +1,9 @@
 // Samples on their way in and out.
-ghost use Rattle.std.specs.Prelude.{◌≡◌, ◌+◌, ◌≤◌, map, length, from_bits, unsigned_abs};
+ghost use Rattle.std.specs.Prelude.{◌≡◌, ◌≤◌, map, length, from_bits, unsigned_abs, Float};
 ghost use Rattle.std.specs.Float.{binary32};
 ghost use Rattle.std.specs.Float.Ieee.{to_signed};
-ghost use Rattle.std.proofs.Math.Seq.{paste};
 ghost use Rattle.floats.specs.Bits.{SampleSize, cut_magnitude};
 ghost use Rattle.floats.specs.Write.{unit_clamped, sample_in, sample_out};
-
-use frames::Samples;
 
 // x held to ±1; a NaN stays a NaN.
 fn clamp_unit(x: f32) -> f32
@@ -34,14 +31,15 @@ fn cut_pattern(b: u32) -> i16
     ensures { result ≡ to_signed 15 (from_bits binary32 b) }
 {
     let m = cut_magnitude(b) as i32;
-    let v = if b >= 0x8000_0000 { 0 - m } else { m };
+    let v = if b >= 0x8000_0000 { -m } else { m };
     v as i16
 }
 
 // The sample that is stored for one that is written, cut on the bits of the product. A product below 1 in size, or a
 // NaN, gives 0.
 pub fn sample_in(x: f32) -> i16
-    ensures { (result ≡ sample_in x) × (unsigned_abs result ≤ 32767) }
+    ensures value { result ≡ sample_in x }
+    ensures bound { unsigned_abs result ≤ 32767 }
 {
     let p = clamp_unit(x) * 32767.0;
     if p >= 1.0 || p <= -1.0 {
@@ -51,42 +49,45 @@ pub fn sample_in(x: f32) -> i16
     }
 }
 
-// Stores `count` samples of a write at the place `to` of the area.
-pub fn samples_in(source: &[f32], count: Samples, area: &mut [i16], to: Samples)
-    requires { (count.0 ≤ length source.now) × (to.0 + count.0 ≤ length area.old) }
-    ensures { area.new ≡ paste area.old to.0 (map sample_in source.now)
-        count.0 }
-{
-    let n = count.0;
-    let t = to.0;
-    let mut i: usize = 0;
-    while i < n {
-        let x = sample_in(source[i]);
-        area[t + i] = x;
-        i += 1;
-    }
-}
-
 // The sample that a write stores for the value of this one: the same, but −32767 for −32768, whose value is below −1.
 fn sample_back(v: i16) -> i16
     ensures { result ≡ sample_in (sample_out v) }
 {
-    if v < -32767 { -32767 } else { v }
+    v.max(-32767)
 }
 
-// Stores `count` samples at the place `to` of the area, as a write of their values stores them.
-pub fn samples_back(source: &[i16], count: Samples, area: &mut [i16], to: Samples)
-    requires { (count.0 ≤ length source.now) × (to.0 + count.0 ≤ length area.old) }
-    ensures { area.new ≡ paste area.old to.0
-        (map sample_in (map sample_out source.now)) count.0 }
+// A sample that a write is given: an f32, or a 16-bit sample as the value that a read gives for it.
+pub trait Sample: Copy {
+    ghost value: { Self → Float };
+
+    // The sample that is stored for it.
+    fn stored(self) -> i16
+        ensures { result ≡ sample_in (value self) };
+}
+
+impl Sample for f32 {
+    ghost value = { λ x. x };
+
+    fn stored(self) -> i16 {
+        sample_in(self)
+    }
+}
+
+impl Sample for i16 {
+    ghost value = { sample_out };
+
+    fn stored(self) -> i16 {
+        sample_back(self)
+    }
+}
+
+// Stores the samples of a write in an area of as many.
+pub fn store<S: Sample>(source: &[S], area: &mut [i16])
+    requires { length area.old ≡ length source.now }
+    ensures { area.new ≡ map sample_in (map S.value source.now) }
 {
-    let n = count.0;
-    let t = to.0;
-    let mut i: usize = 0;
-    while i < n {
-        let x = sample_back(source[i]);
-        area[t + i] = x;
-        i += 1;
+    for (i, x) in source.iter().enumerate() {
+        area[i] = x.stored();
     }
 }
 
@@ -105,16 +106,12 @@ pub fn sample_out(v: i16) -> f32
     a + a * RECIPROCAL_OF_32767
 }
 
-// Gives the values of the first `count` samples of the area, at the front of the slice.
-pub fn samples_out(area: &[i16], count: Samples, slice: &mut [f32])
-    requires { (count.0 ≤ length area.now) × (count.0 ≤ length slice.old) }
-    ensures { slice.new ≡ paste slice.old 0 (map sample_out area.now) count.0 }
+// Gives the values of the samples of an area, in a slice of as many.
+pub fn samples_out(area: &[i16], slice: &mut [f32])
+    requires { length slice.old ≡ length area.now }
+    ensures { slice.new ≡ map sample_out area.now }
 {
-    let n = count.0;
-    let mut i: usize = 0;
-    while i < n {
-        let x = sample_out(area[i]);
-        slice[i] = x;
-        i += 1;
+    for (i, &v) in area.iter().enumerate() {
+        slice[i] = sample_out(v);
     }
 }

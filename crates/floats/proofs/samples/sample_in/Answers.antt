@@ -50,7 +50,7 @@ unfolding sample_in
 returns-then-p-2 c =
     let a = c.before.before.before in
     let is = stored_is c ∙ ap (to_signed 15) (product_is a) in
-    (is, subst (λ (z : ℤ). nat_abs z ≤ 32767) (sym is) (sample-range a.args.x))
+    record { value = is; bound = subst (λ (z : ℤ). nat_abs z ≤ 32767) (sym is) (sample-range a.args.x) }
 
 pub returns-else-p-2 : goal.returns-else-p-2
 unfolding of_bits neg sample_in
@@ -61,4 +61,4 @@ returns-else-p-2 c =
       | goal.then-p w ↦ absurd (true≢false (sym w.if-p.true ∙ sym w.value-is ∙ c.if-p-2.false))
       | goal.else-p w ↦ below_one p (no w.if-p.false) (no (sym w.value-is ∙ c.if-p-2.false))
     ] in
-    (sym none ∙ ap (to_signed 15) (product_is a), lit≤ tt)
+    record { value = sym none ∙ ap (to_signed 15) (product_is a); bound = lit≤ tt }

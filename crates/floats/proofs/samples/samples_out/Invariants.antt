@@ -1,11 +1,8 @@
--- `floats::samples::samples_out` meets its contract: one value more in each turn. Assumes nothing.
-use Rattle.std.proofs.Common.{◌≡◌, ◌-◌, ◌≤◌, map, length}
+-- `floats::samples::samples_out`: one value more in each turn. Assumes nothing.
+use Rattle.std.proofs.Common.{◌≡◌, map}
 use lib.Seq.{paste}
 use Rattle.floats.specs.Write.{sample_out}
 use Rattle.floats.proofs.samples.samples_out.Given as goal
 
 abbrev pub invariant-loop-i : goal.invariant-loop-i
-invariant-loop-i l = (l.i ≤ l.n) × (length l.slice ≡ length l.initial.slice) × (l.slice ≡ paste l.initial.slice 0 (map sample_out l.area) l.i)
-
-abbrev pub decreases-loop-i : goal.decreases-loop-i
-decreases-loop-i l = l.n - l.i
+invariant-loop-i l = l.slice ≡ paste l.initial.slice 0 (map sample_out l.area) l.i
