@@ -1,8 +1,8 @@
 -- `copy_count`: the branches of the code; at most the frames that are left (`copy-le`); at least 1 where a frame is left and `to_copy` is at least 1
 -- (`copy-ge`). Assumes nothing.
-use Rattle.std.proofs.Common.{◌≡◌, ℕ, suc, ◌*◌, ◌/◌, ◌^◌, ◌<◌, ◌≤◌, min, Bool, true, false, cond, not, T, ℤ, pos, negsuc, neg_ℤ, nat_abs, refl, zero-le, le_refl, le-div_iff_mul-le, le_of_mul-le-mul_right, arith, lit≤, ltb→lt, nltb→le, w64, Fits}
+use Rattle.std.proofs.Common.{◌≡◌, ℕ, suc, ◌*◌, ◌/◌, ◌^◌, ◌≤◌, min, Bool, true, false, cond, not, T, ℤ, pos, negsuc, neg_ℤ, nat_abs, refl, zero-le, le_refl, le-div_iff_mul-le, le_of_mul-le-mul_right, arith, lit≤, lt-ltb, nltb→le}
 use native.Mathlib.Nat.{div-le_of_le-mul}
-use lib.Signed.{mag, lt_z, non_neg}
+use Rattle.std.specs.Int.{int_max}
 use lib.Ieee.{Float, nan, inf, fin, up, down, lt, le, to_signed}
 use lib.Ieee.Fits.{down_pos}
 use lib.Ieee.Positive.{num, den, above_of_le}
@@ -17,14 +17,11 @@ pub copy-by : (te s t : Float) (n : ℕ) (b : Bool) → lt (count n) (to_copy te
 unfolding copy_count
 copy-by te s t n b h = rw h
 
--- a signed number that is tested against 0
-pub nat_of-below-zero : (v : ℤ) → T (lt_z v (pos 0)) → nat_of v ≡ 0
-nat_of-below-zero (pos n) h = absurd (omega (arith, ltb→lt n 0 h))
-nat_of-below-zero (negsuc n) h = refl
-
-pub nat_of-from-zero : (v : ℤ) → mag v < 2 ^ 31 → T (not (lt_z v (pos 0))) → T (non_neg v) × Fits w64 (nat_abs v) × (nat_abs v ≡ nat_of v)
-nat_of-from-zero (pos n) m h = (tt, omega arith, refl)
-nat_of-from-zero (negsuc n) m h = absurd h
+-- a signed number that is held to 0 from below
+pub nat_of-is : (v : ℤ) → nat_abs (int_max v (pos 0)) ≡ nat_of v
+nat_of-is (pos ℕ.zero) = refl
+nat_of-is (pos (suc n)) = rw (lt-ltb 0 (suc n) (omega arith))
+nat_of-is (negsuc n) = refl
 
 -- ---- at most n
 not-above : (a n : ℕ) → nat_of (neg_ℤ (pos a)) ≤ n

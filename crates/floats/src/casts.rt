@@ -16,44 +16,18 @@ pub fn f64_to_f32(x: f64) -> f32
     }
 }
 
-// x as an i64: cut toward zero, held to the range; 0 for a NaN.
-fn f32_to_i64(x: f32) -> i64
-    ensures { result ≡ to_signed 63 x }
-{
-    if x >= -9223372036854775808.0 {
-        if x < 9223372036854775808.0 {
-            return std::num::truncating_f32_to_i64(x);
-        }
-        return i64::MAX;
-    }
-    if x < 0.0 { i64::MIN } else { 0 }
-}
-
 // x as an i32: cut toward zero, held to the range; 0 for a NaN.
 pub fn f32_to_i32(x: f32) -> i32
     ensures { result ≡ to_signed 31 x }
 {
-    let v = f32_to_i64(x);
-    if v > 2147483647 {
-        return i32::MAX;
-    }
-    if v < -2147483648 {
-        return i32::MIN;
-    }
-    v as i32
+    std::num::saturating_f32_to_i32(x)
 }
 
 // x as a usize: cut toward zero, held to the range; 0 for a NaN.
 pub fn f32_to_usize(x: f32) -> usize
     ensures { result ≡ to_unsigned 64 x }
 {
-    if x > -1.0 {
-        if x < 18446744073709551616.0 {
-            return std::num::truncating_f32_to_u64(x) as usize;
-        }
-        return usize::MAX;
-    }
-    0
+    std::num::saturating_f32_to_usize(x)
 }
 
 // A count of frames, which an f32 holds exactly.

@@ -1,4 +1,5 @@
-// An f64 as an f32, as integer work on the bits.
+// An f64 as an f32, as integer work on the bits. std has it too, as `std::num::nearest_f64_to_f32_with_nan`; it is
+// written here because the edits tie_rounded_up, largest_for_infinity and subnormal_flushed are wrong about this code.
 ghost use Rattle.std.specs.Prelude.{◌≡◌, ◌+◌, ◌^◌, ◌<◌, ◌≤◌, Bool, not, T, ◌⊎◌, if◌then◌else◌, from_bits, to_bits};
 ghost use Rattle.std.specs.Float.{binary32, binary64};
 ghost use Rattle.std.specs.Float.Ieee.{of_fields, nan_bits};
@@ -7,9 +8,9 @@ ghost use Rattle.floats.specs.Numbers.{narrow};
 
 // d / m to the nearest whole number, a tie to the even one.
 pub(crate) fn closest(d: u64, m: u64) -> u64
-    requires fact_1 { d < 2 ^ 53 }
-    requires fact_2 { 0 < m }
-    requires fact_3 { m ≤ 2 ^ 53 }
+    requires digits_fit { d < 2 ^ 53 }
+    requires unit_positive { 0 < m }
+    requires unit_fits { m ≤ 2 ^ 53 }
     ensures { result ≡ Nearest.closest d m }
 {
     let q = d / m;
@@ -24,12 +25,12 @@ pub(crate) fn closest(d: u64, m: u64) -> u64
 // The bits, without the sign, of the f32 nearest to the f64 with the exponent field e and the digits t, which is
 // no NaN.
 pub(crate) fn magnitude(e: u64, t: u64) -> u32
-    requires fact_1 { e < 2048 }
-    requires fact_2 { t < 2 ^ 52 }
-    requires fact_3 { (e < 2047) ⊎ (t ≡ 0) }
-    ensures t_value { (s : Bool) → to_bits binary32 (narrow (of_fields binary64 s e t))
+    requires exponent_fits { e < 2048 }
+    requires digits_fit { t < 2 ^ 52 }
+    requires no_nan { (e < 2047) ⊎ (t ≡ 0) }
+    ensures value { (s : Bool) → to_bits binary32 (narrow (of_fields binary64 s e t))
         ≡ (if s then 2 ^ 31 else 0) + result }
-    ensures upper_bound { result < 2 ^ 31 }
+    ensures bound { result < 2 ^ 31 }
 {
     if e < 873 {
         return 0;

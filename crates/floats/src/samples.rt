@@ -9,8 +9,7 @@ ghost use Rattle.floats.specs.Write.{unit_clamped, sample_in, sample_out};
 fn clamp_unit(x: f32) -> f32
     ensures { result ≡ unit_clamped x }
 {
-    let y = if x < -1.0 { -1.0 } else { x };
-    if y > 1.0 { 1.0 } else { y }
+    x.clamp(-1.0, 1.0)
 }
 
 // The whole part of the size of the f32 with the bits b: its sixteen leading digits, moved by the exponent. Both

@@ -2,7 +2,7 @@
 ghost use Rattle.std.specs.Prelude.{◌≡◌, ◌≤◌};
 ghost use Rattle.floats.specs.Settings.{clamped, sample_period};
 
-// `value` held to low..=high; a NaN to the lower end.
+// `value` held to low..=high; a NaN to the lower end, where `f32::clamp` would keep it.
 pub fn clamp(value: f32, low: f32, high: f32) -> f32
     ensures { result ≡ clamped value low high }
 {

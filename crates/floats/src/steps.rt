@@ -1,40 +1,17 @@
 // The counts of the stretch steps and the time errors after them.
-ghost use Rattle.std.specs.Prelude.{◌≡◌, ◌+◌, ◌^◌, ◌<◌, ◌≤◌, ◌&&◌, ◌||◌};
+ghost use Rattle.std.specs.Prelude.{◌≡◌, ◌+◌, ◌^◌, ◌<◌, ◌≤◌};
 ghost use Rattle.floats.specs.Steps.{copying_due, to_copy, copy_count, skip_count, insert_count, error_copied};
 ghost use Rattle.floats.specs.Steps.{error_moved, error_skipped, error_inserted};
 
 use frames::Frames;
 
-// Whether all three hold.
-fn all(a: bool, b: bool, c: bool) -> bool
-    ensures { result ≡ (a && (b && c)) }
-{
-    if a {
-        if b {
-            return c;
-        }
-        return false;
-    }
-    false
-}
-
-// Whether one of the two holds.
-fn either(a: bool, b: bool) -> bool
-    ensures { result ≡ (a || b) }
-{
-    if a {
-        return true;
-    }
-    b
-}
-
 // Whether a copying step is due at local speed s.
 pub fn copying_due(s: f32, error: f32) -> bool
     ensures { result ≡ copying_due s error }
 {
-    let fast = all(s > 1.0, s < 2.0, error < 0.0);
-    let slow = all(s < 1.0, s > 0.5, error > 0.0);
-    either(fast, slow)
+    let fast = s > 1.0 && s < 2.0 && error < 0.0;
+    let slow = s < 1.0 && s > 0.5 && error > 0.0;
+    fast || slow
 }
 
 // The frames that a copying step would copy, before they are cut and held to those left.
@@ -50,24 +27,22 @@ fn to_copy(error: f32, s: f32, sample_period: f32) -> f32
 // The frames that a copying step copies, of those left.
 pub fn copy_count(error: f32, s: f32, sample_period: f32, left: Frames) -> Frames
     requires { left.0 ≤ 2 ^ 24 }
-    ensures { (result.0 ≡ copy_count error s sample_period left.0) × (result.0 ≤ left.0) }
+    ensures value { result.0 ≡ copy_count error s sample_period left.0 }
+    ensures bound { result.0 ≤ left.0 }
 {
     let c = to_copy(error, s, sample_period);
     if c > crate::casts::frames_to_f32(left) {
         return left;
     }
     let k = crate::casts::f32_to_i32(c);
-    if k < 0 {
-        return Frames(0);
-    }
-    let n = k as usize;
-    Frames(n)
+    Frames(k.max(0) as usize)
 }
 
 // The frames that a skip of a period makes.
 pub fn skip_count(s: f32, period: Frames) -> Frames
     requires { period.0 < 2 ^ 24 }
-    ensures { (result.0 ≡ skip_count s period.0) × (result.0 ≤ period.0) }
+    ensures value { result.0 ≡ skip_count s period.0 }
+    ensures bound { result.0 ≤ period.0 }
 {
     if s >= 2.0 {
         let n = crate::casts::frames_to_f32(period);
@@ -79,15 +54,14 @@ pub fn skip_count(s: f32, period: Frames) -> Frames
 // The frames that an insert of a period makes behind it.
 pub fn insert_count(s: f32, period: Frames) -> Frames
     requires { (1 ≤ period.0) × (period.0 < 2 ^ 24) }
-    ensures { (result.0 ≡ insert_count s period.0) × (1 ≤ result.0) × (result.0 ≤ period.0) }
+    ensures value { result.0 ≡ insert_count s period.0 }
+    ensures positive { 1 ≤ result.0 }
+    ensures bound { result.0 ≤ period.0 }
 {
     if s <= 0.5 {
         let n = crate::casts::frames_to_f32(period);
         let k = crate::casts::f32_to_usize(n * s / (1.0 - s));
-        if k < 1 {
-            return Frames(1);
-        }
-        return Frames(k);
+        return Frames(k.max(1));
     }
     period
 }
@@ -120,7 +94,8 @@ fn error_moved(
     error + (out - taken)
 }
 
-// The time error after a skip of a period that makes k frames.
+// The time error after a skip of a period that makes k frames. What it shares with an insert is `error_moved`: one
+// function of both would take the test and the counts from its callers.
 pub fn error_skipped(
     error: f32,
     s: f32,

@@ -34,10 +34,7 @@ pub fn speed_changes(s: f32) -> bool
     ensures { result ≡ speed_changes s }
 {
     let wide = std::num::f32_to_f64_with_nan(s);
-    if wide > 1.00001 {
-        return true;
-    }
-    wide < 0.99999
+    wide > 1.00001 || wide < 0.99999
 }
 
 // The frames made by a flush that it keeps at most.

@@ -4,7 +4,7 @@ use Rattle.floats.proofs.Rounding.{closest-below, closest-tie, closest-above}
 use Rattle.floats.proofs.narrowing.closest.Goals as goal
 
 pub overflow_mul-twice : goal.overflow_mul-twice
-overflow_mul-twice c = omega (arith, mod-lt c.args.d c.requires.fact_2)
+overflow_mul-twice c = omega (arith, mod-lt c.args.d c.requires.unit_positive)
 
 pub overflow_add-result : goal.overflow_add-result
 overflow_add-result c = omega (arith, div-le_self c.args.d c.args.m)

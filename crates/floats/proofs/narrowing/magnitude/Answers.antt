@@ -34,27 +34,27 @@ kept-le : (c : After-closest) → c.closest.result ≤ 2 ^ 23
 kept-le c =
     let s = low c in
     let t = s.args.t in
-    rw (kept c) (low_le (2 ^ 52 + t) (926 - s.args.e) (with_lead t s.requires.fact_2) (omega arith))
+    rw (kept c) (low_le (2 ^ 52 + t) (926 - s.args.e) (with_lead t s.requires.digits_fit) (omega arith))
 
 -- what is kept of a normal one
 kept-le-2 : (c : After-closest-then-e-lt1151) → c.closest-then-e-lt1151.result ≤ 2 ^ 24
 kept-le-2 c =
     let s = mid c in
-    rw c.closest-then-e-lt1151.ensures (mid_le (2 ^ 52 + s.args.t) (with_lead s.args.t s.requires.fact_2))
+    rw c.closest-then-e-lt1151.ensures (mid_le (2 ^ 52 + s.args.t) (with_lead s.args.t s.requires.digits_fit))
 
 pub returns-then-e-lt873 : goal.returns-then-e-lt873
 returns-then-e-lt873 c = record {
-  t_value = λ s. tiny-is s c.args.e c.args.t c.if-e-lt873.true c.requires.fact_2;
-  upper_bound = lit< tt;
+  value = λ s. tiny-is s c.args.e c.args.t c.if-e-lt873.true c.requires.digits_fit;
+  bound = lit< tt;
 }
 
 pub closest-requires : goal.closest-requires
 closest-requires c =
     let w = 926 - c.args.e in
     record {
-      fact_1 = omega arith;
-      fact_2 = rw (shifted w (omega arith)) (pow_pos w);
-      fact_3 = rw (shifted w (omega arith)) (pow_mono {i = w} {j = 53} (omega arith));
+      digits_fit = omega arith;
+      unit_positive = rw (shifted w (omega arith)) (pow_pos w);
+      unit_fits = rw (shifted w (omega arith)) (pow_mono {i = w} {j = 53} (omega arith));
     }
 
 pub overflow_cast-result : goal.overflow_cast-result
@@ -66,8 +66,8 @@ returns-then-e-lt897 c =
     let is = sym (kept c) in
     let from : 873 ≤ s.args.e = omega arith in
     record {
-      t_value = λ t. low-is t s.args.e s.args.t from c.if-e-lt897.true s.requires.fact_2 ∙ (λ i. mark t + is i);
-      upper_bound = omega (arith, kept-le c);
+      value = λ t. low-is t s.args.e s.args.t from c.if-e-lt897.true s.requires.digits_fit ∙ (λ i. mark t + is i);
+      bound = omega (arith, kept-le c);
     }
 
 pub overflow_add-result : goal.overflow_add-result
@@ -83,14 +83,14 @@ returns-then-e-lt1151 c =
     let is = sym c.closest-then-e-lt1151.ensures in
     let from : 897 ≤ e = omega arith in
     record {
-      t_value = λ t. mid-is t e s.args.t from c.if-e-lt1151.true s.requires.fact_2 ∙ (λ i. mark t + ((e - 897) * 2 ^ 23 + is i));
-      upper_bound = omega (arith, kept-le-2 c);
+      value = λ t. mid-is t e s.args.t from c.if-e-lt1151.true s.requires.digits_fit ∙ (λ i. mark t + ((e - 897) * 2 ^ 23 + is i));
+      bound = omega (arith, kept-le-2 c);
     }
 
 pub returns : goal.returns
 returns c =
     let s = high c in
     record {
-      t_value = λ t. high_is t s.args.e s.args.t c.if-e-lt1151.false s.requires.fact_1 s.requires.fact_2 s.requires.fact_3;
-      upper_bound = lit< tt;
+      value = λ t. high_is t s.args.e s.args.t c.if-e-lt1151.false s.requires.exponent_fits s.requires.digits_fit s.requires.no_nan;
+      bound = lit< tt;
     }

@@ -12,4 +12,4 @@ loop-i-preserved c =
     let v = get_or a.area.now l.i (pos 0) in
     let read : to_z w16 (of_z w16 v) ≡ v = search (rules, to_z-of_z) in
     mapped-turn sample_out (pos 0) a.slice.now l.slice a.area.now l.i c.sample_out.result (omega arith) (omega arith) l.invariant
-      (c.sample_out.ensures ∙ ap sample_out read)
+    (c.sample_out.ensures ∙ ap sample_out read)

@@ -17,21 +17,15 @@ cut-is c =
     let n = c.frames_to_f32-n.ensures in
     ap (max 1) (c.f32_to_usize-k.ensures ∙ (λ i. to_unsigned 64 (div binary32 (mul binary32 (n i) a.s) (sub binary32 one a.s)))) ∙ sym (rw t)
 
-pub returns-then-k-lt1 : goal.returns-then-k-lt1
-returns-then-k-lt1 c =
-    let a = c.args in
-    let is : 1 ≡ insert_count a.s a.period.0 = omega (arith, cut-is c.before) in
-    (is, omega arith, omega arith)
-
 pub returns-then-s : goal.returns-then-s
 returns-then-s c =
     let a = c.args in
-    let is : c.f32_to_usize-k.result ≡ insert_count a.s a.period.0 = omega (arith, cut-is c.before) in
-    (is, omega arith, omega (arith, is, insert_count-le a.s a.period.0 (omega arith) (omega arith)))
+    let is : c.max.result ≡ insert_count a.s a.period.0 = omega (arith, c.max.ensures, cut-is c.before) in
+    record { value = is; positive = omega arith; bound = omega (arith, is, insert_count-le a.s a.period.0 (omega arith) (omega arith)) }
 
 pub returns : goal.returns
 unfolding insert_count of_bits
 returns c =
     let a = c.args in
     let t : le a.s half ≡ false = c.if-s.false in
-    (sym (rw t (omega arith)), omega arith, le_refl a.period.0)
+    record { value = sym (rw t (omega arith)); positive = omega arith; bound = le_refl a.period.0 }

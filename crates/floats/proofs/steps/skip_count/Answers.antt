@@ -19,10 +19,10 @@ is c =
 pub returns-then-s : goal.returns-then-s
 returns-then-s c =
     let a = c.args in
-    (is c, omega (arith, is c, skip_count-le a.s a.period.0 (omega arith)))
+    record { value = is c; bound = omega (arith, is c, skip_count-le a.s a.period.0 (omega arith)) }
 
 pub returns : goal.returns
 unfolding skip_count of_bits
 returns c =
     let t : le two c.args.s ≡ false = c.if-s.false in
-    (sym (rw t), le_refl c.args.period.0)
+    record { value = sym (rw t); bound = le_refl c.args.period.0 }

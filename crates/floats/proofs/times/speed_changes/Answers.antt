@@ -1,5 +1,5 @@
 -- `floats::times::speed_changes` meets its contract: the literals of the code are the two fractions, rounded to an `f64`. Assumes nothing.
-use Rattle.std.proofs.Common.{◌≡◌, Bool, true, false, ◌||◌, refl}
+use Rattle.std.proofs.Common.{◌≡◌, Bool, true, false, ◌||◌, refl, ◌∙◌}
 use lib.Ieee.{Float, binary64, round, of_bits, lt}
 use Rattle.floats.specs.Write.{speed_changes}
 use Rattle.floats.proofs.times.speed_changes.Goals as goal
@@ -26,9 +26,9 @@ by r s a e h = rw (← h, e, above-is, below-is)
 pub returns-then-wide : goal.returns-then-wide
 returns-then-wide c =
     let w = c.f32_to_f64_with_nan-wide in
-    by w.result c.args.s true w.ensures c.if-wide.true
+    c.if-wide.true ∙ by w.result c.args.s true w.ensures c.if-wide.true
 
-pub returns : goal.returns
-returns c =
+pub returns-else-wide : goal.returns-else-wide
+returns-else-wide c =
     let w = c.f32_to_f64_with_nan-wide in
     by w.result c.args.s false w.ensures c.if-wide.false
