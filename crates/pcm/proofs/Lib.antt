@@ -1,2 +1,1 @@
-mod Coding
 pub mod Back

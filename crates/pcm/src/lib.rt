@@ -9,24 +9,17 @@ ghost use Rattle.pcm.specs.Pcm.{sample_of, pair_of, sample_read, Decoded, Encode
 fn sample(low: u8, high: u8) -> i16
     ensures { result ≡ sample_of (low + high * 256) }
 {
-    let n = (low as u16) + (high as u16) * 256;
-    if n < 32768 {
-        n as i16
-    } else {
-        -1 - ((65535 - n) as i16)
-    }
+    i16::from_le_bytes([low, high])
 }
 
-// The first `count` samples.
+// The first `count` samples. The count stands beside the slices here and in `encode` because callers lend longer ones,
+// and promise what these hold: with slices cut to it each caller's contract would speak of parts.
 pub fn decode(bytes: &[u8], count: usize, samples: &mut [i16])
     requires { (2 * count ≤ length bytes.now) × (count ≤ length samples.old) }
     ensures { Decoded count bytes.now samples.new }
 {
-    let mut i: usize = 0;
-    while i < count {
-        let x = sample(bytes[2 * i], bytes[2 * i + 1]);
-        samples[i] = x;
-        i += 1;
+    for i in 0..count {
+        samples[i] = sample(bytes[2 * i], bytes[2 * i + 1]);
     }
 }
 
@@ -34,11 +27,7 @@ pub fn decode(bytes: &[u8], count: usize, samples: &mut [i16])
 pub fn pair(v: i16) -> u16
     ensures { result ≡ pair_of v }
 {
-    if v < 0 {
-        65535 - ((-1 - v) as u16)
-    } else {
-        v as u16
-    }
+    v.cast_unsigned()
 }
 
 // The sample that a read made this value of: that of a write, but −32768 for a value below −1, which a write holds to
@@ -58,13 +47,9 @@ pub fn encode(values: &[f32], count: usize, bytes: &mut [u8])
     requires { (count ≤ length values.now) × (2 * count ≤ length bytes.old) }
     ensures { Encoded count values.now bytes.new }
 {
-    let mut i: usize = 0;
-    while i < count {
-        let n = pair(sample_read(values[i]));
-        let low = (n % 256) as u8;
-        let high = (n / 256 % 256) as u8;
+    for i in 0..count {
+        let [low, high] = pair(sample_read(values[i])).to_le_bytes();
         bytes[2 * i] = low;
         bytes[2 * i + 1] = high;
-        i += 1;
     }
 }

@@ -1,28 +1,18 @@
--- `pcm::sample` meets its contract. Assumes nothing.
-use mathlib.Core.Path.{◌∙◌}
-use Prim.Native.Nat.{◌+◌, ◌-◌, ◌*◌, ◌<◌}
-use native.Mathlib.Omega.{arith}
-use lib.IntN.{pos}
-use mir.Facts.{to_z-of_z}
-use mir.Syntax.{w16}
-use Rattle.pcm.proofs.Coding.{flip-fits, small-reads, sample-small, sample-large}
+-- `pcm::sample` meets its contract: std's two's complement is that of `sample_of`. Assumes nothing.
+use Rattle.std.proofs.Common.{◌≡◌, ℕ, suc, ◌+◌, ◌-◌, ◌*◌, Bool, true, false, cond, pos, negsuc, refl, ap, ◌∙◌, ltb, arith, to_z, to_z-of_z, w16}
+use mir.Val.{sel}
+use Rattle.pcm.specs.Pcm.{sample_of}
 use Rattle.pcm.proofs.sample.Goals as goal
 
-pub overflow_sub-result-else-n-lt32768 : goal.overflow_sub-result-else-n-lt32768
-overflow_sub-result-else-n-lt32768 c =
-    let a = c.args in
-    let n = a.low + a.high * 256 in
-    let small : 65535 - n < 32768 = omega arith in
-    rw (small-reads (65535 - n) small) (flip-fits (pos (65535 - n)) (record { sfits = small }))
+complement : (n : ℕ) → to_z w16 n ≡ sample_of n
+unfolding sample_of
+complement n = by (ltb n 32768)
+  where
+    by : (b : Bool) → sel b (pos n) (negsuc (65536 - suc n)) ≡ cond b (pos n) (negsuc (65535 - n))
+    by true = refl
+    by false = ap negsuc (omega arith)
 
-pub returns-then-n-lt32768 : goal.returns-then-n-lt32768
-returns-then-n-lt32768 c =
+pub returns : goal.returns
+returns c =
     let n = c.args.low + c.args.high * 256 in
-    small-reads n c.if-n-lt32768.true ∙ sample-small n c.if-n-lt32768.true
-
-pub returns-else-n-lt32768 : goal.returns-else-n-lt32768
-returns-else-n-lt32768 c =
-    let n = c.args.low + c.args.high * 256 in
-    let small : 65535 - n < 32768 = omega arith in
-    let fits = flip-fits (pos (65535 - n)) (record { sfits = small }) in
-    rw (small-reads (65535 - n) small, to_z-of_z {w = w16} fits) (sample-large n c.if-n-lt32768.false)
+    to_z-of_z {w = w16} {z = c.from_le_bytes.result} (record { sfits = c.from_le_bytes.type_inv }) ∙ c.from_le_bytes.ensures ∙ complement n

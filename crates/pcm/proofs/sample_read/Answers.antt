@@ -22,4 +22,4 @@ unfolding of_bits neg
 returns-else-x c =
     let r = c.sample_in in
     let held = to_z-of_z {w = w16} {z = r.result} (record { sfits = r.type_inv }) in
-    held ∙ r.ensures.0 ∙ by-test c.args.x false c.if-x.false
+    held ∙ r.ensures.value ∙ by-test c.args.x false c.if-x.false
