@@ -1,6 +1,7 @@
--- One element more of a mapped list, from the front of an area of the same length. Assumes nothing.
-use Rattle.std.proofs.Common.{◌≡◌, ℕ, ◌+◌, ◌<◌, List, map, length, get_or, set, sym, ap, ◌∙◌, zero-add, arith}
-use lib.Seq.{paste}
+-- A mapped list in an area: one element more, from the front of an area of the same length; the front of a longer one. Assumes nothing.
+use Rattle.std.proofs.Common.{◌≡◌, ℕ, ◌+◌, ◌-◌, ◌<◌, List, ◌++◌, map, length, get_or, set, take, drop, sym, ap, ◌∙◌, zero-add, append_assoc, arith}
+use Rattle.std.proofs.lemmas.List.{take-map}
+use lib.Seq.{paste, drop-drop}
 use Rattle.frames.proofs.Pasted.{map-turn}
 
 pub mapped-turn : {A B : Type 0} (f : A → B) (y : A) (d area : List B) (s : List A) (i : ℕ) (v : B) → length d ≡ length s → i < length s
@@ -8,3 +9,15 @@ pub mapped-turn : {A B : Type 0} (f : A → B) (y : A) (d area : List B) (s : Li
 mapped-turn f y d area s i v n h e is =
     let at : 0 + i ≡ i = zero-add i in
     ap (λ (j : ℕ). set area j v) (sym at) ∙ (λ k. set (e k) (0 + i) (is k)) ∙ map-turn f y d s 0 i (omega arith) h
+
+-- the front of an area, made of the first k of a list
+pub front-pasted : {A B : Type 0} (f : A → B) (d : List B) (s : List A) (k : ℕ) → map f (take k s) ++ drop k d ≡ paste d 0 (map f s) k
+front-pasted f d s k = (λ i. sym (take-map f k s) i ++ drop (sym (zero-add k) i) d)
+
+-- a part of an area, the k places from a on, made of the first k of a list
+pub part-pasted : {A B : Type 0} (f : A → B) (d : List B) (s : List A) (a k : ℕ) (part : List B) → part ≡ map f (take k s)
+    → take a d ++ (part ++ drop (a + k - a) (drop a d)) ≡ paste d a (map f s) k
+part-pasted f d s a k part is =
+    let long : a + k - a ≡ k = omega arith in
+    let behind : drop (a + k - a) (drop a d) ≡ drop (a + k) d = ap (λ (n : ℕ). drop n (drop a d)) long ∙ drop-drop k a d in
+    (λ i. take a d ++ ((is ∙ sym (take-map f k s)) i ++ behind i)) ∙ sym (append_assoc (take a d) (take k (map f s)) (drop (a + k) d))

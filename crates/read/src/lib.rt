@@ -34,8 +34,9 @@ fn give(
 {
     let channels = stream.channels as usize;
     let left = Frames(stream.waiting.0 - n.0);
-    floats::samples::samples_out(output, n.samples(channels), slice);
-    frames::remove_front(output, n.samples(channels), left.samples(channels));
+    let given = n.samples(channels);
+    floats::samples::samples_out(&output[..given.0], &mut slice[..given.0]);
+    frames::remove_front(output, given, left.samples(channels));
     Gave {
         frames: n,
         stream: SonicStream {

@@ -1,7 +1,8 @@
 -- `read::give` meets its contract. Assumes nothing.
-use mathlib.Core.Path.{sym}
-use mathlib.Core.List.{[]}
-use native.Mathlib.Omega.{arith}
+use Rattle.std.proofs.Common.{[], ◌++◌, map, drop, sym, ap, ◌∙◌, arith}
+use lib.Seq.{paste, length-take-le}
+use Rattle.floats.specs.Write.{sample_out}
+use Rattle.floats.proofs.Stores.{front-pasted}
 use Rattle.stream.specs.Stream.{state_of}
 use Rattle.stream.proofs.Streams.{own}
 use Rattle.read.proofs.Giving.{givable, parts, given-ensures}
@@ -13,21 +14,46 @@ overflow_sub-left c =
     let g = givable a.stream a.most.0 a.n.0 a.slice.now a.output.now c.requires.stream_value.0 c.requires.output_value.0 c.requires.output_value.1 in
     g.few
 
-pub samples-requires : goal.samples-requires
-samples-requires c =
+pub samples-given-requires : goal.samples-given-requires
+samples-given-requires c =
     let a = c.args in
     let g = givable a.stream a.most.0 a.n.0 a.slice.now a.output.now c.requires.stream_value.0 c.requires.output_value.0 c.requires.output_value.1 in
     omega (arith, parts g, g.waits, g.short)
+
+pub slice_bounds-samples_out-end : goal.slice_bounds-samples_out-end
+slice_bounds-samples_out-end c =
+    let a = c.args in
+    let g = givable a.stream a.most.0 a.n.0 a.slice.now a.output.now c.requires.stream_value.0 c.requires.output_value.0 c.requires.output_value.1 in
+    omega (arith, parts g, g.waits, c.samples-given.ensures)
+
+pub slice_bounds-samples_out-end-2 : goal.slice_bounds-samples_out-end-2
+slice_bounds-samples_out-end-2 c =
+    let a = c.args in
+    let g = givable a.stream a.most.0 a.n.0 a.slice.now a.output.now c.requires.stream_value.0 c.requires.output_value.0 c.requires.output_value.1 in
+    sym (length-take-le _ _ (omega (arith, parts g, g.waits, c.samples-given.ensures)))
+
+pub slice_bounds-samples_out-end-3 : goal.slice_bounds-samples_out-end-3
+slice_bounds-samples_out-end-3 c =
+    let a = c.args in
+    let g = givable a.stream a.most.0 a.n.0 a.slice.now a.output.now c.requires.stream_value.0 c.requires.output_value.0 c.requires.output_value.1 in
+    omega (arith, g.slice_fits, c.samples-given.ensures)
+
+pub slice_bounds-samples_out-end-4 : goal.slice_bounds-samples_out-end-4
+slice_bounds-samples_out-end-4 c =
+    let a = c.args in
+    let g = givable a.stream a.most.0 a.n.0 a.slice.now a.output.now c.requires.stream_value.0 c.requires.output_value.0 c.requires.output_value.1 in
+    sym (length-take-le _ _ (omega (arith, g.slice_fits, c.samples-given.ensures)))
 
 pub samples_out-requires : goal.samples_out-requires
 samples_out-requires c =
     let a = c.args in
     let g = givable a.stream a.most.0 a.n.0 a.slice.now a.output.now c.requires.stream_value.0 c.requires.output_value.0 c.requires.output_value.1 in
-    let count = c.samples.ensures in
-    (omega (arith, parts g, g.waits), omega (arith, g.slice_fits))
+    let k = c.samples-given.result.0 in
+    let n = c.samples-given.ensures in
+    length-take-le k a.slice.now (omega (arith, n, g.slice_fits)) ∙ sym (length-take-le k a.output.now (omega (arith, n, parts g, g.waits)))
 
-pub samples-requires-3 : goal.samples-requires-3
-samples-requires-3 c =
+pub samples-requires : goal.samples-requires
+samples-requires c =
     let a = c.args in
     let g = givable a.stream a.most.0 a.n.0 a.slice.now a.output.now c.requires.stream_value.0 c.requires.output_value.0 c.requires.output_value.1 in
     omega (arith, parts g, g.waits, g.short)
@@ -36,17 +62,19 @@ pub remove_front-requires : goal.remove_front-requires
 remove_front-requires c =
     let a = c.args in
     let g = givable a.stream a.most.0 a.n.0 a.slice.now a.output.now c.requires.stream_value.0 c.requires.output_value.0 c.requires.output_value.1 in
-    let count = c.samples-2.ensures in
-    let kept = c.samples-3.ensures in
+    let count = c.samples-given.ensures in
+    let kept = c.samples.ensures in
     omega (arith, parts g, g.waits)
 
 pub returns : goal.returns
 unfolding state_of
 returns c =
     let a = c.args in
+    let g = givable a.stream a.most.0 a.n.0 a.slice.now a.output.now c.requires.stream_value.0 c.requires.output_value.0 c.requires.output_value.1 in
+    let k = c.samples-given.result.0 in
     let v = c.requires.stream_value in
     let o = c.requires.output_value in
-    given-ensures a.stream _ a.most.0 a.n.0 a.slice.now c.samples_out.new.slice a.output.now c.remove_front.new.area
-    v.0 o.0 o.1 (sym (own _ [] [] v.1))
-    (rw c.samples.ensures at c.samples_out.ensures)
-    (rw (c.samples-2.ensures, c.samples-3.ensures) at c.remove_front.ensures)
+    let given = ap (λ r. r ++ drop k a.slice.now) c.samples_out.ensures ∙ front-pasted sample_out a.slice.now a.output.now k in
+    rw given (given-ensures a.stream _ a.most.0 a.n.0 a.slice.now (paste a.slice.now 0 (map sample_out a.output.now) k) a.output.now c.remove_front.new.area
+    v.0 o.0 o.1 (sym (own _ [] [] v.1)) (ap (paste a.slice.now 0 (map sample_out a.output.now)) c.samples-given.ensures)
+    (rw (c.samples-given.ensures, c.samples.ensures) at c.remove_front.ensures))

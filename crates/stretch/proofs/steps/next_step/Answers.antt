@@ -14,7 +14,7 @@ returns-then-copying_due c =
     let h = c.args.place in
     let due = sym c.copying_due.ensures ∙ c.if-copying_due.true in
     let step : Copied c.copy_count.result ≡ next_step u x h =
-    (λ i. Copied (record { 0 = c.copy_count.ensures.0 i })) ∙ sym (next_step-copied u x h due) in
+    (λ i. Copied (record { 0 = c.copy_count.ensures.value i })) ∙ sym (next_step-copied u x h due) in
     record { step = step; prev = ap (prev_after u x h) step; sum = ap (sum_after u x h) step; prev_in_order = c.requires.prev_in_order }
 
 pub returns : goal.returns
