@@ -152,10 +152,11 @@ pub fn find_pitch_period(
 ) -> Chosen
     requires in_limits { InLimits rate channels }
     requires prev_in_order { PrevInOrder rate prev }
-    requires channels_in_bounds { (max_required rate * channels ≤ length samples.now)
-        × (max_required rate ≤ length scratch.old) }
-    ensures { (result ≡ find_pitch_period ties samples.now channels rate prev) × InRange rate result.period.0
-        × PrevInOrder rate result.prev }
+    requires samples_enough { max_required rate * channels ≤ length samples.now }
+    requires scratch_fits { max_required rate ≤ length scratch.old }
+    ensures value { result ≡ find_pitch_period ties samples.now channels rate prev }
+    ensures in_range { InRange rate result.period.0 }
+    ensures prev_in_order { PrevInOrder rate result.prev }
 {
     let searched = Searched {
         samples,

@@ -20,8 +20,9 @@ returns-then-mean-min_diff c =
     let mean = ap (λ (b : Candidate). b.diff / b.period) c.best.view_is ∙ sym c.mean-min_diff.ensures.value in
     let might : prev_might_be_better a.prev c.mean-min_diff.result ≡ true = sym c.prev_might_be_better.ensures ∙ c.if-prev_might_be_better.true in
     let worst = c.greatest_at-worst.ensures ∙ ap (last_search Greatest _ _ _) c.least_at-near.ensures.near in
-    answered a.ties a.samples.now a.prev r.in_limits r.prev_in_order.period_in (c.best.view_is ∙ c.least_at-near.ensures.best) mean
-    c.mean-min_diff.ensures.bound worst (sym c.mean.ensures.value) true (rw (might, le-leb _ _ c.if-mean-min_diff.true))
+    let all = answered a.ties a.samples.now a.prev r.in_limits r.prev_in_order.period_in (c.best.view_is ∙ c.least_at-near.ensures.best) mean
+    c.mean-min_diff.ensures.bound worst (sym c.mean.ensures.value) true (rw (might, le-leb _ _ c.if-mean-min_diff.true)) in
+    record { value = all.0; in_range = all.1; prev_in_order = all.2 }
 
 pub returns-else-mean-min_diff : goal.returns-else-mean-min_diff
 returns-else-mean-min_diff c =
@@ -30,8 +31,9 @@ returns-else-mean-min_diff c =
     let mean = ap (λ (b : Candidate). b.diff / b.period) c.best.view_is ∙ sym c.mean-min_diff.ensures.value in
     let might : prev_might_be_better a.prev c.mean-min_diff.result ≡ true = sym c.prev_might_be_better.ensures ∙ c.if-prev_might_be_better.true in
     let worst = c.greatest_at-worst.ensures ∙ ap (last_search Greatest _ _ _) c.least_at-near.ensures.near in
-    answered a.ties a.samples.now a.prev r.in_limits r.prev_in_order.period_in (c.best.view_is ∙ c.least_at-near.ensures.best) mean
-    c.mean-min_diff.ensures.bound worst (sym c.mean.ensures.value) false (rw (might, lt-leb _ _ c.if-mean-min_diff.false))
+    let all = answered a.ties a.samples.now a.prev r.in_limits r.prev_in_order.period_in (c.best.view_is ∙ c.least_at-near.ensures.best) mean
+    c.mean-min_diff.ensures.bound worst (sym c.mean.ensures.value) false (rw (might, lt-leb _ _ c.if-mean-min_diff.false)) in
+    record { value = all.0; in_range = all.1; prev_in_order = all.2 }
 
 pub returns-else-prev_might_be_better : goal.returns-else-prev_might_be_better
 returns-else-prev_might_be_better c =
@@ -39,5 +41,6 @@ returns-else-prev_might_be_better c =
     let r = c.requires in
     let mean = ap (λ (b : Candidate). b.diff / b.period) c.best.view_is ∙ sym c.mean-min_diff.ensures.value in
     let never : prev_might_be_better a.prev c.mean-min_diff.result ≡ false = sym c.prev_might_be_better.ensures ∙ c.if-prev_might_be_better.false in
-    answered a.ties a.samples.now a.prev r.in_limits r.prev_in_order.period_in (c.best.view_is ∙ c.least_at-near.ensures.best) mean
-    c.mean-min_diff.ensures.bound refl refl false (rw never)
+    let all = answered a.ties a.samples.now a.prev r.in_limits r.prev_in_order.period_in (c.best.view_is ∙ c.least_at-near.ensures.best) mean
+    c.mean-min_diff.ensures.bound refl refl false (rw never) in
+    record { value = all.0; in_range = all.1; prev_in_order = all.2 }

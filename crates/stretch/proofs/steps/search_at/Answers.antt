@@ -13,4 +13,4 @@ returns-clause-value c =
     let from = c.args.place.position.0 * c.args.ready.call.channels in
     let x = c.args.input.now in
     let rest : take (length x - from) (drop from x) ≡ drop from x = take_all (length x - from) (drop from x) (omega (arith, length-drop from x)) in
-    rw (c.samples-from.ensures, rest) at c.find_pitch_period.ensures.0
+    rw (c.samples-from.ensures, rest) at c.find_pitch_period.ensures.value
