@@ -7,7 +7,7 @@ use stream::SonicStream;
 
 // Where a call's frames go: behind `kept` frames of an area, which has room for `room` more; and how many there may be.
 // No `stretch::Target`, whose place counts samples: contracts count the frames kept, and a copy asks for no stretch.
-#[derive(Clone, Copy)]
+#[derive(Clone, Copy, Debug, PartialEq, Eq)]
 pub struct Destination {
     pub kept: Frames,
     pub room: Frames,
