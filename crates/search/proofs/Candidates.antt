@@ -4,7 +4,7 @@ use mathlib.Core.Path.{◌≡◌, ap, ◌∙◌}
 use mathlib.Core.Bool.{true, false}
 use mathlib.Core.List.{List}
 use Prim.Native.Nat.{ℕ, zero, suc, ◌+◌, ◌-◌, ◌*◌, ◌≤◌, ◌<◌}
-use native.Mathlib.Nat.{le_refl, le_trans, mul-le-mul_right}
+use native.Mathlib.Nat.{le_trans, mul-le-mul_right}
 use native.Mathlib.Omega.{arith}
 use borrow.Author.Tests.{lt-ltb, le-ltb, le-leb, lt-leb}
 use lib.IntN.{ℤ, pos, nat_abs, ◌-ℤ◌}
@@ -19,9 +19,6 @@ use Rattle.search.specs.Search.{diffs, candidate, better, sweep, widest_gap}
 pub record Sum (x : List ℤ) (q from n s : ℕ) : Type 0 where
   pub is : diffs x q from + s ≡ diffs x q (from + n)
   pub each : s ≤ widest_gap * n
-
-pub sum-none : (x : List ℤ) (q from : ℕ) → Sum x q from 0 0
-sum-none x q from = record { is = let z : from + 0 ≡ from = omega arith in omega (arith, ap (diffs x q) z); each = le_refl 0 }
 
 -- g is difference k
 pub sum_more : {x : List ℤ} {q from n s k g : ℕ} → Sum x q from n s → from + n ≡ k → g ≡ nat_abs (get_or x k (pos 0) -ℤ get_or x (k + q) (pos 0))

@@ -4,7 +4,8 @@ ghost use Rattle.std.specs.Prelude.{◌≡◌, ◌≤◌, length};
 ghost use Rattle.search.specs.Search.{candidate, lesser, best, worst, Searchable};
 ghost use Rattle.search.specs.Outward.{wanted_in};
 
-use crate::{Candidate, Ties, candidate_at, gaps_from, greater, lesser};
+use crate::sums::{candidate_at, gaps_from};
+use crate::{Candidate, Ties, greater, lesser};
 
 // The differences that a sum takes before it is compared again.
 const BLOCK: usize = 16;

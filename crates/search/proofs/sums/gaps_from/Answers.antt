@@ -1,8 +1,8 @@
--- `search::gaps_from` meets its contract: one difference more. Assumes nothing.
+-- `search::sums::gaps_from` meets its contract: one difference more. Assumes nothing.
 use Rattle.std.proofs.Common.{◌≡◌, ◌+◌, get_or, pos, ◌-ℤ◌, to_z-of_z, arith}
 use lib.IntN.{nat_abs}
 use Rattle.search.proofs.Candidates.{sum_more}
-use Rattle.search.proofs.gaps_from.Goals as goal
+use Rattle.search.proofs.sums.gaps_from.Goals as goal
 
 pub loop-i-preserved : goal.loop-i-preserved
 loop-i-preserved c =

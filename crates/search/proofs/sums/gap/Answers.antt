@@ -1,8 +1,8 @@
--- `search::gap` meets its contract: a sample widened is the same number. Assumes nothing.
+-- `search::sums::gap` meets its contract: a sample widened is the same number. Assumes nothing.
 use Rattle.std.proofs.Common.{◌≡◌, ◌-ℤ◌, to_z-of_z, arith}
 use lib.IntN.{nat_abs}
 use Rattle.laws.proofs.Integers.{nat_abs-gap-tight}
-use Rattle.search.proofs.gap.Goals as goal
+use Rattle.search.proofs.sums.gap.Goals as goal
 
 pub returns : goal.returns
 returns c =

@@ -1,8 +1,8 @@
--- `search::neighbours_from` meets its contract: one difference more of each period, and the last one of the second. Assumes nothing.
+-- `search::sums::neighbours_from` meets its contract: one difference more of each period, and the last one of the second. Assumes nothing.
 use Rattle.std.proofs.Common.{◌≡◌, ◌+◌, get_or, pos, ◌-ℤ◌, to_z-of_z, arith}
 use lib.IntN.{nat_abs}
 use Rattle.search.proofs.Candidates.{sum_more, sum-at, sum-whole}
-use Rattle.search.proofs.neighbours_from.Goals as goal
+use Rattle.search.proofs.sums.neighbours_from.Goals as goal
 
 pub loop-i-preserved : goal.loop-i-preserved
 loop-i-preserved c =
