@@ -15,13 +15,7 @@ use frames::Samples;
 fn hold(value: i32) -> i16
     ensures { result ≡ clamp_z lowest highest value }
 {
-    if value > 32767 {
-        return 32767;
-    }
-    if value < -32767 {
-        return -32767;
-    }
-    value as i16
+    value.clamp(-32767, 32767) as i16
 }
 
 // A sample at a gain in 256ths.
@@ -35,7 +29,8 @@ fn amplify(sample: i16, gain: i32) -> i16
 // The gain of a volume in its range, in 256ths.
 fn fixed_point(volume: f32) -> i32
     requires { T (le min_volume volume) × T (le volume max_volume) }
-    ensures { (result ≡ pos (gain volume)) × (gain volume ≤ 25600) }
+    ensures value { result ≡ pos (gain volume) }
+    ensures bound { gain volume ≤ 25600 }
 {
     floats::scales::gain(volume) as i32
 }
@@ -51,11 +46,7 @@ pub fn scale_samples(area: &mut [i16], at: Samples, count: Samples, volume: f32)
     }
     let gain = fixed_point(volume);
     let t = at.0;
-    let n = count.0;
-    let mut i: usize = 0;
-    while i < n {
-        let sample = amplify(area[t + i], gain);
-        area[t + i] = sample;
-        i += 1;
+    for i in 0..count.0 {
+        area[t + i] = amplify(area[t + i], gain);
     }
 }

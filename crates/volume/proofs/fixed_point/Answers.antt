@@ -17,4 +17,4 @@ pub overflow_cast-result : goal.overflow_cast-result
 overflow_cast-result c = record { sfits = omega (arith, at_most c, c.gain.ensures) }
 
 pub returns : goal.returns
-returns c = (to_z_pos w32 (omega (arith, at_most c, c.gain.ensures)) ∙ ap pos c.gain.ensures, at_most c)
+returns c = record { value = to_z_pos w32 (omega (arith, at_most c, c.gain.ensures)) ∙ ap pos c.gain.ensures; bound = at_most c }
