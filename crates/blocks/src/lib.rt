@@ -4,7 +4,7 @@
 // `specs/Blocks.antt` says what is promised.
 #![tactic(auto)]
 
-ghost use Rattle.std.specs.Prelude.{◌≡◌, true, ◌+◌, ◌-◌, ◌/◌, ◌%◌, ◌^◌, ◌<◌, ◌≤◌, map, length};
+ghost use Rattle.std.specs.Prelude.{◌≡◌, true, ◌+◌, ◌-◌, ◌*◌, ◌/◌, ◌%◌, ◌^◌, ◌<◌, ◌≤◌, map, length};
 ghost use Rattle.floats.specs.Write.{sample_out};
 ghost use Rattle.adding.specs.Calls.{write_call};
 ghost use Rattle.plans.specs.Plans.{block_samples};
@@ -16,7 +16,7 @@ ghost use Rattle.blocks.specs.Blocks.{WriteAnswered, NoneWaits, BlockWritten, Tu
 use frames::{Frames, Samples};
 use plans::{BLOCK_SAMPLES, Plan};
 use ports::Ports;
-use reels::areas::Areas;
+use reels::areas::{Areas, Buffers};
 use reels::reading::read_block;
 use reels::reel::Reel;
 use reels::state::RunState;
@@ -71,19 +71,21 @@ fn write<const STAGE: usize, const OUTPUT: usize>(
 
 // Writes out the frames waiting, if there are as many as `few`. The test stands before the call, since a reel that is
 // handed on and back is copied.
-fn drain_full<const STAGE: usize, const OUTPUT: usize>(
+fn drain_full(
     reel: Reel,
     few: usize,
     ports: &mut Ports,
-    areas: &mut Areas<STAGE, OUTPUT>,
+    output: &mut [i16],
+    values: &mut [f32],
+    bytes: &mut [u8],
 ) -> Reel
-    requires { 1 ≤ few }
-    ensures { Drained OUTPUT few reel result }
+    requires { (1 ≤ few) × (32 ≤ length values.old) × (2 * length values.old ≤ length bytes.old) }
+    ensures { Drained (length output.old) few reel result }
 {
     if reel.stream.waiting.0 < few {
         return reel;
     }
-    reel.drain(few, &mut ports.output, areas)
+    reel.drain(few, &mut ports.output, output, values, bytes)
 }
 
 // Writes a block to the stream, and writes out what that makes. Between its writes fewer frames wait than a block
@@ -94,8 +96,11 @@ fn write_block<const STAGE: usize, const OUTPUT: usize>(
     plan: Plan,
     ports: &mut Ports,
     areas: &mut Areas<STAGE, OUTPUT>,
+    values: &mut [f32],
+    bytes: &mut [u8],
 ) -> Reel
     requires usable { (reel.stream.channels ≡ plan.channels) × (length block.now % plan.channels ≡ 0) }
+    requires in_bounds { (32 ≤ length values.old) × (2 * length values.old ≤ length bytes.old) }
     requires served { AreSized plan STAGE OUTPUT × Serving plan reel × NoneWaits reel }
     ensures { BlockWritten plan (length block.now / plan.channels) reel result }
 {
@@ -106,10 +111,10 @@ fn write_block<const STAGE: usize, const OUTPUT: usize>(
         let last = reel.passes.last;
         reel = write(reel, &block[at..end], plan, areas);
         reel = maps::put_ended(reel, last, plan.opening(), ports);
-        reel = drain_full(reel, few, ports, areas);
+        reel = drain_full(reel, few, ports, &mut areas.output, values, bytes);
         at = end;
     }
-    reel.drain(1, &mut ports.output, areas)
+    reel.drain(1, &mut ports.output, &mut areas.output, values, bytes)
 }
 
 // Reads a block, writes it to the stream, and writes out what that makes.
@@ -118,13 +123,27 @@ pub fn turn<const STAGE: usize, const OUTPUT: usize>(
     plan: Plan,
     ports: &mut Ports,
     areas: &mut Areas<STAGE, OUTPUT>,
-    block: &mut [i16; BLOCK_SAMPLES],
+    buffers: &mut Buffers,
 ) -> Reel
     requires usable { (reel.stream.channels ≡ plan.channels) × (plan.block % plan.channels ≡ 0)
         × (reel.partial ≡ 0) }
     requires served { AreSized plan STAGE OUTPUT × Serving plan reel × NoneWaits reel }
     ensures { Turned plan reel result }
 {
-    let read = read_block(&mut ports.input, reel, plan, block, &mut areas.bytes);
-    write_block(read.reel, &block[..read.samples], plan, ports, areas)
+    let read = read_block(
+        &mut ports.input,
+        reel,
+        plan,
+        &mut buffers.block,
+        &mut buffers.bytes,
+    );
+    write_block(
+        read.reel,
+        &buffers.block[..read.samples],
+        plan,
+        ports,
+        areas,
+        &mut buffers.values,
+        &mut buffers.bytes,
+    )
 }

@@ -6,7 +6,7 @@ ghost use Rattle.skimming.specs.Skimming.{Underway, Complete};
 
 use plans::{BLOCK_BYTES, BLOCK_SAMPLES, INPUT_AREA, Plan, SCRATCH_AREA};
 use ports::Ports;
-use reels::areas::Areas;
+use reels::areas::{Areas, Buffers};
 use reels::reel::Reel;
 
 // Does a job, in a stage and an output of so many samples.
@@ -23,9 +23,11 @@ pub fn skim<const STAGE: usize, const OUTPUT: usize>(
         stage: [0i16; STAGE],
         output: [0i16; OUTPUT],
         scratch: [0i16; SCRATCH_AREA],
+    };
+    let mut buffers = Buffers {
+        block: [0i16; BLOCK_SAMPLES],
         values: [0f32; BLOCK_SAMPLES],
         bytes: [0u8; BLOCK_BYTES],
     };
-    let mut block = [0i16; BLOCK_SAMPLES];
-    running::run(reel, plan, ports, &mut areas, &mut block)
+    running::run(reel, plan, ports, &mut areas, &mut buffers)
 }

@@ -1,5 +1,5 @@
 // Blocks of the input.
-ghost use Rattle.std.specs.Prelude.{◌≡◌, ◌≤◌};
+ghost use Rattle.std.specs.Prelude.{◌≡◌, ◌≤◌, length};
 ghost use Rattle.pcm.specs.Pcm.{Decoded};
 ghost use Rattle.plans.specs.Plans.{block_samples};
 ghost use Rattle.reels.specs.Reels.{BlockCounted, BlockReadAs};
@@ -47,8 +47,8 @@ pub fn read_block<R: Read>(
     bytes: &mut [u8; BLOCK_BYTES],
 ) -> BlockRead
     requires { reel.partial ≡ 0 }
-    ensures { (result.samples ≤ block_samples) × BlockReadAs plan reel bytes.new result
-        × Decoded result.samples bytes.new block.new }
+    ensures { (result.samples ≤ block_samples) × (length block.new ≡ block_samples)
+        × BlockReadAs plan reel bytes.new result × Decoded result.samples bytes.new block.new }
 {
     let channels = plan.channels;
     let source = reel.source;

@@ -7,7 +7,6 @@ ghost use Rattle.reels.specs.States.{kept, failed};
 ghost use Rattle.reels.specs.Reels.{takes_more, reads_more, fresh_reel, first_held};
 ghost use Rattle.reels.specs.Reels.{Answered, Stopped, FewerWait, Drained};
 
-use crate::areas::Areas;
 use crate::state::{RunState, Stalls, leaves_room, passed_in, state_in, stream_after};
 use frames::Frames;
 use inputs::Source;
@@ -143,16 +142,18 @@ impl Reel {
     }
 
     // Reads a block of the frames waiting, and writes it out.
-    fn write_out<W: Write, const STAGE: usize, const OUTPUT: usize>(
+    fn write_out<W: Write>(
         self,
         writer: &mut W,
-        areas: &mut Areas<STAGE, OUTPUT>,
+        output: &mut [i16],
+        values: &mut [f32],
+        bytes: &mut [u8],
     ) -> Reel
-        ensures { FewerWait OUTPUT
-            (read_call self.stream block_samples areas.old.values areas.old.output).answer self result }
+        requires { (32 ≤ length values.old) × (2 * length values.old ≤ length bytes.old) }
+        ensures { FewerWait (length output.old)
+            (read_call self.stream block_samples values.old output.old).answer self result }
     {
-        let frames = Frames(BLOCK_SAMPLES);
-        match read::read_f32(self.stream, frames, &mut areas.values, &mut areas.output) {
+        match read::read_f32(self.stream, Frames(BLOCK_SAMPLES), values, output) {
             Err(refused) => Reel {
                 stream: refused.stream,
                 ..self
@@ -164,7 +165,7 @@ impl Reel {
                     stream: gave.stream,
                     ..self
                 };
-                match write_values(writer, &areas.values, count, &mut areas.bytes) {
+                match write_values(writer, values, count, bytes) {
                     Ok(()) => Reel {
                         frames_out: self.frames_out.wrapping_add(gave.frames.0 as u64),
                         ..read
@@ -176,21 +177,23 @@ impl Reel {
     }
 
     // Writes out the frames waiting, while there are as many as `few`, at least 1. Each turn gives one or more.
-    pub fn drain<W: Write, const STAGE: usize, const OUTPUT: usize>(
+    pub fn drain<W: Write>(
         self,
         few: usize,
         writer: &mut W,
-        areas: &mut Areas<STAGE, OUTPUT>,
+        output: &mut [i16],
+        values: &mut [f32],
+        bytes: &mut [u8],
     ) -> Reel
-        requires { 1 ≤ few }
-        ensures { Drained OUTPUT few self result }
+        requires { (1 ≤ few) × (32 ≤ length values.old) × (2 * length values.old ≤ length bytes.old) }
+        ensures { Drained (length output.old) few self result }
     {
         let mut reel = self;
         for _turn in 0..self.stream.waiting.0 {
             if reel.stream.waiting.0 < few || reel.has_failed() {
                 break;
             }
-            reel = reel.write_out(writer, areas);
+            reel = reel.write_out(writer, output, values, bytes);
         }
         reel
     }

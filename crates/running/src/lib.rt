@@ -5,9 +5,9 @@
 ghost use Rattle.reels.specs.Lent.{AreSized};
 ghost use Rattle.skimming.specs.Skimming.{Underway, Complete};
 
-use plans::{BLOCK_SAMPLES, Plan};
+use plans::Plan;
 use ports::Ports;
-use reels::areas::Areas;
+use reels::areas::{Areas, Buffers};
 use reels::reel::Reel;
 
 // Does a job in areas that are lent. A proved loop has to end, and nothing says that the input does: a run that uses up
@@ -17,7 +17,7 @@ pub fn run<const STAGE: usize, const OUTPUT: usize>(
     plan: Plan,
     ports: &mut Ports,
     areas: &mut Areas<STAGE, OUTPUT>,
-    block: &mut [i16; BLOCK_SAMPLES],
+    buffers: &mut Buffers,
 ) -> Reel
     requires { Underway plan reel × AreSized plan STAGE OUTPUT }
     ensures { Complete plan result }
@@ -27,8 +27,15 @@ pub fn run<const STAGE: usize, const OUTPUT: usize>(
             break;
         }
         let before = reel.frames_in;
-        reel = skimming::turns(reel, plan, ports, areas, block);
+        reel = skimming::turns(reel, plan, ports, areas, buffers);
         progress::show(ports, reel, before, plan.opening());
     }
-    skimming::finish(reel, plan, ports, areas)
+    skimming::finish(
+        reel,
+        plan,
+        ports,
+        areas,
+        &mut buffers.values,
+        &mut buffers.bytes,
+    )
 }

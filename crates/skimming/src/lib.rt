@@ -2,7 +2,7 @@
 // Once the stream takes no more, the input is only counted. `specs/Skimming.antt` says what is promised.
 #![tactic(auto)]
 
-ghost use Rattle.std.specs.Prelude.{◌≡◌, true};
+ghost use Rattle.std.specs.Prelude.{◌≡◌, true, ◌*◌, ◌≤◌, length};
 ghost use Rattle.adding.specs.Calls.{flush_call};
 ghost use Rattle.reels.specs.Lent.{lent, AreSized};
 ghost use Rattle.reels.specs.Reels.{takes_more};
@@ -10,9 +10,9 @@ ghost use Rattle.reels.specs.Serving.{Serving};
 ghost use Rattle.skimming.specs.Skimming.{Flushed, Underway, Complete};
 
 use blocks::turn;
-use plans::{BLOCK_SAMPLES, Plan};
+use plans::Plan;
 use ports::Ports;
-use reels::areas::Areas;
+use reels::areas::{Areas, Buffers};
 use reels::reel::Reel;
 use reels::state::RunState;
 
@@ -58,7 +58,7 @@ pub fn turns<const STAGE: usize, const OUTPUT: usize>(
     plan: Plan,
     ports: &mut Ports,
     areas: &mut Areas<STAGE, OUTPUT>,
-    block: &mut [i16; BLOCK_SAMPLES],
+    buffers: &mut Buffers,
 ) -> Reel
     requires { Underway plan reel × AreSized plan STAGE OUTPUT }
     ensures { Underway plan result }
@@ -67,7 +67,7 @@ pub fn turns<const STAGE: usize, const OUTPUT: usize>(
         if !reel.reads_more() {
             break;
         }
-        reel = turn(reel, plan, ports, areas, block);
+        reel = turn(reel, plan, ports, areas, buffers);
     }
     reel
 }
@@ -91,12 +91,15 @@ pub fn finish<const STAGE: usize, const OUTPUT: usize>(
     plan: Plan,
     ports: &mut Ports,
     areas: &mut Areas<STAGE, OUTPUT>,
+    values: &mut [f32],
+    bytes: &mut [u8],
 ) -> Reel
-    requires { Underway plan reel × AreSized plan STAGE OUTPUT }
+    requires served { Underway plan reel × AreSized plan STAGE OUTPUT }
+    requires in_bounds { (32 ≤ length values.old) × (2 * length values.old ≤ length bytes.old) }
     ensures { Complete plan result }
 {
     let ended = closed(reel, plan);
     let flushed = flush(ended, plan, areas);
-    let drained = flushed.drain(1, &mut ports.output, areas);
+    let drained = flushed.drain(1, &mut ports.output, &mut areas.output, values, bytes);
     maps::end(drained, ended.passes.last, plan.opening(), ports)
 }

@@ -1,9 +1,10 @@
 -- Each write takes a sample or more of the block.
-use Rattle.std.proofs.Common.{◌≡◌, ℕ, ◌+◌, ◌-◌, ◌/◌, ◌<◌, ◌^◌, ◌≤◌, true, List, map, length, take, drop, sym, ap, ◌∙◌, subst, arith, rules}
+use Rattle.std.proofs.Common.{◌≡◌, ℕ, ◌+◌, ◌-◌, ◌/◌, ◌<◌, ◌^◌, ◌≤◌, true, List, map, length, take, drop, sym, ap, ◌∙◌, subst, le-div_iff_mul-le, arith, rules}
 use lib.Ieee.{Float}
 use Rattle.frames.specs.Areas.{Areas}
 use Rattle.floats.specs.Write.{sample_out}
 use Rattle.adding.specs.Calls.{write_call}
+use Rattle.plans.specs.Plans.{block_samples}
 use Rattle.reels.specs.Lent.{lent}
 use Rattle.reels.specs.Reels.{takes_more}
 use Rattle.reels.proofs.Blocks.{write-length, write-frames, write-whole}
@@ -30,6 +31,13 @@ write-reel-requires g c =
       ((inv.2.channels_kept ∙ p.0, whole), (c.requires.served.0, inv.2.serving, goes, omega (arith, few, c.frames-few.ensures), within)),
     )
 
+pub drain_full-reel-requires : goal.drain_full-reel-requires
+drain_full-reel-requires g c =
+    let u = c.args.plan.limits in
+    let some : 1 ≤ block_samples / c.args.plan.channels =
+    (le-div_iff_mul-le {k = c.args.plan.channels} {x = 1} {y = block_samples} u.channels_low).1 (omega (arith, u.channels_high)) in
+    let bounds = c.requires.in_bounds in (omega (arith, c.frames-few.ensures, some), omega (arith, bounds.0), omega (arith, bounds.1))
+
 pub loop-at-preserved : goal.loop-at-preserved
 loop-at-preserved g c =
     let a = c.args in
@@ -45,7 +53,7 @@ loop-at-preserved g c =
     let goes : takes_more a.plan r ≡ true = sym c.takes_more.ensures ∙ c.if-takes_more.true in (
       end.ensures.1,
       end.ensures.2,
-      part-more {answer = (write_call r.stream values areas).answer} _ _ _ frames c.requires.served.0.output_is goes inv.2 done.write_answered
+      part-more {answer = (write_call r.stream values areas).answer} _ _ _ frames (omega (arith, c.requires.served.0.output_is)) goes inv.2 done.write_answered
           same done.serving c.put_ended-reel.ensures c.drain_full-reel.ensures.out,
       λ x. omega (arith, c.drain_full-reel.ensures.fewer x),
     )
@@ -62,4 +70,4 @@ returns g c =
           let same : c.loop-at.at ≡ length a.block.now = omega (arith, inv.0) in
           ap (λ (k : ℕ). k / channels) same
     ] in
-    part_end _ _ _ all (omega arith) c.requires.served.0.output_is inv.2 c.drain.ensures
+    part_end _ _ _ all (omega arith) (omega (arith, c.requires.served.0.output_is)) inv.2 c.drain.ensures

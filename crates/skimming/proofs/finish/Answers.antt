@@ -9,6 +9,6 @@ returns g c =
     let k = c.closed-ended in
     let f = c.flush-flushed.ensures in
     let done =
-    complete {answer = (flush_call k.result.stream (lent c.args.areas.now)).answer} _ (omega arith) c.requires.1.output_is k.ensures.0 k.ensures.1
+    complete {answer = (flush_call k.result.stream (lent c.args.areas.now)).answer} _ (omega arith) (omega (arith, c.requires.served.1.output_is)) k.ensures.0 k.ensures.1
     f.flushed f.serving c.drain-drained.ensures in
     complete-mapped done c.end.ensures

@@ -25,6 +25,7 @@ returns g c =
     let begins = rw (c.first.ensures, c.ready.ensures, filled-long ∙ e) at c.fill-filled.ensures.2 in
     let long : length now ≡ block_of source (2 * a.plan.block) = c.fill-filled.auto.block ∙ filled-long ∙ e in (
       omega (arith, few, c.samples-samples.ensures),
+      omega arith,
       record {
         filled = filled;
         fits = omega (arith, c.fill-filled.ensures.0, filled-long, e);

@@ -35,20 +35,20 @@ module _ (r : Reel) (values : List Float) (output : List ℤ) where
 pub samples-count-requires : goal.samples-count-requires
 samples-count-requires g c =
     let a = c.args in
-    let t = given-of a.self.stream a.areas.now.values a.areas.now.output _ (sym c.in-Ok.is ∙ c.read_f32.ensures.answer) in
+    let t = given-of a.self.stream a.values.now a.output.now _ (sym c.in-Ok.is ∙ c.read_f32.ensures.answer) in
     omega (arith, t.fits)
 
 pub write_values-requires : goal.write_values-requires
 write_values-requires g c =
     let a = c.args in
-    let t = given-of a.self.stream a.areas.now.values a.areas.now.output _ (sym c.in-Ok.is ∙ c.read_f32.ensures.answer) in
+    let t = given-of a.self.stream a.values.now a.output.now _ (sym c.in-Ok.is ∙ c.read_f32.ensures.answer) in
     (omega (arith, t.fits), omega (arith, t.fits))
 
 pub returns-in-Err : goal.returns-in-Err
 returns-in-Err g c =
     let a = c.args in
-    let values = a.areas.now.values in
-    let output = a.areas.now.output in
+    let values = a.values.now in
+    let output = a.output.now in
     let told : Err c.in-Err.refused ≡ answer a.self values output = sym c.in-Err.is ∙ c.read_f32.ensures.answer in
     let s = same_of a.self.stream values output _ told in
     let k = c.stopped.ensures in
@@ -64,8 +64,8 @@ returns-in-Err g c =
 pub returns-in-Ok-write_values : goal.returns-in-Ok-write_values
 returns-in-Ok-write_values g c =
     let r = c.args.self in
-    let values = c.args.areas.now.values in
-    let output = c.args.areas.now.output in
+    let values = c.args.values.now in
+    let output = c.args.output.now in
     let told : Ok c.in-Ok.gave ≡ answer r values output = sym c.in-Ok.is ∙ c.read_f32.ensures.answer in
     let t = given-of r.stream values output _ told in
     record {
@@ -91,8 +91,8 @@ returns-in-Ok-write_values g c =
 pub returns-in-Err-write_values : goal.returns-in-Err-write_values
 returns-in-Err-write_values g c =
     let r = c.args.self in
-    let values = c.args.areas.now.values in
-    let output = c.args.areas.now.output in
+    let values = c.args.values.now in
+    let output = c.args.output.now in
     let told : Ok c.in-Ok.gave ≡ answer r values output = sym c.in-Ok.is ∙ c.read_f32.ensures.answer in
     let t = given-of r.stream values output _ told in
     let k = c.stopped-in-Err-write_values.ensures in
