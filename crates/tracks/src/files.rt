@@ -1,21 +1,22 @@
 // What is told of files that cannot be opened, read or written, and the end of what is told of bad usage.
 use ports::Ports;
+use say::Status;
 use std::io::Error;
 
-// The end of every report of bad usage. Answers the status.
-pub fn bad_usage(rt: &impl Eprint) -> u64 {
+// The end of every report of bad usage.
+pub fn bad_usage(rt: &impl Eprint) -> Status {
     say::text(rt, "skim: --help tells the usage\nskim: status=2\n");
-    2
+    Status::BadUsage
 }
 
-// A name that is empty or too long. Answers the status.
-pub(crate) fn no_name(rt: &impl Eprint) -> u64 {
+// A name that is empty or too long.
+pub fn no_name(rt: &impl Eprint) -> Status {
     say::text(rt, "skim: OUT.wav needs a name of 1 to 4095 bytes\n");
     bad_usage(rt)
 }
 
-// A name that is that of a device or a pipe. Answers the status.
-pub(crate) fn special_file(rt: &impl Eprint) -> u64 {
+// A name that is that of a device or a pipe.
+pub(crate) fn special_file(rt: &impl Eprint) -> Status {
     say::text(
         rt,
         "skim: OUT.wav is there and is no regular file: use > for it\n",
@@ -23,15 +24,15 @@ pub(crate) fn special_file(rt: &impl Eprint) -> u64 {
     bad_usage(rt)
 }
 
-// A file of this name that cannot be opened, and what the system says. Answers the status.
-pub fn failed_name(rt: &impl Eprint, name: &str, error: &Error) -> u64 {
+// A file of this name that cannot be opened, and what the system says.
+pub fn failed_name(rt: &impl Eprint, name: &str, error: &Error) -> Status {
     say::text(rt, "skim: ");
     say::failure(rt, name, error);
     bad_usage(rt)
 }
 
-// An input that cannot be read from its beginning on, or an output that takes no head. Answers the status.
-pub fn failed_input(ports: &Ports, named: bool) -> u64 {
+// An input that cannot be read from its beginning on, or an output that takes no head.
+pub fn failed_input(ports: &Ports, named: bool) -> Status {
     reports::fail(
         &ports.rt,
         "skim: standard input",
@@ -42,7 +43,7 @@ pub fn failed_input(ports: &Ports, named: bool) -> u64 {
     failed(&ports.rt)
 }
 
-pub(crate) fn failed_output(ports: &Ports, named: bool) -> u64 {
+pub(crate) fn failed_output(ports: &Ports, named: bool) -> Status {
     reports::fail(
         &ports.rt,
         "skim: standard output",
@@ -53,7 +54,7 @@ pub(crate) fn failed_output(ports: &Ports, named: bool) -> u64 {
     failed(&ports.rt)
 }
 
-fn failed(rt: &impl Eprint) -> u64 {
+fn failed(rt: &impl Eprint) -> Status {
     say::text(rt, "skim: status=1\n");
-    1
+    Status::Incomplete
 }

@@ -4,22 +4,21 @@
 
 pub mod files;
 
-ghost use Rattle.std.specs.Prelude.{◌≡◌, true, false};
-ghost use Rattle.period.specs.Rates.{InLimits};
-ghost use Rattle.plans.specs.Plans.{Usable};
+ghost use Rattle.reels.specs.Lent.{AreSized};
 ghost use Rattle.skimming.specs.Skimming.{Underway};
 
-use outputs::names::Made;
-use outputs::{Sizes, names};
+use outputs::names::MadeError;
+use outputs::{SizesError, names};
 use plans::Plan;
 use ports::kept::Kept;
 use ports::{Outgoing, Ports};
 use reels::reel::Reel;
 use reels::state::RunState;
 use reports::Files;
+use say::Status;
 use std::io::Error;
 use std::{io, process};
-use stream::refusals;
+use stream::Refusal;
 
 // A run with its track ended, and why the sizes of that could not be set, if they could not.
 #[derive(Clone, Copy)]
@@ -37,155 +36,144 @@ fn number(rt: &HostRuntime) -> u32 {
 fn give_name(ports: &Ports, name: &str) -> io::Result<()> {
     match ports.output.get_ref() {
         Outgoing::Named(file) => names::keep(&ports.rt, number(&ports.rt), file, name),
-        Outgoing::Standard(_) => Ok(()),
-        Outgoing::Closed => Ok(()),
+        Outgoing::Standard(_) | Outgoing::Closed => Ok(()),
     }
 }
 
-// Gives the file of a whole track this name; an empty name is that of none.
-fn kept(ports: &mut Ports, reel: Reel, name: &str) -> Reel {
-    if name.is_empty() || !reports::is_whole(reel) {
-        return reel;
-    }
-    match give_name(ports, name) {
-        Ok(()) => reel,
-        Err(e) => {
-            ports.output.keep(e);
-            reel.stopped(RunState::WriteFailed)
-        }
+// A run whose output failed so.
+fn failed(ports: &mut Ports, reel: Reel, error: Error) -> Reel {
+    ports.output.keep(error);
+    reel.stopped(RunState::WriteFailed)
+}
+
+// Gives the file of a whole track its name, if it has one.
+fn kept(ports: &mut Ports, reel: Reel, name: Option<&str>) -> Reel {
+    match name {
+        Some(name) if reports::is_whole(reel) => match give_name(ports, name) {
+            Ok(()) => reel,
+            Err(error) => failed(ports, reel, error),
+        },
+        _ => reel,
     }
 }
 
 // Ends a track whose head was written at `start`: sets its sizes, and gives a named file its name.
-fn ended(ports: &mut Ports, reel: Reel, plan: Plan, name: &str, start: io::Result<u64>) -> Ending
-    requires { InLimits plan.rate plan.channels }
-{
-    if !reel.source.wave || reel.has_failed() {
-        return Ending { reel, unset: None };
+fn ended(
+    ports: &mut Ports,
+    reel: Reel,
+    plan: Plan,
+    name: Option<&str>,
+    start: io::Result<u64>,
+) -> Ending {
+    let mut unset = None;
+    if !reel.source.is_wave() || reel.has_failed() {
+        return Ending { reel, unset };
     }
     let rt = ports.rt;
-    match outputs::end(&rt, ports.output.get_mut(), reel.frames_out, start, plan) {
-        Sizes::Set => Ending {
-            reel: kept(ports, reel, name),
-            unset: None,
-        },
-        Sizes::Unset(error) => {
-            if name.is_empty() {
-                return Ending {
-                    reel,
-                    unset: Some(error),
-                };
-            }
-            ports.output.keep(error);
-            Ending {
-                reel: reel.stopped(RunState::WriteFailed),
-                unset: None,
-            }
+    let sizes = outputs::end(
+        &rt,
+        ports.output.get_mut(),
+        reel.frames_out,
+        start,
+        plan.opening(),
+    );
+    let reel = match sizes {
+        Ok(()) => kept(ports, reel, name),
+        Err(SizesError::Unset(error)) if name.is_some() => failed(ports, reel, error),
+        Err(SizesError::Unset(error)) => {
+            unset = Some(error);
+            reel
         }
-        Sizes::TooLong => Ending {
-            reel: reel.stopped(RunState::Refused(refusals::BAD_SIZE)),
-            unset: None,
-        },
-    }
+        Err(SizesError::TooLong) => reel.stopped(RunState::Refused(Refusal::BadSize)),
+    };
+    Ending { reel, unset }
 }
 
-// Begins a track: the head of a WAVE file, if it is one. Answers whether that was taken.
-fn begun(ports: &mut Ports, reel: Reel, plan: Plan) -> bool
-    requires { InLimits plan.rate plan.channels }
-{
-    if !reel.source.wave {
-        return true;
+// Begins a track: the head of a WAVE file, if it is one.
+fn begun(ports: &mut Ports, reel: Reel, plan: Plan) -> io::Result<()> {
+    if !reel.source.is_wave() {
+        return Ok(());
     }
-    outputs::write_head(&mut ports.output, plan)
+    outputs::write_head(&mut ports.output, plan.opening())
 }
 
-// Ends the track of a run, and tells of it. Answers the status.
+// Ends the track of a run, and tells of it.
 fn told(
     ports: &mut Ports,
     reel: Reel,
     plan: Plan,
-    name: &str,
+    name: Option<&str>,
     start: io::Result<u64>,
-    map: u32,
-) -> u64
-    requires { InLimits plan.rate plan.channels }
-{
+    map: Option<u32>,
+) -> Status {
     let done = ended(ports, reel, plan, name, start);
     let used = Files {
         map,
-        named: !name.is_empty(),
+        named: name.is_some(),
         unset: done.unset,
     };
-    reports::run(ports, done.reel, plan, used)
+    reports::run(ports, done.reel, plan.opening(), used)
 }
 
-// Does a job whose output is open, in the file of this name, if it is not empty. Answers the status. The map is begun
-// behind the last call that may fail and is not told. A caller chooses between this and `written_small`: the pages of
-// a function's areas are all touched when it is entered, and behind one choice both would come to be of one function.
-fn written(ports: &mut Ports, reel: Reel, plan: Plan, name: &str) -> u64
-    requires { Usable plan × Underway plan reel × (plan.small ≡ false) }
+// Does a job whose output is open, in areas of these sizes, in the file of this name, if it has one. The map is begun
+// behind the last call that may fail and is not told. The pages of a function's areas are all touched when it is
+// entered: in its caller, those of all sizes would be.
+#[inline(never)]
+fn written<const STAGE: usize, const OUTPUT: usize>(
+    ports: &mut Ports,
+    reel: Reel,
+    plan: Plan,
+    name: Option<&str>,
+) -> Status
+    requires { Underway plan reel × AreSized plan STAGE OUTPUT }
 {
     let rt = ports.rt;
     let start = outputs::place(&rt, ports.output.get_mut());
-    if !begun(ports, reel, plan) {
-        return files::failed_output(ports, !name.is_empty());
+    if begun(ports, reel, plan).is_err() {
+        return files::failed_output(ports, name.is_some());
     }
     let ready = maps::begin(reel, ports);
-    let whole = lending::skim(ready, plan, ports);
+    let whole = lending::skim::<STAGE, OUTPUT>(ready, plan, ports);
     told(ports, whole, plan, name, start, reel.map)
 }
 
-// The same of a small job.
-fn written_small(ports: &mut Ports, reel: Reel, plan: Plan, name: &str) -> u64
-    requires { Usable plan × Underway plan reel × (plan.small ≡ true) }
+// The same in areas of the sizes that its plan asks for.
+fn sized(ports: &mut Ports, reel: Reel, plan: Plan, name: Option<&str>) -> Status
+    requires { Underway plan reel }
 {
-    let rt = ports.rt;
-    let start = outputs::place(&rt, ports.output.get_mut());
-    if !begun(ports, reel, plan) {
-        return files::failed_output(ports, !name.is_empty());
+    if plan.small {
+        written::<{ plans::SMALL_STAGE_AREA }, { plans::SMALL_OUTPUT_AREA }>(
+            ports, reel, plan, name,
+        )
+    } else {
+        written::<{ plans::STAGE_AREA }, { plans::OUTPUT_AREA }>(ports, reel, plan, name)
     }
-    let ready = maps::begin(reel, ports);
-    let whole = lending_small::skim_small(ready, plan, ports);
-    told(ports, whole, plan, name, start, reel.map)
 }
 
-// Does a job in the file of this name. Answers the status. A file that was not kept is removed.
-fn named(ports: &mut Ports, reel: Reel, plan: Plan, name: &str) -> u64
-    requires { Usable plan × Underway plan reel }
+// Does a job in the file of this name. A file that was not kept is removed.
+fn named(ports: &mut Ports, reel: Reel, plan: Plan, name: &str) -> Status
+    requires { Underway plan reel }
 {
     let rt = ports.rt;
     match names::open(&rt, number(&rt), name) {
-        Made::Done(file) => {
+        Ok(file) => {
             ports.output = Kept::new(Outgoing::Named(file));
-            let status = if plan.small {
-                written_small(ports, reel, plan, name)
-            } else {
-                written(ports, reel, plan, name)
-            };
+            let status = sized(ports, reel, plan, Some(name));
             names::discard(&rt, number(&rt), name);
             status
         }
-        Made::Failed(error) => files::failed_name(&rt, name, &error),
-        Made::Special => files::special_file(&rt),
+        Err(MadeError::Failed(error)) => files::failed_name(&rt, name, &error),
+        Err(MadeError::Special) => files::special_file(&rt),
     }
 }
 
-// Does a job, in the file of this name if there is one; an empty name is none that is taken. Answers the status.
-pub fn run(ports: &mut Ports, reel: Reel, plan: Plan, output: Option<&str>) -> u64
-    requires { Usable plan × Underway plan reel }
+// Does a job, in the file of this name if there is one, and answers its status. An empty name is none that is taken.
+pub fn run(ports: &mut Ports, reel: Reel, plan: Plan, output: Option<&str>) -> Status
+    requires { Underway plan reel }
 {
     match output {
-        None => {
-            if plan.small {
-                return written_small(ports, reel, plan, "");
-            }
-            written(ports, reel, plan, "")
-        }
-        Some(name) => {
-            if name.is_empty() {
-                return files::no_name(&ports.rt);
-            }
-            named(ports, reel, plan, name)
-        }
+        None => sized(ports, reel, plan, None),
+        Some(name) if name.is_empty() => files::no_name(&ports.rt),
+        Some(name) => named(ports, reel, plan, name),
     }
 }

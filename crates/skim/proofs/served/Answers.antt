@@ -1,6 +1,5 @@
--- A stream that was opened stays in order, and its plan is usable.
+-- A stream that was opened stays in order, and its plan serves it.
 use Rattle.std.proofs.Common.{sym, subst, ◌∙◌}
-use Rattle.stream.proofs.InOrder.{limits_of}
 use Rattle.stream.proofs.Stays.{open-in-order}
 use Rattle.stream.specs.declared.SonicStream.{SonicStream}
 use Rattle.stream.specs.declared.Setting.TheVariants.{Speed, Pitch, Volume, StepOver}
@@ -8,7 +7,6 @@ use Rattle.jobs.specs.declared.Job.{Job}
 use Rattle.jobs.specs.Settings.{settled}
 use Rattle.serving.specs.Steady.{Fresh}
 use Rattle.serving.proofs.Fresh.{fresh-opened, fresh_set}
-use Rattle.plans.proofs.Planning.{usable-of}
 use Rattle.skimming.proofs.Starting.{ready_of}
 use Rattle.skim.proofs.served.Goals as goal
 
@@ -20,13 +18,11 @@ fresh-settled s job f =
 pub settle-stream-requires : goal.settle-stream-requires
 settle-stream-requires c =
     let job = c.args.job in
-    open-in-order job.rate job.channels job.ties _ (sym c.open.ensures ∙ c.in-Done.is)
+    open-in-order job.rate job.channels job.ties _ (sym c.open.ensures ∙ c.in-Ok.is)
 
 pub mapped-requires : goal.mapped-requires
 mapped-requires c =
     let job = c.args.job in
-    let s = c.settle-stream.result in
-    let planned = sym c.serve.ensures ∙ c.in-Planned.is in
-    let opened = fresh-opened job.rate job.channels job.ties _ (sym c.open.ensures ∙ c.in-Done.is) in
-    let fresh = subst Fresh (sym c.settle-stream.ensures.1) (fresh-settled _ job opened) in
-    (usable-of s _ (limits_of s c.settle-stream.ensures.0) planned, λ map. ready_of s c.args.source map _ fresh planned)
+    let opened = fresh-opened job.rate job.channels job.ties _ (sym c.open.ensures ∙ c.in-Ok.is) in
+    let fresh = subst Fresh (sym c.settle-stream.ensures.settled) (fresh-settled _ job opened) in
+    (λ map. ready_of c.settle-stream.result c.args.source map c.in-Some.plan fresh c.in-Some.ensures)
