@@ -89,7 +89,7 @@ fn drain_full(
 }
 
 // Writes a block to the stream, and writes out what that makes. Between its writes fewer frames wait than a block
-// holds.
+// holds. A `while`: where a write ends, what the stream then holds says.
 fn write_block<const STAGE: usize, const OUTPUT: usize>(
     mut reel: Reel,
     block: &[i16],

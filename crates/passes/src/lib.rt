@@ -37,7 +37,7 @@ impl Span {
         }
     }
 
-    // The longer of two, and this one if they are as long.
+    // The longer of two, and this one if they are as long. An `if`: by `max_by_key` the proof did not close.
     fn longer(self, other: Span) -> Span
         ensures { result ≡ longer self other }
     {

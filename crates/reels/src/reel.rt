@@ -46,7 +46,7 @@ pub struct Reel {
     pub map: Option<u32>,
 }
 
-// Writes out the first `count` values.
+// Writes out the first `count` values: a count beside them, since `pcm::encode` takes one.
 fn write_values<W: Write>(
     writer: &mut W,
     values: &[f32],
