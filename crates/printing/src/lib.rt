@@ -5,9 +5,10 @@
 use fill::{Outcome, Told};
 use frames::Frames;
 use scripts::sums::{area_sum, bits};
-use stream::{Balance, SonicStream};
+use stream::{Balance, Refusal, SonicStream};
 
-// Prints bytes as they are. Here and below, a write that fails is passed over.
+// Prints bytes as they are. Here and below, a write that fails is passed over, and each piece is a write of its own, as
+// what reads the program's output may see.
 pub fn print(rt: &impl Print, text: &[u8]) {
     let _ = rt.write_all(text);
 }
@@ -33,26 +34,25 @@ fn print_frames(rt: &impl Print, n: Frames) {
 }
 
 // Prints a refusal with its number.
-pub fn print_refused(rt: &impl Print, number: u32) {
+pub fn print_refused(rt: &impl Print, refusal: Refusal) {
     print(rt, b" refused");
-    print_count(rt, number as u64);
+    print_count(rt, refusal as u64);
 }
 
-// Prints the outcome of a write or a flush.
-fn print_outcome(rt: &impl Print, outcome: Outcome) {
+// The word of an outcome, behind a space. `fill` has no Display of it: these are words of stored runs alone.
+fn word_of(outcome: Outcome) -> &'static [u8] {
     match outcome {
-        Outcome::Empty => print(rt, b" empty"),
-        Outcome::Copied => print(rt, b" copied"),
-        Outcome::Waiting => print(rt, b" waiting"),
-        Outcome::Stretched => print(rt, b" stretched"),
-        Outcome::Stalled => print(rt, b" stalled"),
+        Outcome::Empty => b" empty",
+        Outcome::Copied => b" copied",
+        Outcome::Waiting => b" waiting",
+        Outcome::Stretched => b" stretched",
+        Outcome::Stalled => b" stalled",
     }
 }
 
 // Prints what is told of a write or a flush.
 pub fn print_told(rt: &impl Print, told: Told) {
-    let outcome = told.outcome;
-    print_outcome(rt, outcome);
+    print(rt, word_of(told.outcome));
     print_count(rt, told.passed as u64);
     print_count(rt, told.sum as u64);
 }
@@ -109,12 +109,9 @@ pub fn print_stream(
     print_settings(rt, stream);
     print_state(rt, stream);
     print(rt, b" |");
-    let held = stream.held;
-    let tail = stream.tail;
-    let waiting = stream.waiting;
-    print_part(rt, held, stream.channels, input);
-    print_part(rt, tail, stream.channels, stage);
-    print_part(rt, waiting, stream.channels, output);
+    print_part(rt, stream.held, stream.channels, input);
+    print_part(rt, stream.tail, stream.channels, stage);
+    print_part(rt, stream.waiting, stream.channels, output);
     print_balance(rt, stream.balance);
     print_choices(rt, stream);
     print(rt, b"\n");

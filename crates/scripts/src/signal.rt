@@ -1,24 +1,41 @@
 // Samples to write, made from a few numbers: silence, noise, voices, and bit patterns.
 ghost use Rattle.std.specs.Prelude.{◌≡◌, ◌+◌, ◌*◌, ◌%◌, ◌^◌, ◌<◌, ◌≤◌};
+ghost use Rattle.scripts.specs.Kinds.{kind_of};
 
 use crate::sums::{float, word};
 use crate::text::Line;
 
-// The kinds of signal; any other number is silence.
-const NOISE: u64 = 1;
+// The kinds of signal.
+#[derive(Clone, Copy, Debug, PartialEq, Eq)]
+pub enum Kind {
+    Silence,
+    Noise,
+    Square,
+    Triangle,
+    // A triangle with noise.
+    Voice,
+    // A triangle in the even samples, a square of a longer period in the odd ones.
+    TwoVoices,
+    // The states of the noise as bits of an f32.
+    Patterns,
+}
 
-const SQUARE: u64 = 2;
+// The kind with a number: docs/VECTORS.md has them. Any other is silence.
+impl From<u64> for Kind {
+    ghost from_gives = { λ number kind. kind ≡ kind_of number };
 
-const TRIANGLE: u64 = 3;
-
-// A triangle with noise.
-const VOICE: u64 = 4;
-
-// A triangle in the even samples, a square of a longer period in the odd ones.
-const TWO_VOICES: u64 = 5;
-
-// The states of the noise as bits of an f32.
-const PATTERNS: u64 = 6;
+    fn from(number: u64) -> Kind {
+        match number {
+            1 => Kind::Noise,
+            2 => Kind::Square,
+            3 => Kind::Triangle,
+            4 => Kind::Voice,
+            5 => Kind::TwoVoices,
+            6 => Kind::Patterns,
+            _ => Kind::Silence,
+        }
+    }
+}
 
 // What the second of two voices has more in its period, in samples.
 const LONGER: u64 = 14;
@@ -34,7 +51,7 @@ const LOW: u16 = 12768;
 // divisor of its levels.
 #[derive(Clone, Copy)]
 pub struct Signal {
-    pub kind: u64,
+    pub kind: Kind,
     pub seed: u32,
     pub period: u32,
     pub divisor: u16,
@@ -42,11 +59,12 @@ pub struct Signal {
 
 // The signal of a write's line.
 pub fn signal_of(line: Line) -> Signal {
+    let [kind, seed, period, divisor, _] = line.numbers;
     Signal {
-        kind: line.a,
-        seed: word(line.b),
-        period: word(line.c),
-        divisor: (line.d % 65536) as u16,
+        kind: Kind::from(kind),
+        seed: word(seed),
+        period: word(period),
+        divisor: (divisor % 65536) as u16,
     }
 }
 
@@ -73,19 +91,12 @@ fn square(place: u64, period: u64) -> u16
     }
 }
 
-// The smaller of two numbers.
-fn least(a: u64, b: u64) -> u64
-    ensures { result ≤ a }
-{
-    if a < b { a } else { b }
-}
-
 // Up to the middle of the period and down again.
 fn triangle(place: u64, period: u64) -> u16
     requires { (0 < period) × (period ≤ 4294967296) }
 {
     let phase = place % period;
-    let way = least(phase, period - phase);
+    let way = phase.min(period - phase);
     (way * 131_070 / period % 65536) as u16
 }
 
@@ -94,39 +105,32 @@ fn voice(level: u16, state: u32) -> u16 {
     (level as u32 * 3 / 4 + state / 0x4_0000) as u16
 }
 
-// The level of a signal at a place.
-fn level(kind: u64, state: u32, place: u64, period: u64) -> u16
+// The level of a signal at a place. Patterns have none.
+fn level(kind: Kind, state: u32, place: u64, period: u64) -> u16
     requires { (0 < period) × (period ≤ 4294967296) }
 {
     match kind {
-        NOISE => noise(state),
-        SQUARE => square(place, period),
-        TRIANGLE => triangle(place, period),
-        VOICE => voice(triangle(place, period), state),
-        TWO_VOICES => {
+        Kind::Noise => noise(state),
+        Kind::Square => square(place, period),
+        Kind::Triangle => triangle(place, period),
+        Kind::Voice => voice(triangle(place, period), state),
+        Kind::TwoVoices => {
             if place % 2 == 0 {
                 triangle(place, period)
             } else {
                 square(place, period + LONGER)
             }
         }
-        _ => MIDDLE,
+        Kind::Silence | Kind::Patterns => MIDDLE,
     }
-}
-
-// A period that a place can be divided by.
-fn at_least_one(period: u32) -> u64
-    ensures { (0 < result) × (result ≤ 4294967296) }
-{
-    if period == 0 { 1 } else { period as u64 }
 }
 
 // A signal's sample at a place.
 fn sample(signal: Signal, state: u32, place: u64) -> f32 {
-    if signal.kind == PATTERNS {
+    if signal.kind == Kind::Patterns {
         return float(state);
     }
-    let period = at_least_one(signal.period);
+    let period = signal.period.max(1) as u64;
     (level(signal.kind, state, place, period) as f32 - 32768.0) / signal.divisor as f32
 }
 
@@ -134,12 +138,9 @@ fn sample(signal: Signal, state: u32, place: u64) -> f32 {
 pub fn fill(signal: Signal, samples: &mut [f32]) {
     let mut state = signal.seed;
     let mut place = signal.seed as u64;
-    let mut i: usize = 0;
-    while i < samples.len() {
+    for x in samples.iter_mut() {
         state = stepped(state);
-        let x = sample(signal, state, place);
-        samples[i] = x;
-        place = std::num::wrapping_add_u64(place, 1);
-        i += 1;
+        *x = sample(signal, state, place);
+        place = place.wrapping_add(1);
     }
 }

@@ -1,40 +1,26 @@
 // Lines of a letter and up to five numbers. A number follows one space; it is decimal, or hexadecimal behind an `x`.
-ghost use Rattle.std.specs.Prelude.{◌<◌, ◌≤◌, length};
+ghost use Rattle.std.specs.Prelude.{◌≡◌, ◌+◌, ◌<◌, ◌≤◌, length, IfSome};
 
 // Digits join a number while it is at most this, so that it does not pass 64 bits.
 const MOST_DECIMAL: u64 = 1_000_000_000_000_000_000;
 
 const MOST_HEXADECIMAL: u64 = 0x0fff_ffff_ffff_ffff;
 
-const NO_DIGIT: u64 = 16;
-
-// One line: its letter, its numbers, 0 for those that it lacks, and the place behind it.
-#[derive(Clone, Copy)]
+// One line: its letter, and its numbers, 0 for those that it lacks.
+#[derive(Clone, Copy, Debug)]
 pub struct Line {
     pub letter: u8,
-    pub a: u64,
-    pub b: u64,
-    pub c: u64,
-    pub d: u64,
-    pub e: u64,
-    pub next: usize,
+    pub numbers: [u64; 5],
 }
 
-// A number, and the place behind its last digit.
-#[derive(Clone, Copy)]
-struct Number {
-    value: u64,
-    next: usize,
-}
-
-// The value of a digit, or NO_DIGIT.
-fn digit(byte: u8) -> u64
-    ensures { result ≤ 16 }
+// The value of a digit. Those from `a` on count in a decimal number, too.
+fn digit(byte: u8) -> Option<u64>
+    ensures { IfSome result (λ d. d < 16) }
 {
     match byte {
-        b'0'..=b'9' => (byte - b'0') as u64,
-        b'a'..=b'f' => (byte - b'a') as u64 + 10,
-        _ => NO_DIGIT,
+        b'0'..=b'9' => Some((byte - b'0') as u64),
+        b'a'..=b'f' => Some((byte - b'a') as u64 + 10),
+        _ => None,
     }
 }
 
@@ -42,93 +28,61 @@ fn digit(byte: u8) -> u64
 fn joined(value: u64, digit: u64, hexadecimal: bool) -> u64
     requires { digit < 16 }
 {
-    if hexadecimal {
-        if value > MOST_HEXADECIMAL {
-            return value;
-        }
-        return value * 16 + digit;
+    if hexadecimal && value <= MOST_HEXADECIMAL {
+        value * 16 + digit
+    } else if !hexadecimal && value <= MOST_DECIMAL {
+        value * 10 + digit
+    } else {
+        value
     }
-    if value > MOST_DECIMAL {
-        return value;
-    }
-    value * 10 + digit
 }
 
-// The place behind one byte, where it stands there.
-fn behind(text: &[u8], at: usize, byte: u8) -> usize
-    requires { at ≤ length text.now }
-    ensures { (at ≤ result) × (result ≤ length text.now) }
-{
-    if at < text.len() {
-        if text[at] == byte {
-            return at + 1;
-        }
-    }
-    at
-}
-
-// The digits from a place on.
-fn digits(text: &[u8], at: usize, hexadecimal: bool) -> Number
-    requires { at ≤ length text.now }
-    ensures { (at ≤ result.next) × (result.next ≤ length text.now) }
-{
-    let mut value: u64 = 0;
-    let mut i = at;
-    while i < text.len() {
-        let next = digit(text[i]);
-        if next == NO_DIGIT {
-            break;
-        }
+// The number of the digits that a text begins with, and the text behind them.
+fn digits(text: &[u8], hexadecimal: bool) -> (u64, &[u8]) {
+    let mut value = 0;
+    for (i, b) in text.iter().enumerate() {
+        let Some(next) = digit(*b) else {
+            return (value, &text[i..]);
+        };
         value = joined(value, next, hexadecimal);
-        i += 1;
     }
-    Number { value, next: i }
+    (value, &[])
 }
 
-// The number from a place on.
-fn number_at(text: &[u8], at: usize) -> Number
-    requires { at ≤ length text.now }
-    ensures { (at ≤ result.next) × (result.next ≤ length text.now) }
-{
-    let start = behind(text, at, b' ');
-    let first = behind(text, start, b'x');
-    digits(text, first, start < first)
-}
-
-// The place behind the next line feed, or the end.
-fn line_end(text: &[u8], at: usize) -> usize
-    requires { at ≤ length text.now }
-    ensures { (at ≤ result) × (result ≤ length text.now) }
-{
-    let mut i = at;
-    while i < text.len() {
-        if text[i] == b'\n' {
-            return i + 1;
-        }
-        i += 1;
+// The number that a text begins with, and the text behind it.
+fn number(text: &[u8]) -> (u64, &[u8]) {
+    let start = text.strip_prefix(b" ").unwrap_or(text);
+    match start.strip_prefix(b"x") {
+        Some(first) => digits(first, true),
+        None => digits(start, false),
     }
-    i
 }
 
-// The line from a place on.
-pub fn parse(text: &[u8], at: usize) -> Line
-    requires { at < length text.now }
-    ensures { (at < result.next) × (result.next ≤ length text.now) }
+// The first line of a text, and the text behind it. A line feed ends a line, but not as its letter.
+pub fn split_line(text: &[u8]) -> (&[u8], &[u8])
+    requires { 0 < length text.now }
+    ensures some { 0 < length result.0.now }
+    ensures whole { length result.0.now + length result.1.now ≡ length text.now }
 {
-    let letter = text[at];
-    let first = number_at(text, at + 1);
-    let second = number_at(text, first.next);
-    let third = number_at(text, second.next);
-    let fourth = number_at(text, third.next);
-    let fifth = number_at(text, fourth.next);
-    let next = line_end(text, fifth.next);
+    match text[1..].iter().position(|b| *b == b'\n') {
+        Some(n) => text.split_at(n + 2),
+        None => (text, &[]),
+    }
+}
+
+// A line's letter and numbers.
+pub fn parse(line: &[u8]) -> Line
+    requires { 0 < length line.now }
+{
+    let mut numbers = [0; 5];
+    let mut text = &line[1..];
+    for value in numbers.iter_mut() {
+        let (next, behind) = number(text);
+        *value = next;
+        text = behind;
+    }
     Line {
-        letter,
-        a: first.value,
-        b: second.value,
-        c: third.value,
-        d: fourth.value,
-        e: fifth.value,
-        next,
+        letter: line[0],
+        numbers,
     }
 }

@@ -2,10 +2,12 @@
 use scripts::sums::{float, word};
 use stream::SonicStream;
 
-// A stream with a field of opening or setting set: its place in the struct, and its number or bits.
-fn with_setting(mut stream: SonicStream, field: u64, value: u64) -> SonicStream {
+// A stream with the field at a place of the struct set to a number, or a float to its bits. The places are numbers here,
+// as docs/VECTORS.md counts them: names would be the fields' own once more.
+pub fn with_field(mut stream: SonicStream, field: u64, value: u64) -> SonicStream {
     let w = word(value);
     let x = float(w);
+    let n = value as usize;
     match field {
         0 => stream.rate = w,
         1 => stream.channels = w,
@@ -14,15 +16,7 @@ fn with_setting(mut stream: SonicStream, field: u64, value: u64) -> SonicStream 
         4 => stream.volume = x,
         5 => stream.sample_period = x,
         6 => stream.input_play_time = x,
-        _ => stream.time_error = x,
-    }
-    stream
-}
-
-// A stream with a position, a part of the period record, a count of frames, a total, `step_over` or `ties` set.
-fn with_count(mut stream: SonicStream, field: u64, value: u64) -> SonicStream {
-    let n = value as usize;
-    match field {
+        7 => stream.time_error = x,
         8 => stream.old_rate_position = n,
         9 => stream.new_rate_position = n,
         10 => stream.prev_period = n,
@@ -32,17 +26,8 @@ fn with_count(mut stream: SonicStream, field: u64, value: u64) -> SonicStream {
         14 => stream.waiting.0 = n,
         15 => stream.balance.skipped = value,
         16 => stream.balance.inserted = value,
-        17 => stream.step_over = word(value),
-        _ => stream.ties = word(value),
+        17 => stream.step_over = w,
+        _ => stream.ties = w,
     }
     stream
-}
-
-// A stream with the field at a place of the struct set to a number, or a float to its bits.
-pub fn with_field(stream: SonicStream, field: u64, value: u64) -> SonicStream {
-    if field < 8 {
-        with_setting(stream, field, value)
-    } else {
-        with_count(stream, field, value)
-    }
 }

@@ -8,71 +8,55 @@ pub use edits::with_field;
 use printing::{print_count, print_refused};
 use scripts::sums::{float, word};
 use scripts::text::Line;
-use stream::{Available, Changed, Opened, Setting, SonicStream, Ties};
+use stream::{Setting, SonicStream, Ties};
 
 // The stream before the first opening: that of a refused one.
 pub fn unopened() -> SonicStream {
-    match SonicStream::new(0, 0) {
-        Opened::Refused {
-            number: _,
-            given: _,
-            stream,
-        } => stream,
-        Opened::Done(stream) => stream,
-    }
+    SonicStream::new(0, 0).unwrap_or_else(|refused| refused.stream)
 }
 
 // Opens a stream. A refusal carries the number given.
 fn open(rt: &impl Print, rate: u32, channels: u32, ties: u32) -> SonicStream {
-    match SonicStream::with_ties(rate, channels, Ties::from(ties)) {
-        Opened::Refused {
-            number,
-            given,
-            stream,
-        } => {
-            print_refused(rt, number);
-            print_count(rt, given as u64);
-            stream
-        }
-        Opened::Done(stream) => stream,
-    }
+    SonicStream::with_ties(rate, channels, Ties::from(ties)).unwrap_or_else(|refused| {
+        print_refused(rt, refused.refusal);
+        print_count(rt, refused.given as u64);
+        refused.stream
+    })
 }
 
 // Changes a setting.
 fn set(rt: &impl Print, stream: SonicStream, setting: Setting) -> SonicStream {
-    match stream.set(setting) {
-        Changed::Refused(number, after) => {
-            print_refused(rt, number);
-            after
-        }
-        Changed::Done(after) => after,
-    }
+    stream.set(setting).unwrap_or_else(|refused| {
+        print_refused(rt, refused.refusal);
+        refused.stream
+    })
 }
 
 // Asks for the frames available.
 fn available(rt: &impl Print, stream: SonicStream) -> SonicStream {
     match stream.available_frames() {
-        Available::Refused(number, after) => {
-            print_refused(rt, number);
-            after
-        }
-        Available::Waiting(n) => {
+        Ok(n) => {
             print_count(rt, n.0 as u64);
             stream
+        }
+        Err(refused) => {
+            print_refused(rt, refused.refusal);
+            refused.stream
         }
     }
 }
 
-// Makes the call of a line that names no areas.
+// Makes the call of a line that names no areas. The letters are bytes here and in `replay`, as docs/VECTORS.md has them:
+// an enum would list them once more.
 pub fn small_call(rt: &impl Print, stream: SonicStream, line: Line) -> SonicStream {
-    let letter = line.letter;
-    let first = word(line.a);
-    match letter {
-        b'o' => open(rt, first, word(line.b), word(line.c)),
-        b's' => set(rt, stream, Setting::Speed(float(first))),
-        b'p' => set(rt, stream, Setting::Pitch(float(first))),
-        b'v' => set(rt, stream, Setting::Volume(float(first))),
-        b't' => set(rt, stream, Setting::StepOver(first > 0)),
+    let [first, second, third, ..] = line.numbers;
+    let value = word(first);
+    match line.letter {
+        b'o' => open(rt, value, word(second), word(third)),
+        b's' => set(rt, stream, Setting::Speed(float(value))),
+        b'p' => set(rt, stream, Setting::Pitch(float(value))),
+        b'v' => set(rt, stream, Setting::Volume(float(value))),
+        b't' => set(rt, stream, Setting::StepOver(value > 0)),
         _ => available(rt, stream),
     }
 }

@@ -1,26 +1,26 @@
 // The calls, with the areas lent as far as the lengths say. Each prints what the call answers and hands back its
 // stream.
-use crate::lent::{LentLengths, of_area, of_slice};
+use crate::lent::{LentLengths, of_slice};
 use frames::Frames;
 use printing::{print_count, print_refused, print_told, print_word};
 use scripts::signal::{Signal, fill};
 use scripts::sums::slice_sum;
-use sonic::{Gave, Wrote};
+use sonic::{Gave, Refused, Wrote};
 use stream::SonicStream;
 
 // What the places of a read's slice hold before it.
 const UNREAD: f32 = 0.5;
 
 // Prints the answer of a write or a flush.
-fn wrote(rt: &impl Print, answer: Wrote) -> SonicStream {
+fn wrote(rt: &impl Print, answer: Result<Wrote, Refused>) -> SonicStream {
     match answer {
-        Wrote::Refused(number, after) => {
-            print_refused(rt, number);
-            after
+        Ok(wrote) => {
+            print_told(rt, wrote.told);
+            wrote.stream
         }
-        Wrote::Done(told, after) => {
-            print_told(rt, told);
-            after
+        Err(refused) => {
+            print_refused(rt, refused.refusal);
+            refused.stream
         }
     }
 }
@@ -44,10 +44,10 @@ pub fn write(
     scratch: &mut [i16],
 ) -> SonicStream {
     let n = of_slice(count, samples);
-    let a = of_area(lent.input, input);
-    let b = of_area(lent.stage, stage);
-    let c = of_area(lent.output, output);
-    let d = of_area(lent.scratch, scratch);
+    let a = of_slice(lent.input, input);
+    let b = of_slice(lent.stage, stage);
+    let c = of_slice(lent.output, output);
+    let d = of_slice(lent.scratch, scratch);
     let answer = sonic::write_f32(
         stream,
         &samples[..n],
@@ -69,10 +69,10 @@ pub fn flush(
     output: &mut [i16],
     scratch: &mut [i16],
 ) -> SonicStream {
-    let a = of_area(lent.input, input);
-    let b = of_area(lent.stage, stage);
-    let c = of_area(lent.output, output);
-    let d = of_area(lent.scratch, scratch);
+    let a = of_slice(lent.input, input);
+    let b = of_slice(lent.stage, stage);
+    let c = of_slice(lent.output, output);
+    let d = of_slice(lent.scratch, scratch);
     let answer = sonic::flush(
         stream,
         &mut input[..a],
@@ -83,25 +83,16 @@ pub fn flush(
     wrote(rt, answer)
 }
 
-// Fills a slice with UNREAD.
-fn clear(slice: &mut [f32]) {
-    let mut i: usize = 0;
-    while i < slice.len() {
-        slice[i] = UNREAD;
-        i += 1;
-    }
-}
-
 // Prints the answer of a read.
-fn gave(rt: &impl Print, answer: Gave) -> SonicStream {
+fn gave(rt: &impl Print, answer: Result<Gave, Refused>) -> SonicStream {
     match answer {
-        Gave::Refused(number, after) => {
-            print_refused(rt, number);
-            after
+        Ok(gave) => {
+            print_count(rt, gave.frames.0 as u64);
+            gave.stream
         }
-        Gave::Done(n, after) => {
-            print_count(rt, n.0 as u64);
-            after
+        Err(refused) => {
+            print_refused(rt, refused.refusal);
+            refused.stream
         }
     }
 }
@@ -119,8 +110,8 @@ pub fn read(
 ) -> SonicStream {
     let n = of_slice(count, samples);
     let slice = &mut samples[..n];
-    clear(slice);
-    let c = of_area(lent.output, output);
+    slice.fill(UNREAD);
+    let c = of_slice(lent.output, output);
     let answer = sonic::read_f32(stream, Frames(most), slice, &mut output[..c]);
     let after = gave(rt, answer);
     print_word(rt, slice_sum(slice));

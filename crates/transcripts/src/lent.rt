@@ -10,16 +10,10 @@ pub struct LentLengths {
     pub scratch: usize,
 }
 
-// A length, or that of the whole area where it has less.
-pub fn of_area(n: usize, area: &[i16]) -> usize
-    ensures { (result ≤ length area.now) × (result ≡ length (take result area.now)) }
-{
-    if n < area.len() { n } else { area.len() }
-}
-
 // A length, or that of the whole slice where it has less.
-pub fn of_slice(n: usize, slice: &[f32]) -> usize
-    ensures { (result ≤ length slice.now) × (result ≡ length (take result slice.now)) }
+pub fn of_slice<T>(n: usize, slice: &[T]) -> usize
+    ensures bound { result ≤ length slice.now }
+    ensures length { result ≡ length (take result slice.now) }
 {
-    if n < slice.len() { n } else { slice.len() }
+    n.min(slice.len())
 }

@@ -1,7 +1,7 @@
 // The replay: line after line, each on the stream and the lengths that the lines before have left.
 use printing::{print, print_stream};
 use scripts::signal::signal_of;
-use scripts::text::{Line, parse};
+use scripts::text::{Line, parse, split_line};
 use small_calls::{small_call, unopened, with_field};
 use stream::SonicStream;
 use transcripts::calls::{flush, make, read, write};
@@ -16,27 +16,25 @@ struct Session {
 
 // The lengths of a line.
 fn lengths(line: Line) -> LentLengths {
+    let [input, stage, output, scratch, _] = line.numbers;
     LentLengths {
-        input: line.a as usize,
-        stage: line.b as usize,
-        output: line.c as usize,
-        scratch: line.d as usize,
+        input: input as usize,
+        stage: stage as usize,
+        output: output as usize,
+        scratch: scratch as usize,
     }
 }
 
 // The session after a line: lengths and a field are noted.
 fn noted(session: Session, line: Line) -> Session {
-    let lent = session.lent;
-    let stream = session.stream;
-    let letter = line.letter;
-    match letter {
+    match line.letter {
         b'l' => Session {
-            stream,
             lent: lengths(line),
+            ..session
         },
         b'e' => Session {
-            stream: with_field(stream, line.a, line.b),
-            lent,
+            stream: with_field(session.stream, line.numbers[0], line.numbers[1]),
+            ..session
         },
         _ => session,
     }
@@ -44,10 +42,7 @@ fn noted(session: Session, line: Line) -> Session {
 
 // Whether a line is a call: it is no title, and names no lengths and no field.
 fn is_call(letter: u8) -> bool {
-    match letter {
-        b'#' | b'l' | b'e' => false,
-        _ => true,
-    }
+    !matches!(letter, b'#' | b'l' | b'e')
 }
 
 // Makes the call of a line.
@@ -62,10 +57,9 @@ fn call(
     output: &mut [i16],
     scratch: &mut [i16],
 ) -> SonicStream {
-    let letter = line.letter;
-    match letter {
+    match line.letter {
         b'w' => {
-            let count = line.e as usize;
+            let count = line.numbers[4] as usize;
             make(signal_of(line), count, samples);
             write(
                 rt, stream, count, samples, lent, input, stage, output, scratch,
@@ -75,8 +69,8 @@ fn call(
         b'r' => read(
             rt,
             stream,
-            line.a as usize,
-            line.b as usize,
+            line.numbers[0] as usize,
+            line.numbers[1] as usize,
             lent,
             samples,
             output,
@@ -126,18 +120,23 @@ pub(crate) fn replay_all(
             scratch: 0,
         },
     };
-    let mut at: usize = 0;
-    while at < text.len() {
-        let line = parse(text, at);
-        let next = line.next;
-        print(rt, &text[at..next]);
+    let mut rest = text;
+    while !rest.is_empty() {
+        let (text, behind) = split_line(rest);
+        print(rt, text);
+        let line = parse(text);
         session = noted(session, line);
-        let stream = session.stream;
-        let lent = session.lent;
-        let after = follow(
-            rt, stream, line, lent, samples, input, stage, output, scratch,
+        session.stream = follow(
+            rt,
+            session.stream,
+            line,
+            session.lent,
+            samples,
+            input,
+            stage,
+            output,
+            scratch,
         );
-        session.stream = after;
-        at = next;
+        rest = behind;
     }
 }
