@@ -9,7 +9,8 @@ use frames::Frames;
 use process::Wrote;
 use stream::{Refusal, SonicStream};
 
-// The work of a call that has put n frames behind those held. The period is that of the rate.
+// The work of a call that has put n frames behind those held. The period is that of the rate. Stream, period and n as
+// they come: docs/CRATES.md names this function.
 pub fn process_added(
     stream: SonicStream,
     period: f32,

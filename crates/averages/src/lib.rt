@@ -61,7 +61,7 @@ fn mean_of_two(a: i16, b: i16) -> i16
     (sum / 2) as i16
 }
 
-// The first `num_values` means of 2 samples each, at the front of `out`.
+// The first `num_values` means of 2 samples each, at the front of `out`. A loop apart, for speed (docs/DECISIONS.md).
 fn down_sample_by_two(samples: &[i16], out: &mut [i16], num_values: usize)
     requires { Averageable (length samples.now) (length out.old) num_values 2 }
     ensures { out.new ≡ down_sample_input samples.now num_values 2
@@ -72,7 +72,9 @@ fn down_sample_by_two(samples: &[i16], out: &mut [i16], num_values: usize)
     }
 }
 
-// The first `num_values` means of `per_value` samples each, at the front of `out`. Two values are made at a time.
+// The first `num_values` means of `per_value` samples each, at the front of `out`. Two values are made at a time. The
+// count stands beside: the scratch is lent longer, and the rest of it stays. `Averageable`, of two slices and two
+// counts, stays a clause.
 pub fn down_sample_input(samples: &[i16], out: &mut [i16], num_values: usize, per_value: Samples)
     requires { Averageable (length samples.now) (length out.old) num_values per_value.0 }
     ensures { out.new ≡ down_sample_input samples.now num_values per_value.0

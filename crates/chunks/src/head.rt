@@ -43,7 +43,8 @@ fn put_data(dest: &mut [u8], size: u32)
     put(dest, 40, size.to_le_bytes());
 }
 
-// Puts the head of a file whose samples take `size` bytes at the front of the destination.
+// Puts the head of a file whose samples take `size` bytes at the front of the destination. The limits stay clauses:
+// `plans::Opening`, which keeps them, stands above this crate.
 pub fn put_head(dest: &mut [u8], rate: u32, channels: u32, size: u32)
     requires { (44 ≤ length dest.old) × (rate ≤ 500000) × (channels ≤ 32) × (36 + size < 2 ^ 32) }
     ensures { dest.new ≡ paste dest.old 0 (head_of rate channels size) 44 }

@@ -3,7 +3,8 @@ ghost use Rattle.std.specs.Prelude.{◌≡◌, ◌+◌, ◌≤◌, length};
 ghost use Rattle.std.proofs.Math.Seq.{paste};
 ghost use Rattle.chunks.specs.Numbers.{u16_at, u32_at};
 
-// The number of two bytes. One function for two and four bytes would need a trait over u16 and u32: no plainer.
+// The number of two bytes. One function for two and four bytes would need a trait over u16 and u32: no plainer. At a
+// place: a head's numbers stand where the format fixes them.
 pub(crate) fn u16_at(bytes: &[u8], at: usize) -> u16
     requires { at + 2 ≤ length bytes.now }
     ensures { result ≡ u16_at bytes.now at }

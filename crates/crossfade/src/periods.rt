@@ -7,7 +7,8 @@ ghost use Rattle.search.specs.Search.{longest_period};
 use crate::crossfades::overlap_add;
 use frames::{Frames, Samples};
 
-// Copies n frames of the input from the position on to the place `to` of the area.
+// Copies n frames of the input from the position on to the place `to` of the area. Input, channels and position stay
+// apart here and below: each function has bounds of its own.
 pub fn copy_unmodified_samples(
     input: &[i16],
     channels: usize,

@@ -31,7 +31,8 @@ impl Decimal {
     }
 }
 
-// The number of the text's digits behind those of `before`.
+// The number of the text's digits behind those of `before`. Not `parse`: that takes a sign and more than 15 digits, and
+// begins anew behind a point.
 fn read_digits(before: u64, text: &[u8]) -> Option<u64>
     ensures { result ≡ digits_from before text.now }
 {

@@ -10,7 +10,8 @@ use crate::{Filled, Outcome, nothing, removed};
 use frames::{Frames, Samples};
 use stream::{Refusal, SonicStream};
 
-// Copies all frames of the input to their destination, which has room for them.
+// Copies all frames of the input to their destination, which has room for them. `AreasFit` and what is ensured relate
+// areas before and after, which no type holds.
 fn copy_frames(
     stream: SonicStream,
     input: &[i16],

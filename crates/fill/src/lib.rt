@@ -49,7 +49,8 @@ pub struct Filled {
     pub told: Told,
 }
 
-// The stream without the first `used` frames of its input.
+// The stream without the first `used` frames of its input. That the sample period is that of the rate stays a clause: C
+// hands any stream value over, so that `SonicStream` has no ghost field.
 pub(crate) fn removed(stream: SonicStream, used: Frames) -> SonicStream
     requires { (used.0 ≤ stream.held.0) × (stream.held.0 ≤ 2 ^ 24)
         × (stream.sample_period ≡ sample_period stream.rate) }

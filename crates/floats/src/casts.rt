@@ -16,7 +16,7 @@ pub fn f64_to_f32(x: f64) -> f32
     }
 }
 
-// x as an i32: cut toward zero, held to the range; 0 for a NaN.
+// x as an i32: cut toward zero, held to the range; 0 for a NaN. One for each type, as std has them.
 pub fn f32_to_i32(x: f32) -> i32
     ensures { result ≡ to_signed 31 x }
 {
@@ -30,7 +30,8 @@ pub fn f32_to_usize(x: f32) -> usize
     std::num::saturating_f32_to_usize(x)
 }
 
-// A count of frames, which an f32 holds exactly.
+// A count of frames, which an f32 holds exactly. The bound stays a clause here and above: `Frames` has no ghost field,
+// since C has it.
 pub fn frames_to_f32(n: Frames) -> f32
     requires { n.0 ≤ 2 ^ 24 }
     ensures { result ≡ count n.0 }

@@ -77,7 +77,8 @@ pub fn error_copied(error: f32, s: f32, sample_period: f32, n: Frames) -> f32
     crate::casts::f64_to_f32(old + time * (wide - 1.0) / wide)
 }
 
-// The time error after `made` frames out for `used` frames of the input, of which `held` play for `play`.
+// The time error after `made` frames out for `used` frames of the input, of which `held` play for `play`. The numbers
+// of a step stay parameters: `stretch::StretchCall`, which has them, stands above this crate.
 fn error_moved(
     error: f32,
     sample_period: f32,

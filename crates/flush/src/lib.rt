@@ -66,7 +66,8 @@ fn flush_frames(
     })
 }
 
-// Makes frames of what is held, and clears it.
+// Makes frames of what is held, and clears it. Refusal 5 is tested as `begin_write` tests it, which goes by a count of
+// samples.
 pub fn flush(
     stream: SonicStream,
     input: &mut [i16],

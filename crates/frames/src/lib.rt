@@ -40,7 +40,8 @@ impl Samples {
 }
 
 // Copies `count` samples of the source, from `from` on, to the place `to` of the area. A loop, not `copy_from_slice`:
-// that stores some samples twice (40 of 1,000), and tests/removal.rs counts one store of each.
+// that stores some samples twice (40 of 1,000), and tests/removal.rs counts one store of each. Places and counts stand
+// beside areas here and above: each contract speaks of the whole area (`paste`); of a cut one it would speak of parts.
 pub fn copy(source: &[i16], from: Samples, count: Samples, area: &mut [i16], to: Samples)
     requires { (from.0 + count.0 ≤ length source.now) × (to.0 + count.0 ≤ length area.old) }
     ensures { area.new ≡ paste area.old to.0 (drop from.0 source.now) count.0 }
@@ -90,7 +91,7 @@ fn move_blocks(area: &mut [i16], count: Samples, kept: Samples) -> Samples
     Samples(blocks * BLOCK)
 }
 
-// Moves samples one by one to a place further to the front.
+// Moves samples one by one to a place further to the front. Not `copy`, which is lent the source apart from the area.
 fn move_samples(area: &mut [i16], from: Samples, to: Samples, count: Samples)
     requires order { to.0 ≤ from.0 }
     requires within { from.0 + count.0 ≤ length area.old }

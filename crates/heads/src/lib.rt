@@ -32,7 +32,8 @@ pub enum BadInput {
 const SKIPPED: usize = 4096;
 
 // The bytes that came of a chunk's head, if it is cut; those that are looked at behind it, and those of them that came;
-// the size of a data chunk, or 0.
+// the size of a data chunk, or 0. `claimed` is 0, and no Option: of a data chunk of no bytes nothing is told either
+// (`say_size`).
 #[derive(Clone, Copy, Debug, PartialEq, Eq)]
 struct Looked {
     cut: Option<usize>,
@@ -42,7 +43,7 @@ struct Looked {
 }
 
 // The bytes from where an input stands to its end. One that ends where it stands is taken for one that cannot be
-// sought.
+// sought. An `if`, as plain as `then`.
 fn between(start: u64, end: u64) -> Option<usize> {
     if end <= start {
         return None;
@@ -83,7 +84,7 @@ fn filled<R: Read>(reader: &mut R, block: &mut [u8]) -> Result<usize, BadInput>
 }
 
 // Reads and drops so many bytes, or as many as come, and answers how many. A read that fails behind some bytes of a
-// block is tried again.
+// block is tried again. A `while`: how far a turn goes, the read says.
 fn skip<R: Read>(reader: &mut R, count: usize, block: &mut [u8]) -> Result<usize, BadInput> {
     let mut done: usize = 0;
     while done < count {
@@ -132,7 +133,8 @@ fn look<R: Read>(reader: &mut R, window: &mut [u8]) -> Result<Looked, BadInput>
 }
 
 // Walks from chunk to chunk. A chunk takes the bytes that came of a head that is cut, or those that are left at the
-// most, if that is known. A proved loop has to end, and nothing says that the input does.
+// most, if that is known. A proved loop has to end, and nothing says that the input does. Where the bytes left are not
+// known they are as many as a number counts: every chunk fits.
 fn walk<R: Read>(reader: &mut R, start: Option<usize>) -> Result<Input, BadInput>
     ensures { IfOk result Taken }
 {
@@ -143,8 +145,11 @@ fn walk<R: Read>(reader: &mut R, start: Option<usize>) -> Result<Input, BadInput
         let mut window = [0u8; chunks::LOOKED_AT];
         let looked = look(reader, &mut window)?;
         let room = looked.cut.or(left).unwrap_or(usize::MAX);
-        let chunk = chunks::read_chunk(&window, room, format)
-            .map_err(|refusal| BadInput::Refused(refusal, format, looked.claimed))?;
+        let chunk = chunks::read_chunk(&window, room, format).map_err(|refusal| BadInput::Refused(
+            refusal,
+            format,
+            looked.claimed,
+        ))?;
         match chunk {
             Chunk::Data(size, read) => {
                 return Ok(Input::Wave(Source::of_wave(size as u64), read));
@@ -169,11 +174,7 @@ pub fn open<R: Files>(files: &R, name: &str) -> io::Result<R::File> {
 }
 
 // What an input is of which so many bytes are left, if that is known: a WAVE file if it is named, or begins with RIFF.
-pub fn begin<R: Read>(
-    reader: &mut R,
-    left: Option<usize>,
-    named: bool,
-) -> Result<Input, BadInput>
+pub fn begin<R: Read>(reader: &mut R, left: Option<usize>, named: bool) -> Result<Input, BadInput>
     ensures { IfOk result Taken }
 {
     let mut head = [0u8; chunks::FILE_HEAD];

@@ -9,7 +9,8 @@ use std::io::Read;
 
 // What the input is. The first bytes of raw PCM, up to four, are read to see what it is: `first` is their number, the
 // lowest byte first, and `ready` how many stand before what is read next. Of a WAVE file `size` is the size of its data
-// chunk, and `left` are the bytes of it that were not read yet.
+// chunk, and `left` are the bytes of it that were not read yet. `first` is a number and `ready` a count, and no slice:
+// a source is copied with its reel.
 #[derive(Clone, Copy, Debug, PartialEq, Eq)]
 pub enum Source {
     Raw { first: u32, ready: usize },
@@ -41,7 +42,8 @@ impl Source {
         matches!(self, Source::Wave { .. })
     }
 
-    // The size of the data chunk of a WAVE file, 0 of raw PCM.
+    // The size of the data chunk of a WAVE file, 0 of raw PCM. 0 of raw PCM, and no Option here and below: each caller
+    // would take None for 0.
     pub fn size(self) -> u64
         ensures { result ≡ size_of self }
     {
@@ -127,7 +129,7 @@ fn begin(block: &mut [u8], first: u32, ready: usize) -> usize
 }
 
 // Puts the bytes that stand ready at the front of the block, and reads until it is full, the input ends or a read
-// fails.
+// fails. A `while`: how far a turn goes, the read says.
 pub fn fill<R: Read>(reader: &mut R, block: &mut [u8], first: u32, ready: usize) -> BlockBytes
     ensures { (result.bytes ≤ length block.old) × (min ready (length block.old) ≤ result.bytes)
         × Begins first (min ready (length block.old)) block.new }

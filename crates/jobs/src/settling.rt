@@ -34,7 +34,8 @@ fn set(stream: SonicStream, setting: Setting) -> SonicStream
     stream.set(setting).unwrap()
 }
 
-// A fresh stream with the job's settings.
+// A fresh stream with the job's settings. That a stream is in order stays a clause: C hands any stream value over, so
+// that `SonicStream` has no ghost field.
 pub fn settle(fresh: SonicStream, job: Job) -> SonicStream
     requires { is_in_order fresh ≡ true }
     ensures in_order { is_in_order result ≡ true }

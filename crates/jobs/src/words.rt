@@ -7,7 +7,8 @@ use std::str;
 // The most bytes of an argument that is no name.
 pub(crate) const TEXT: usize = 32;
 
-// An argument, read into a text: nothing if it is missing, or longer than the text.
+// An argument, read into a text: nothing if it is missing, or longer than the text. No Option: a missing argument, as
+// an empty one, is no number, no option and no word that is asked for.
 pub(crate) fn read_word<'a>(env: &impl Env, place: usize, text: &'a mut [u8]) -> &'a [u8] {
     let n = env.arg(place, text).unwrap_or(0);
     &text[..n]
@@ -25,14 +26,16 @@ fn is_there(env: &impl Env, place: usize) -> bool {
     begins(env, place, b"")
 }
 
-// How many arguments there are, the program's name among them.
+// How many arguments there are, the program's name among them. The last place is never come to: a proved search has to
+// end.
 pub(crate) fn count(env: &impl Env) -> usize {
     (0..usize::MAX)
         .find(|place| !is_there(env, *place))
         .unwrap_or(usize::MAX)
 }
 
-// An argument that is the name of a file: empty if there is none. A name is text.
+// An argument that is the name of a file: empty if there is none. A name is text. No Option: an empty name is refused
+// as one that is missing.
 pub fn name<'a>(env: &impl Env, place: usize, text: &'a mut [u8]) -> Result<&'a str> {
     let n = match env.arg(place, text) {
         Ok(n) => n,

@@ -16,7 +16,7 @@ use frames::{Frames, Samples};
 use sinc::table::SincTable;
 use sinc::window::Window;
 
-// A search's answer.
+// A search's answer. `Found` of search, as C has it.
 #[repr(C)]
 #[derive(Clone, Copy)]
 pub struct Search {
@@ -26,7 +26,7 @@ pub struct Search {
     pub sum: usize,
 }
 
-// A period with its sum of differences.
+// A period with its sum of differences. `Candidate` of search, as C has it: no invariant is kept there.
 #[repr(C)]
 #[derive(Clone, Copy)]
 pub struct Best {

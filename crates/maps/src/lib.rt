@@ -47,7 +47,8 @@ pub fn noted_flush(reel: Reel) -> Passes
     reel.passes.note(0, span(reel.from, reel.written))
 }
 
-// After a part of the map was written, or was not taken: that is a failure, and no more is written.
+// After a part of the map was written, or was not taken: that is a failure, and no more is written. `MapWritten`
+// relates a reel before and after, which no type holds.
 fn mapped(reel: Reel, written: io::Result<()>) -> Reel
     ensures { MapWritten reel result }
 {

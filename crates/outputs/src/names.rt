@@ -33,7 +33,8 @@ fn free(files: &impl Files, name: &str) -> io::Result<bool> {
     }
 }
 
-// The name that is used meanwhile, NAME.PID.part.
+// The name that is used meanwhile, NAME.PID.part. What was written is taken by its position: std's Cursor gives no
+// slice of it.
 fn part_of<'a>(name: &str, process: u32, part: &'a mut [u8]) -> io::Result<&'a str> {
     let mut text = Cursor::new(part);
     if write!(text, "{name}.{process}.part").is_err() {

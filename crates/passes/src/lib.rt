@@ -16,7 +16,8 @@ pub struct Span {
 }
 
 impl Span {
-    // No frames.
+    // No frames. No frames. No Option: a first piece stands alone behind it, as behind any stretch, and the map leaves
+    // it out by its length.
     pub const NONE: Span = Span {
         first: 0,
         frames: 0,

@@ -9,7 +9,8 @@ use std::io::{Cursor, Write};
 // The most bytes of a line are 92: two counts of 20 digits, two times of 24, and a byte behind each.
 const LINE: usize = 92;
 
-// Writes the line of a stretch, in one call: a map that takes no more is left at the end of a line.
+// Writes the line of a stretch, in one call: a map that takes no more is left at the end of a line. What was written is
+// taken by its position: std's Cursor gives no slice of it.
 pub fn write_line<W: Write>(to: &mut W, span: Span, rate: u64) -> io::Result<()>
     requires { (1 ≤ rate) × (rate ≤ 500000) }
 {

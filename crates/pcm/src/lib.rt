@@ -23,7 +23,7 @@ pub fn decode(bytes: &[u8], count: usize, samples: &mut [i16])
     }
 }
 
-// The bytes of a sample, as a number.
+// The bytes of a sample, as a number. The definitions of bytes, here and in chunks, go by this number.
 pub fn pair(v: i16) -> u16
     ensures { result ≡ pair_of v }
 {

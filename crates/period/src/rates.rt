@@ -14,7 +14,7 @@ const MAX_PITCH_HZ: usize = 400;
 // The rate that the averages of the first search come near, in Hz.
 const AMDF_FREQ: usize = 4000;
 
-// The shortest period, in frames.
+// The shortest period, in frames. Beside `max_period`: docs/RULES.md has two names.
 pub fn min_period(rate: usize) -> usize
     ensures { result ≡ min_period rate }
 {
@@ -35,7 +35,7 @@ pub fn max_required(rate: usize) -> Frames
     Frames(2 * max_period(rate))
 }
 
-// The frames that one average takes.
+// The frames that one average takes. By two cases, as its definition has it (docs/RULES.md).
 pub(crate) fn skip(rate: usize) -> usize
     ensures { result ≡ skip rate }
 {

@@ -23,7 +23,8 @@ fn is_small(stream: SonicStream) -> bool
     s >= 4 && stream.pitch >= 0.5
 }
 
-// The samples of a job's stage.
+// The samples of a job's stage. Beside `output_area`: one function of two sizes would be no shorter, and the
+// definitions are two as well.
 #[tactic(auto, unfolding(crate::specs::Plans::stage_area))]
 fn stage_area(stream: SonicStream) -> usize
     ensures { result ≡ stage_area (is_small stream) }
@@ -87,7 +88,8 @@ fn held_within(room: usize, growth: usize) -> usize
     room.saturating_sub(TAIL_FRAMES) / growth
 }
 
-// The stretched frames whose frames at the new rate the output has room for, behind fewer than a block.
+// The stretched frames whose frames at the new rate the output has room for, behind fewer than a block. That a stream
+// is in order stays a clause: C hands any stream value over, so that `SonicStream` has no ghost field.
 fn output_room(stream: SonicStream) -> usize
     requires { is_in_order stream ≡ true }
     ensures { result ≡ output_room stream }

@@ -58,7 +58,7 @@ fn told_in(files: &impl Files, path: &str) -> Option<Place> {
 }
 
 impl Stream {
-    // Its name, which opens its file anew.
+    // Its name, which opens its file anew. A text for each: none is put together without a buffer.
     pub fn name(self) -> &'static str
         ensures { result.now ≡ name_of self }
     {

@@ -44,7 +44,7 @@ pub fn joined(stream: SonicStream, period: f32, n: Frames) -> SonicStream
 }
 
 // A call's work on the frames held: refused for a full stage, a full output or a total past 64 bits. Then the kept
-// parts stay as they came.
+// parts stay as they came. The four areas are parameters of their own throughout, as C lends them.
 pub fn process_stream_input(
     stream: SonicStream,
     input: &mut [i16],

@@ -37,7 +37,7 @@ pub struct Adjusted {
     pub at: Position,
 }
 
-// N and O of a rate in Hz and a pitch.
+// N and O of a rate in Hz and a pitch. A `while`: both are halved, and nothing is counted.
 pub fn rates_of(rate: u32, pitch: f32) -> Rates
     requires { rate ≤ 2 ^ 24 }
     ensures { result ≡ rates_of rate pitch }
@@ -52,7 +52,7 @@ pub fn rates_of(rate: u32, pitch: f32) -> Rates
 }
 
 // The new frames of the stage, which stand behind its tail, at another pitch than 1.0: behind the frames waiting in the
-// output. None if they do not fit there.
+// output. None if they do not fit there. Stage and output stay apart from what is counted in them, as they are lent.
 pub fn adjust_rate(
     stage: &[i16],
     tail: Frames,

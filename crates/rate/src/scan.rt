@@ -133,7 +133,8 @@ fn scan_tail(
     })
 }
 
-// Scans the tail. The coefficients of phases that come again are computed once, before.
+// Scans the tail. The coefficients of phases that come again are computed once, before. A call of the scan for each:
+// the array is made only where it is used.
 pub(crate) fn convert_tail(
     table: SincTable,
     stage: &[i16],

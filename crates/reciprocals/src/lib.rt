@@ -16,6 +16,7 @@ pub struct Reciprocal {
 }
 
 impl Reciprocal {
+    // That of 0 is 1, and divides nothing: a crossfade of no frames asks for it.
     pub fn new(of: usize) -> Reciprocal
         ensures { result.of ≡ of }
     {

@@ -1,7 +1,8 @@
 // What a run is lent: arrays of its caller.
 use plans::{BLOCK_BYTES, BLOCK_SAMPLES, INPUT_AREA, SCRATCH_AREA};
 
-// The four areas of the stream, of which a small job has a smaller stage and a smaller output.
+// The four areas of the stream, of which a small job has a smaller stage and a smaller output. That the sizes are those
+// of a plan (`AreSized`) stays a clause: the plan is handed on beside them.
 #[derive(Drop)]
 pub struct Areas<const STAGE: usize, const OUTPUT: usize> {
     pub input: [i16; INPUT_AREA],

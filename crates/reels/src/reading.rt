@@ -11,14 +11,16 @@ use inputs::{BlockBytes, fill};
 use plans::{BLOCK_BYTES, BLOCK_SAMPLES, Plan};
 use std::io::Read;
 
-// A reel with a block read, and the block's samples.
+// A reel with a block read, and the block's samples. A count beside the block: that stays the caller's array, and a
+// reel holds no slice.
 #[derive(Clone, Copy)]
 pub struct BlockRead {
     pub reel: Reel,
     pub samples: usize,
 }
 
-// Counts the frames of a block. One that is not full is the last, and no other leaves bytes over.
+// Counts the frames of a block. One that is not full is the last, and no other leaves bytes over. That no bytes were
+// over stays a clause: a reel whose input has ended may have some.
 fn count(reel: Reel, filled: BlockBytes, plan: Plan) -> Reel
     requires { reel.partial ≡ 0 }
     ensures { BlockCounted plan reel filled result }

@@ -38,6 +38,8 @@ pub struct Reel {
     // gave.
     pub from: u64,
     pub passed: u64,
+    // The frames that the flush gave are 0 before it, and no Option in place of `flushed`: the map asks for frames that
+    // came, flushed or not.
     pub gave: u64,
     // The stretched frames that waited in the tail before the last call.
     pub tail: Frames,
@@ -91,7 +93,8 @@ impl Reel {
         self.written.saturating_sub(self.stream.held.0 as u64)
     }
 
-    // Whether the stream takes a frame more. A run that has stalled goes on as long as its flush has room.
+    // Whether the stream takes a frame more. A run that has stalled goes on as long as its flush has room. A `match`,
+    // since a stall asks more.
     pub fn takes_more(self, plan: Plan) -> bool
         ensures { result ≡ takes_more plan self }
     {

@@ -66,7 +66,8 @@ impl RunState {
     }
 }
 
-// The writes that stalled, which do not come near 2^64, and the first frame held before the first of them.
+// The writes that stalled, which do not come near 2^64, and the first frame held before the first of them. `first` is 0
+// while none stalled: the count tells that, as in the definition (`count_stall`).
 #[derive(Clone, Copy, Debug, PartialEq, Eq)]
 pub struct Stalls {
     pub count: u64,

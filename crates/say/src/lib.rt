@@ -28,7 +28,8 @@ pub fn line(rt: &impl Print, text: &str) {
 // The most bytes of what the system says of an error.
 const WORDS: usize = 320;
 
-// Says what failed, and what the system says of it, without its number.
+// Says what failed, and what the system says of it, without its number. What was written is taken by its position:
+// std's Cursor gives no slice of it.
 pub fn failure(rt: &impl Eprint, name: &str, error: &Error) {
     let mut words = Cursor::new([0u8; WORDS]);
     let _ = write!(words, "{error}");

@@ -25,7 +25,7 @@ pub fn say_wave(rt: &impl Eprint, format: Format, size: u64) {
     say_count(rt, size, "\n");
 }
 
-// The size of a data chunk that ends past the file.
+// The size of a data chunk that ends past the file. 0 is that of none: it ends past no file.
 fn say_size(rt: &impl Eprint, size: u64) {
     if size == 0 {
         return;
@@ -106,7 +106,7 @@ pub fn say_cut(rt: &impl Eprint, size: u64, left: u64) {
     text(rt, "\n");
 }
 
-// A track that is too long for a WAVE file.
+// A track that is too long for a WAVE file. The number stands in the text: one write tells it.
 pub fn say_too_long(rt: &impl Eprint) {
     text(
         rt,

@@ -80,7 +80,8 @@ fn noise(state: u32) -> u16 {
     (state / 65536) as u16
 }
 
-// High in the first half of the period, low in the second.
+// High in the first half of the period, low in the second. `sample` holds the period to 1 or more: a type for that
+// would be longer than these clauses.
 fn square(place: u64, period: u64) -> u16
     requires { 0 < period }
 {

@@ -47,6 +47,7 @@ pub fn slice_sum(slice: &[f32]) -> u32 {
 }
 
 // The sum over the first frames of an area, as the values that a read gives for their samples, or 0 where it has fewer.
+// No Option: stored runs print a number in any case.
 pub fn area_sum(area: &[i16], count: Frames, channels: u32) -> u32 {
     match count.0.checked_mul(channels as usize) {
         Some(n) if channels > 0 && n <= area.len() => area[..n]

@@ -6,14 +6,16 @@ const MOST_DECIMAL: u64 = 1_000_000_000_000_000_000;
 
 const MOST_HEXADECIMAL: u64 = 0x0fff_ffff_ffff_ffff;
 
-// One line: its letter, and its numbers, 0 for those that it lacks.
+// One line: its letter, and its numbers, 0 for those that it lacks. A number that a line lacks is 0, as docs/VECTORS.md
+// has it.
 #[derive(Clone, Copy, Debug)]
 pub struct Line {
     pub letter: u8,
     pub numbers: [u64; 5],
 }
 
-// The value of a digit. Those from `a` on count in a decimal number, too.
+// The value of a digit. Those from `a` on count in a decimal number, too. Not `from_str_radix`: letters count in
+// decimal numbers too, and what does not fit is left out, not refused.
 fn digit(byte: u8) -> Option<u64>
     ensures { IfSome result (λ d. d < 16) }
 {

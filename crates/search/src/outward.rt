@@ -11,7 +11,8 @@ use crate::{Candidate, Ties, greater, lesser};
 const BLOCK: usize = 16;
 
 // What a search is to find: the least D(q)/q, of several by the choice of ties, looked for from a period nearby
-// outward; or the greatest.
+// outward; or the greatest. An enum, which `period` hands on to either of its searches: a closure would want clauses of
+// its own (`worst_in_range`).
 #[derive(Clone, Copy, Debug, PartialEq, Eq)]
 pub enum Wanted {
     Least(Ties, usize),

@@ -20,7 +20,8 @@ fn gap(a: i16, b: i16) -> u32
     i32::from(a).abs_diff(i32::from(b))
 }
 
-// The sum of `count` differences of a period, from difference `from` on.
+// The sum of `count` differences of a period, from difference `from` on. A difference takes samples of two places: no
+// slice has a part of the sum.
 pub(crate) fn gaps_from(samples: &[i16], period: usize, from: usize, count: usize) -> u32
     requires within { from + count ≤ period }
     requires searchable { Searchable (length samples.now) period period }

@@ -100,7 +100,8 @@ fn hold(z: i64) -> i16
     z.clamp(-32768, 32767) as i16
 }
 
-// One sample: the 12 taps of a channel, each times its weight.
+// One sample: the 12 taps of a channel, each times its weight. That the weights are small stays a clause: kept ones are
+// lent out of an array of arrays.
 fn interpolate(window: Window, channel: usize, weights: &[i32; SINC_FILTER_POINTS]) -> i16
     requires channel { channel < window.channels }
     requires small { SmallWeights weights.now }
@@ -119,7 +120,7 @@ fn interpolate(window: Window, channel: usize, weights: &[i32; SINC_FILTER_POINT
 }
 
 // One frame by 12 weights: the tail frames give one sample per channel, written from `to` on. Compiled into its callers
-// too.
+// too. The room in the output stays a clause: the output is lent to be written.
 #[inline(always)]
 fn write_frame(weights: &[i32; SINC_FILTER_POINTS], window: Window, output: &mut [i16], to: Samples)
     requires small { SmallWeights weights.now }

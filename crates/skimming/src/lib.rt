@@ -52,7 +52,9 @@ fn flush<const STAGE: usize, const OUTPUT: usize>(
     }
 }
 
-// Reads and writes some blocks, or as many as are left before the input ends or a read or a write fails.
+// Reads and writes some blocks, or as many as are left before the input ends or a read or a write fails. `Underway`
+// stays a clause: the reel changes at each step, and a struct of it and its plan would be built and copied anew. Plan,
+// ports, areas and buffers are borrowed apart: a block is read while areas are written.
 pub fn turns<const STAGE: usize, const OUTPUT: usize>(
     mut reel: Reel,
     plan: Plan,

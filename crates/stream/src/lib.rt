@@ -117,7 +117,7 @@ impl SonicStream {
         SonicStream::with_ties(rate, channels, Ties::Smallest)
     }
 
-    // Opens a stream with a choice of ties: refusals 1 and 2.
+    // Opens a stream with a choice of ties: refusals 1 and 2. Rate and channels as C and docs/RULES.md have them.
     pub fn with_ties(rate: u32, channels: u32, ties: Ties) -> Result<SonicStream, NotOpened>
         ensures { result ≡ open_call rate channels ties }
     {

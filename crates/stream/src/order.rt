@@ -9,7 +9,8 @@ ghost use Rattle.stream.specs.Order.{order_of};
 use crate::SonicStream;
 use rate::Rates;
 
-// Refusal 1 of an opening: whether no stream takes this rate.
+// Refusal 1 of an opening: whether no stream takes this rate. One for each of the refusals 1 and 2, as docs/RULES.md
+// numbers them.
 #[tactic(auto, unfolding(crate::specs::Refusals::rate_bad))]
 pub fn rate_bad(rate: u32) -> bool
     ensures { result ≡ rate_bad rate }

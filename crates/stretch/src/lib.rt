@@ -29,7 +29,8 @@ pub struct StretchCall {
     pub ties: Ties,
 }
 
-// A call that is ready: opened, with the period of a sample that its rate gives, and few frames.
+// A call that is ready: opened, with the period of a sample that its rate gives, and few frames. The slices stay beside
+// it, each with its clause: the areas are lent apart.
 #[derive(Clone, Copy, Debug, PartialEq)]
 pub struct ReadyCall {
     pub call: StretchCall,
@@ -38,7 +39,7 @@ pub struct ReadyCall {
 
 // Where a call has come to: the frames used, the time error, the period record, and the sum of differences that its
 // last search found, 0 before the first. That the record is in order hangs on the call's rate, which a place does not
-// hold, so it stays a clause (`PrevInOrder`).
+// hold, so it stays a clause (`PrevInOrder`). No Option for the sum: C's answer and `Told` of fill have 0.
 #[derive(Clone, Copy, Debug, PartialEq)]
 pub struct Place {
     pub position: Frames,

@@ -9,7 +9,8 @@ use crate::{Place, ReadyCall, Stretch, Target};
 use frames::Frames;
 use period::PeriodRecord;
 
-// A call's answer, with the sum, the time error and the period record of a place.
+// A call's answer, with the sum, the time error and the period record of a place. Field by field: a place's position is
+// `used` only where no step stalled.
 fn answer(made: Frames, used: Frames, passed: usize, place: Place, stalled: bool) -> Stretch
     ensures { result ≡ answer made.0 used.0 passed place stalled }
 {

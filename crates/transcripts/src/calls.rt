@@ -31,7 +31,8 @@ pub fn make(signal: Signal, count: usize, samples: &mut [f32]) {
     fill(signal, &mut samples[..n]);
 }
 
-// Writes the first `count` of the samples, or all of them where there are fewer.
+// Writes the first `count` of the samples, or all of them where there are fewer. The program's arrays one by one, as
+// the calls take them.
 pub fn write(
     rt: &impl Print,
     stream: SonicStream,
@@ -59,7 +60,7 @@ pub fn write(
     wrote(rt, answer)
 }
 
-// Flushes.
+// Flushes. The areas are cut as in `write`: one function of both would hand four borrows back.
 pub fn flush(
     rt: &impl Print,
     stream: SonicStream,

@@ -15,7 +15,8 @@ const TEXT: usize = 65536;
 // The most samples of an area, of a write and of a read.
 const ROOM: usize = 32768;
 
-// Reads until the buffer is full, the input ends or a read fails. Gives how many bytes were read.
+// Reads until the buffer is full, the input ends or a read fails. Gives how many bytes were read. Not `inputs::fill`,
+// which is of the tool and keeps what stands ready. A `while`: how far a turn goes, the read says.
 fn read_full<R: Read>(reader: &mut R, buf: &mut [u8]) -> usize
     ensures { result ≤ length buf.new }
 {

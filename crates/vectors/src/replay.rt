@@ -101,7 +101,7 @@ fn follow(
     after
 }
 
-// Prints and follows every line of a text.
+// Prints and follows every line of a text. A `while`: a turn takes a line.
 pub(crate) fn replay_all(
     rt: &impl Print,
     text: &[u8],

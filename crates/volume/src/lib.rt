@@ -11,7 +11,7 @@ ghost use Rattle.volume.specs.Volume.{lowest, highest, amplified, scaled};
 
 use frames::Samples;
 
-// The value held to ±32767.
+// The value held to ±32767. `sinc` holds to −32768 too: another range, a line each.
 fn hold(value: i32) -> i16
     ensures { result ≡ clamp_z lowest highest value }
 {

@@ -19,7 +19,8 @@ pub struct WaveFile {
     pub begin: usize,
 }
 
-// A refusal of `write_wave`, with the rate or the channels that were given, or 0.
+// A refusal of `write_wave`, with the rate or the channels that were given, or 0. `given` is 0 where nothing was, as C
+// has it.
 #[derive(Clone, Copy, Debug, PartialEq, Eq)]
 pub struct WaveRefused {
     pub refusal: Refusal,

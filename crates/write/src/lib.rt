@@ -13,7 +13,8 @@ use process::Wrote;
 use stream::{Refused, SonicStream};
 use write_parts::{begin_write, end_write};
 
-// Writes the whole frames of the samples' values; a partial last frame is dropped.
+// Writes the whole frames of the samples' values; a partial last frame is dropped. `OrderAfter` stays a clause, and no
+// ghost field of `Wrote`: the definitions of answers make one of any stream.
 fn write<S: Sample>(
     stream: SonicStream,
     samples: &[S],
