@@ -2,6 +2,7 @@
 ghost use Rattle.std.specs.Prelude.{◌≡◌, ◌≤◌, map, length, from_bits, unsigned_abs, Float};
 ghost use Rattle.std.specs.Float.{binary32};
 ghost use Rattle.std.specs.Float.Ieee.{to_signed};
+ghost use Rattle.std.proofs.Math.Seq.{paste};
 ghost use Rattle.floats.specs.Bits.{SampleSize, cut_magnitude};
 ghost use Rattle.floats.specs.Write.{unit_clamped, sample_in, sample_out};
 
@@ -80,10 +81,11 @@ impl Sample for i16 {
     }
 }
 
-// Stores the samples of a write in an area of as many.
+// Stores the samples of a write at the front of the area.
 pub fn store<S: Sample>(source: &[S], area: &mut [i16])
-    requires { length area.old ≡ length source.now }
-    ensures { area.new ≡ map sample_in (map S.value source.now) }
+    requires { length source.now ≤ length area.old }
+    ensures { area.new ≡ paste area.old 0 (map sample_in (map S.value source.now))
+        (length source.now) }
 {
     for (i, x) in source.iter().enumerate() {
         area[i] = x.stored();
@@ -105,10 +107,10 @@ pub fn sample_out(v: i16) -> f32
     a + a * RECIPROCAL_OF_32767
 }
 
-// Gives the values of the samples of an area, in a slice of as many.
+// Gives the values of the samples of an area, at the front of the slice.
 pub fn samples_out(area: &[i16], slice: &mut [f32])
-    requires { length slice.old ≡ length area.now }
-    ensures { slice.new ≡ map sample_out area.now }
+    requires { length area.now ≤ length slice.old }
+    ensures { slice.new ≡ paste slice.old 0 (map sample_out area.now) (length area.now) }
 {
     for (i, &v) in area.iter().enumerate() {
         slice[i] = sample_out(v);

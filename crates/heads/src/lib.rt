@@ -51,12 +51,12 @@ fn between(start: u64, end: u64) -> Option<usize> {
     Some((end - start) as usize)
 }
 
-// The bytes of a file that are left, if that is known.
+// The bytes of a file that are left, if that is known. A place that cannot be asked for counts as the file's beginning.
 pub fn file_left<S: Seek>(file: &mut S) -> Option<usize> {
-    let start = file.seek(SeekFrom::Current(0)).ok()?;
-    let end = file.seek(SeekFrom::End(0)).ok()?;
+    let start = file.seek(SeekFrom::Current(0)).unwrap_or(0);
+    let end = file.seek(SeekFrom::End(0)).unwrap_or(0);
     let left = between(start, end)?;
-    let back = file.seek(SeekFrom::Start(start)).ok()?;
+    let back = file.seek(SeekFrom::Start(start)).unwrap_or(0);
     (back == start).then_some(left)
 }
 

@@ -1,4 +1,6 @@
 // The arguments as the system gives them, by their places: the first behind the program's name is at 1.
+ghost use Rattle.std.specs.Prelude.{◌≤◌, length};
+
 use ports::naming;
 use std::env::{Env, FillError};
 use std::io::{Error, ErrorKind, Result};
@@ -9,7 +11,9 @@ pub(crate) const TEXT: usize = 32;
 
 // An argument, read into a text: nothing if it is missing, or longer than the text. No Option: a missing argument, as
 // an empty one, is no number, no option and no word that is asked for.
-pub(crate) fn read_word<'a>(env: &impl Env, place: usize, text: &'a mut [u8]) -> &'a [u8] {
+pub(crate) fn read_word<'a>(env: &impl Env, place: usize, text: &'a mut [u8]) -> &'a [u8]
+    ensures { length result.now ≤ length text.old }
+{
     let n = env.arg(place, text).unwrap_or(0);
     &text[..n]
 }

@@ -40,7 +40,7 @@ pub extern "C" fn kernel_samples_in(source: &[f32], area: &mut [i16])
     ensures { area.new ≡ paste area.old 0 (map sample_in source.now)
         (length source.now) }
 {
-    floats::samples::store(source, &mut area[..source.len()]);
+    floats::samples::store(source, area);
 }
 
 #[unsafe(no_mangle)]
@@ -49,7 +49,7 @@ pub extern "C" fn kernel_samples_out(area: &[i16], slice: &mut [f32])
     ensures { slice.new ≡ paste slice.old 0 (map sample_out area.now)
         (length area.now) }
 {
-    floats::samples::samples_out(area, &mut slice[..area.len()]);
+    floats::samples::samples_out(area, slice);
 }
 
 #[unsafe(no_mangle)]

@@ -1,6 +1,6 @@
 // A file that is named: it is written beside its name, and gets it when it is whole. `process` is the number of this
 // process.
-ghost use Rattle.std.specs.Prelude.{◌≡◌};
+ghost use Rattle.std.specs.Prelude.{◌≡◌, ◌≤◌, length, IfOk};
 ghost use Rattle.outputs.specs.declared.names.MadeError.TheVariants.{Failed};
 
 use ports::naming;
@@ -34,13 +34,16 @@ fn free(files: &impl Files, name: &str) -> io::Result<bool> {
 }
 
 // The name that is used meanwhile, NAME.PID.part. What was written is taken by its position: std's Cursor gives no
-// slice of it.
-fn part_of<'a>(name: &str, process: u32, part: &'a mut [u8]) -> io::Result<&'a str> {
+// slice of it, and the contract of `write!` does not say that the position stays within the buffer.
+fn part_of<'a>(name: &str, process: u32, part: &'a mut [u8]) -> io::Result<&'a str>
+    ensures { IfOk result (λ text. length text.now ≤ length part.old) }
+{
+    let most = part.len();
     let mut text = Cursor::new(part);
     if write!(text, "{name}.{process}.part").is_err() {
         return Err(Error::from_raw_os_error(naming::TOO_LONG));
     }
-    let end = text.position() as usize;
+    let end = (text.position() as usize).min(most);
     let bytes = text.into_inner().get(..end).unwrap_or(b"");
     str::from_utf8(bytes).map_err(|_| Error::from(ErrorKind::InvalidFilename))
 }

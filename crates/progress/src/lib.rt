@@ -27,15 +27,17 @@ fn minutes(frames: u64, opening: Opening) -> u64
 }
 
 // After a minute of the reel, and not after a failure, of which the system would say no more: the minutes done, and how
-// many times shorter than them the processor time is. The line is written over.
+// many times shorter than them the processor time is. The line is written over, each part in a write of its own: no
+// `eprint!` of all, since the program's writes stay.
 pub fn show(ports: &Ports, reel: Reel, before: u64, opening: Opening) {
     if reel.has_failed() {
         return;
     }
     let done = minutes(reel.frames_in, opening);
     if done != minutes(before, opening) && ports.terminal {
-        let times = done * 60_000 / taken(&ports.rt);
-        let _ = eprint!(ports.rt; "\rskim: {done} min done, {times} times real time");
+        say::number(&ports.rt, "\rskim: ", done);
+        say::number(&ports.rt, " min done, ", done * 60_000 / taken(&ports.rt));
+        say::text(&ports.rt, " times real time");
     }
 }
 

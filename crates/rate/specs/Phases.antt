@@ -1,5 +1,6 @@
 -- The phases of a call's frames: the ratio at the phase k is step·(k + 1) − 1. Definitions only. Assumes nothing.
 use Rattle.std.specs.Prelude.{◌≡◌, ℕ, ◌*◌, ◌≤◌, ◌<◌, length}
+use Rattle.sinc.specs.Sinc.{sinc_filter_points}
 use Rattle.sinc.specs.Weights.{PhasesKept}
 use Rattle.rate.specs.declared.Rates.{Rates}
 use Rattle.rate.specs.declared.phases.Cycle.{Cycle}
@@ -21,7 +22,7 @@ pub record CycleOf (r : Rates) (c : Cycle) : Type 0 where
 -- frames of it have their coefficients: those of its phases are kept, or its step is 1 and the width is that of its
 -- ratios
 abbrev pub Serves : Cycle → Coefficients → Type 0
-Serves c (Kept weights) = (c.new ≤ length weights.now) × PhasesKept c.step c.new weights.now
+Serves c (Kept weights) = (sinc_filter_points * c.new ≤ length weights.now) × PhasesKept c.step c.new weights.now
 Serves c (Computed table width) = (c.step ≡ 1) × (width.of ≡ c.new)
 
 -- a frame at the phase k, one of the cycle's

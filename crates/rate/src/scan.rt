@@ -12,7 +12,7 @@ use crate::{Adjusted, Position, Rates};
 use frames::{Frames, Samples};
 use reciprocals::Reciprocal;
 use sinc::SINC_FILTER_POINTS;
-use sinc::phases::{MAX_PHASES, keep_phases};
+use sinc::phases::{KEPT_COEFFICIENTS, keep_phases};
 use sinc::table::SincTable;
 use sinc::window::{Ratio, Window};
 
@@ -20,7 +20,7 @@ use sinc::window::{Ratio, Window};
 // phase, are computed from the table and the width.
 #[derive(Clone, Copy)]
 pub(crate) enum Coefficients<'a> {
-    Kept(&'a [[i32; SINC_FILTER_POINTS]]),
+    Kept(&'a [i32]),
     Computed(SincTable<'a>, Reciprocal),
 }
 
@@ -51,7 +51,8 @@ fn make_frame(
     let place = to.samples(channels);
     match coefficients {
         Coefficients::Kept(kept) => {
-            let weights = &kept[phase];
+            let at = SINC_FILTER_POINTS * phase;
+            let weights = &kept[at..];
             sinc::phases::weighted_frame(weights, window, output, place);
         }
         Coefficients::Computed(table, width) => {
@@ -152,7 +153,7 @@ pub(crate) fn convert_tail(
 {
     let cycle = cycle_of(rates, tail);
     if cycle.step > 1 {
-        let mut kept = [[0i32; SINC_FILTER_POINTS]; MAX_PHASES];
+        let mut kept = [0i32; KEPT_COEFFICIENTS];
         keep_phases(table, cycle.step, cycle.new, &mut kept);
         let coefficients = Coefficients::Kept(&kept);
         return scan_tail(

@@ -35,7 +35,7 @@ fn give(
     let channels = stream.channels as usize;
     let left = Frames(stream.waiting.0 - n.0);
     let given = n.samples(channels);
-    floats::samples::samples_out(&output[..given.0], &mut slice[..given.0]);
+    floats::samples::samples_out(&output[..given.0], slice);
     frames::remove_front(output, given, left.samples(channels));
     Gave {
         frames: n,

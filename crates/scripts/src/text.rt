@@ -40,7 +40,9 @@ fn joined(value: u64, digit: u64, hexadecimal: bool) -> u64
 }
 
 // The number of the digits that a text begins with, and the text behind them.
-fn digits(text: &[u8], hexadecimal: bool) -> (u64, &[u8]) {
+fn digits(text: &[u8], hexadecimal: bool) -> (u64, &[u8])
+    ensures { length result.1.now ≤ length text.now }
+{
     let mut value = 0;
     for (i, b) in text.iter().enumerate() {
         let Some(next) = digit(*b) else {
@@ -52,7 +54,9 @@ fn digits(text: &[u8], hexadecimal: bool) -> (u64, &[u8]) {
 }
 
 // The number that a text begins with, and the text behind it.
-fn number(text: &[u8]) -> (u64, &[u8]) {
+fn number(text: &[u8]) -> (u64, &[u8])
+    ensures { length result.1.now ≤ length text.now }
+{
     let start = text.strip_prefix(b" ").unwrap_or(text);
     match start.strip_prefix(b"x") {
         Some(first) => digits(first, true),

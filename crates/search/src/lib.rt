@@ -12,7 +12,8 @@ ghost use Rattle.search.specs.Search.{widest_gap, Searchable};
 
 pub use outward::{Wanted, best_in_range, candidate_in_range};
 use std::marker::Model;
-use sums::{Neighbours, candidate_at, neighbours_from};
+pub use sums::Neighbours;
+use sums::{candidate_at, neighbours_from};
 
 // Of several periods with the same least mean difference, the one that a search finds.
 #[derive(Clone, Copy, Debug, PartialEq, Eq)]

@@ -1,17 +1,17 @@
--- Twelve weights: which are coefficients, and a frame by them. Assumes nothing.
+-- Twelve weights: which are coefficients, a frame by them, and those of phases that are kept. Assumes nothing.
 use mathlib.Core.Path.{◌≡◌, refl, ap, ◌∙◌}
 use mathlib.Core.Bool.{Bool, true, false}
 use mathlib.Core.List.{List}
-use Prim.Native.Nat.{ℕ, ◌+◌, ◌*◌, ◌<◌}
+use Prim.Native.Nat.{ℕ, ◌+◌, ◌-◌, ◌*◌, ◌/◌, ◌%◌, ◌<◌}
 use native.Mathlib.Omega.{arith}
 use borrow.Author.Tests.{ltb-true, ltb-false}
 use lib.Dec.{ltb}
 use lib.IntN.{ℤ, pos}
 use lib.ListN.{length, get_or, set}
-use lib.Seq.{paste, get_or-set_same, get_or-set_other}
+use lib.Seq.{paste, get_or-set_same, get_or-set_other, get_or-drop}
 use lib.Signed.{shr_z}
-use Rattle.sinc.specs.Sinc.{sinc_filter_points, tap_sum, held_sample, interpolate, interpolate_frame}
-use Rattle.sinc.specs.Weights.{SmallWeights, weighted_sample, weighted_frame, CoefficientsOf}
+use Rattle.sinc.specs.Sinc.{sinc_filter_points, sinc_coefficient, tap_sum, held_sample, interpolate, interpolate_frame}
+use Rattle.sinc.specs.Weights.{SmallWeights, weighted_sample, weighted_frame, CoefficientsOf, PhasesKept}
 use Rattle.sinc.proofs.Coefficient.{sinc_coefficient-abs}
 use Rattle.sinc.proofs.Tabulated.{tabulate-cong, tabulate-turn}
 use Rattle.sinc.proofs.Taps.{weighted_sum-cong}
@@ -56,3 +56,20 @@ module _ {weights : List ℤ} {r N : ℕ} (h : CoefficientsOf r N weights) where
   unfolding weighted_frame weighted_sample interpolate_frame interpolate tap_sum
   weighted_frame-is x channels =
       tabulate-cong channels _ _ (λ c k. ap (λ (z : ℤ). held_sample (shr_z z 65536)) (weighted_sum-cong sinc_filter_points (λ i l. refl) h.value))
+
+-- ---- the phases, one coefficient after the other
+
+abbrev pub phase_coefficient : ℕ → ℕ → ℕ → ℤ
+phase_coefficient step N m = sinc_coefficient (m % sinc_filter_points) (step * (m / sinc_filter_points + 1) - 1) N
+
+-- all of them
+pub phases-filled : (step phases : ℕ) (kept : List ℤ)
+    → Filled (sinc_filter_points * phases) (phase_coefficient step (step * phases)) kept → PhasesKept step phases kept
+phases-filled step phases kept filled k l = record {
+  value = λ i q.
+      let m : ℕ = sinc_filter_points * k + i in
+      let phase : m / sinc_filter_points ≡ k = omega arith in
+      let tap : m % sinc_filter_points ≡ i = omega arith in
+      get_or-drop (sinc_filter_points * k) kept i (pos 0)
+      ∙ filled m (omega arith) ∙ (λ t. sinc_coefficient (tap t) (step * (phase t + 1) - 1) (step * phases));
+}

@@ -1,5 +1,5 @@
 -- A frame by weights that are at hand, and the coefficients of phases that are kept. Definitions only. Assumes nothing.
-use Rattle.std.specs.Prelude.{◌≡◌, List, [], ℕ, ◌+◌, ◌-◌, ◌*◌, ◌≤◌, ◌<◌, ℤ, pos, nat_abs, get_or}
+use Rattle.std.specs.Prelude.{◌≡◌, List, ℕ, ◌+◌, ◌-◌, ◌*◌, ◌≤◌, ◌<◌, ℤ, pos, nat_abs, drop, get_or}
 use Rattle.std.specs.Int.Signed.{shr_z}
 use Rattle.sinc.specs.Sinc.{sinc_filter_points, sinc_coefficient, tabulate, weighted_sum, held_sample}
 
@@ -21,7 +21,7 @@ weighted_frame x channels weights =
 pub record CoefficientsOf (r N : ℕ) (weights : List ℤ) : Type 0 where
   pub value : (i : ℕ) → i < sinc_filter_points → get_or weights i (pos 0) ≡ sinc_coefficient i r N
 
--- those of each phase k below `phases` stand at k: of r = step·(k + 1) − 1 and N = step·phases
-abbrev pub PhasesKept : ℕ → ℕ → List (List ℤ) → Type 0
+-- those of each phase k below `phases` stand from 12·k on: of r = step·(k + 1) − 1 and N = step·phases
+abbrev pub PhasesKept : ℕ → ℕ → List ℤ → Type 0
 PhasesKept step phases kept =
-    (k : ℕ) → k < phases → CoefficientsOf (step * (k + 1) - 1) (step * phases) (get_or kept k [])
+    (k : ℕ) → k < phases → CoefficientsOf (step * (k + 1) - 1) (step * phases) (drop (sinc_filter_points * k) kept)

@@ -101,9 +101,10 @@ fn hold(z: i64) -> i16
 }
 
 // One sample: the 12 taps of a channel, each times its weight. That the weights are small stays a clause: kept ones are
-// lent out of an array of arrays.
-fn interpolate(window: Window, channel: usize, weights: &[i32; SINC_FILTER_POINTS]) -> i16
+// lent out of the coefficients of all phases.
+fn interpolate(window: Window, channel: usize, weights: &[i32]) -> i16
     requires channel { channel < window.channels }
+    requires enough { sinc_filter_points ≤ length weights.now }
     requires small { SmallWeights weights.now }
     ensures { result ≡ weighted_sample
         (λ i. get_or window.entry.stage.now (window.entry.from.0 + channel + i * window.entry.channels) (pos 0))
@@ -122,7 +123,8 @@ fn interpolate(window: Window, channel: usize, weights: &[i32; SINC_FILTER_POINT
 // One frame by 12 weights: the tail frames give one sample per channel, written from `to` on. Compiled into its callers
 // too. The room in the output stays a clause: the output is lent to be written.
 #[inline(always)]
-fn write_frame(weights: &[i32; SINC_FILTER_POINTS], window: Window, output: &mut [i16], to: Samples)
+fn write_frame(weights: &[i32], window: Window, output: &mut [i16], to: Samples)
+    requires enough { sinc_filter_points ≤ length weights.now }
     requires small { SmallWeights weights.now }
     requires channels_in_bounds { to.0 + window.channels ≤ length output.old }
     ensures { output.new ≡ paste output.old to.0

@@ -1,16 +1,23 @@
 // What is told of files that cannot be opened, read or written, and the end of what is told of bad usage.
+ghost use Rattle.std.specs.Prelude.{◌≡◌};
+ghost use Rattle.say.specs.declared.status.Status.TheVariants.{BadUsage};
+
 use ports::Ports;
 use say::Status;
 use std::io::Error;
 
 // The end of every report of bad usage.
-pub fn bad_usage(rt: &impl Eprint) -> Status {
+pub fn bad_usage(rt: &impl Eprint) -> Status
+    ensures { result ≡ BadUsage }
+{
     say::text(rt, "skim: --help tells the usage\nskim: status=2\n");
     Status::BadUsage
 }
 
 // A name that is empty or too long.
-pub fn no_name(rt: &impl Eprint) -> Status {
+pub fn no_name(rt: &impl Eprint) -> Status
+    ensures { result ≡ BadUsage }
+{
     say::text(rt, "skim: OUT.wav needs a name of 1 to 4095 bytes\n");
     bad_usage(rt)
 }

@@ -1,25 +1,29 @@
 -- A write, to its answer:
 --   written             the frames that it adds
+--   stored-behind       as many of its samples as are stored, behind those held
 --   write-behind        its frames, stored behind those held
 --   write-early         its contract, refused before its work
 --   write-answered      its contract, by the answer to its work
 -- Assumes nothing.
-use mathlib.Core.Path.{◌≡◌}
-use mathlib.Core.List.{List, map}
+use mathlib.Core.Path.{◌≡◌, sym, ap}
+use mathlib.Core.List.{List, map, ◌++◌}
 use Prim.Native.Nat.{ℕ, ◌*◌, ◌/◌}
 use lib.IntN.{ℤ}
 use lib.Ieee.{Float}
 use lib.ListN.{length}
-use lib.Seq.{paste}
+use lib.Seq.{paste, length-take-le}
 use Rattle.frames.specs.Areas.{Areas, areas}
 use Rattle.frames.specs.Framing.{Frame, frames_of, Behind}
 use Rattle.frames.proofs.Framing.{length-frames_of}
 use Rattle.floats.specs.Write.{sample_in}
+use Rattle.floats.proofs.Stores.{behind-copied}
 use Rattle.stream.specs.declared.SonicStream.{SonicStream}
 use Rattle.stream.specs.Stream.{state_of, stream_of}
 use Rattle.stream.specs.declared.refusal.Refused.{Refused}
 use Rattle.process.specs.declared.Wrote.{Wrote}
-use Rattle.std.proofs.Common.{Result, Ok, Err}
+use Rattle.std.proofs.Common.{Result, Ok, Err, ◌≤◌, ◌-◌, ◌∙◌, take, drop, append-nil, arith}
+use Rattle.std.proofs.Math.ListN.{drop_of_length-le}
+use Rattle.std.proofs.lemmas.List.{take-map, take_rest, length-drop}
 use Rattle.process.specs.Process.{Made, whole_frames, joined, write_work}
 use Rattle.process.specs.Streams.{joined_stream}
 use Rattle.process.specs.Working.{WorkedAs}
@@ -35,6 +39,18 @@ abbrev pub written : SonicStream → List Float → ℕ → List Frame
 written s samples n = map (map sample_in) (frames_of s.channels n samples)
 
 -- ---- its frames are stored
+
+-- `stored` is the area behind those held, with the samples stored at its front
+pub stored-behind : {A : Type 0} (value : A → Float) (d stored : List ℤ) (samples : List A) (held count : ℕ) → count ≤ length samples
+    → stored ≡ paste (take (length d - held) (drop held d)) 0 (map sample_in (map value (take count samples))) (length (take count samples))
+    → take held d ++ (stored ++ drop (length d - held) (drop held d)) ≡ paste d held (map sample_in (map value samples)) count
+stored-behind value d stored samples held count h is =
+    let long : length (drop held d) ≤ length d - held = omega (arith, length-drop held d) in
+    let values = map value (take count samples) in
+    let none : stored ++ drop (length d - held) (drop held d) ≡ stored =
+    ap (λ (r : List ℤ). stored ++ r) (drop_of_length-le (drop held d) long) ∙ append-nil stored in
+    ap (λ (r : List ℤ). take held d ++ r) (none ∙ is ∙ (λ i. paste (take_rest d held i) 0 (map sample_in values) (length (take count samples))))
+    ∙ behind-copied sample_in d (map value samples) values held count _ (sym (take-map value count samples)) (length-take-le count samples h)
 
 pub write-behind : (s : SonicStream) (samples : List Float) (a : Areas) (period : Float) (n : ℕ) (stored : List ℤ) → AddReady s period a n
     → n ≡ length samples / s.channels → stored ≡ paste a.input (s.held.0 * s.channels) (map sample_in samples) (n * s.channels)

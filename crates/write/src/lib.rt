@@ -40,7 +40,7 @@ fn write<S: Sample>(
     let channels = stream.channels as usize;
     let count = n.samples(channels).0;
     let held = stream.held.samples(channels).0;
-    store(&samples[..count], &mut input[held..held + count]);
+    store(&samples[..count], &mut input[held..]);
     end_write(stream, period, n, input, stage, output, scratch)
 }
 

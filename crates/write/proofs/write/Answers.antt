@@ -1,13 +1,12 @@
 -- `write::write` meets its contract. Assumes nothing.
-use Rattle.std.proofs.Common.{◌≡◌, ◌+◌, ◌-◌, ◌*◌, ◌/◌, length, map, take, drop, ◌++◌, sym, ap, ◌∙◌}
-use Rattle.std.proofs.lemmas.List.{length-map, take-map}
+use Rattle.std.proofs.Common.{◌≡◌, ◌-◌, ◌*◌, ◌/◌, ◌≤◌, length, map, take, drop, ◌++◌, ◌∙◌, arith}
+use Rattle.std.proofs.lemmas.List.{length-map}
 use Rattle.std.proofs.lemmas.Result.{err_from_is_err_and}
 use lib.Seq.{paste}
 use Rattle.frames.specs.Areas.{areas}
 use Rattle.floats.specs.Write.{sample_in}
-use Rattle.floats.proofs.Stores.{part-pasted}
-use Rattle.adding.proofs.Joining.{ready_with}
-use Rattle.write.proofs.Writing.{write-behind, write-early, write-answered}
+use Rattle.adding.proofs.Joining.{ready_with, accepted-samples}
+use Rattle.write.proofs.Writing.{stored-behind, write-behind, write-early, write-answered}
 use Rattle.write.proofs.write.Goals as goal
 
 pub returns-in_err-period : goal.returns-in_err-period
@@ -26,14 +25,14 @@ end_write-requires g c =
     let values = map g.S.Sample.value c.args.samples.now in
     let held = c.samples-held.result.0 in
     let count = c.samples-count.result.0 in
-    let part : c.store.new.area ≡ map sample_in (take count values) =
-    c.store.ensures ∙ ap (map sample_in) (sym (take-map g.S.Sample.value count c.args.samples.now)) in
-    let pasted = part-pasted sample_in d values held count c.store.new.area part in
-    let place : paste d held (map sample_in values) count ≡ paste d (s.held.0 * s.channels) (map sample_in values) (c.in_ok-period.n.0 * s.channels) =
-    (λ i. paste d (c.samples-held.ensures i) (map sample_in values) (c.samples-count.ensures i)) in
     let r = c.in_ok-period.ensures in
     let whole : c.in_ok-period.n.0 ≡ length values / s.channels = rw length-map r.1 in
-    let input = take held d ++ (c.store.new.area ++ drop (held + count - held) (drop held d)) in
+    let many : c.in_ok-period.n.0 * s.channels ≤ length c.args.samples.now = rw length-map at (accepted-samples r.0.accepted values whole) in
+    let fits : count ≤ length c.args.samples.now = omega (arith, many, c.samples-count.ensures) in
+    let pasted = stored-behind g.S.Sample.value d c.store.new.area c.args.samples.now held count fits c.store.ensures in
+    let place : paste d held (map sample_in values) count ≡ paste d (s.held.0 * s.channels) (map sample_in values) (c.in_ok-period.n.0 * s.channels) =
+    (λ i. paste d (c.samples-held.ensures i) (map sample_in values) (c.samples-count.ensures i)) in
+    let input = take held d ++ (c.store.new.area ++ drop (length d - held) (drop held d)) in
     let added = write-behind s values lent c.in_ok-period.period c.in_ok-period.n.0 input r.0 whole (pasted ∙ place) in
     ready_with r.0 input added.long
 
@@ -45,14 +44,14 @@ returns g c =
     let values = map g.S.Sample.value c.args.samples.now in
     let held = c.samples-held.result.0 in
     let count = c.samples-count.result.0 in
-    let part : c.store.new.area ≡ map sample_in (take count values) =
-    c.store.ensures ∙ ap (map sample_in) (sym (take-map g.S.Sample.value count c.args.samples.now)) in
-    let pasted = part-pasted sample_in d values held count c.store.new.area part in
-    let place : paste d held (map sample_in values) count ≡ paste d (s.held.0 * s.channels) (map sample_in values) (c.in_ok-period.n.0 * s.channels) =
-    (λ i. paste d (c.samples-held.ensures i) (map sample_in values) (c.samples-count.ensures i)) in
     let r = c.in_ok-period.ensures in
     let whole : c.in_ok-period.n.0 ≡ length values / s.channels = rw length-map r.1 in
-    let input = take held d ++ (c.store.new.area ++ drop (held + count - held) (drop held d)) in
+    let many : c.in_ok-period.n.0 * s.channels ≤ length c.args.samples.now = rw length-map at (accepted-samples r.0.accepted values whole) in
+    let fits : count ≤ length c.args.samples.now = omega (arith, many, c.samples-count.ensures) in
+    let pasted = stored-behind g.S.Sample.value d c.store.new.area c.args.samples.now held count fits c.store.ensures in
+    let place : paste d held (map sample_in values) count ≡ paste d (s.held.0 * s.channels) (map sample_in values) (c.in_ok-period.n.0 * s.channels) =
+    (λ i. paste d (c.samples-held.ensures i) (map sample_in values) (c.samples-count.ensures i)) in
+    let input = take held d ++ (c.store.new.area ++ drop (length d - held) (drop held d)) in
     let added = write-behind s values lent c.in_ok-period.period c.in_ok-period.n.0 input r.0 whole (pasted ∙ place) in
     let last = c.end_write.new in
     let left = areas last.input last.stage last.output last.scratch in

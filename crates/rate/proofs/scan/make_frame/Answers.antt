@@ -7,6 +7,7 @@ use native.Mathlib.Omega.{arith}
 use lib.IntN.{ℤ}
 use lib.ListN.{length, drop, length-drop}
 use lib.Seq.{paste}
+use Rattle.std.proofs.lemmas.List.{take_rest}
 use Rattle.frames.specs.Framing.{frames_of}
 use Rattle.sinc.specs.Sinc.{sinc_filter_points, interpolate_frame}
 use Rattle.sinc.specs.Weights.{weighted_frame, CoefficientsOf}
@@ -57,23 +58,18 @@ module _ (c : Cycle) (k : ℕ) (r : PhaseReady c k) where
         let wide : c.new ≡ width = rw one (omega arith) in
         ap placed ((λ i. interpolate_frame samples ch (same i) (wide i)) ∙ frame_is)
 
-pub bounds-kept-phase : goal.bounds-kept-phase
-bounds-kept-phase c =
-    let s = rw c.in-Kept.is at c.requires.phase_ready.0 in
-    omega (arith, s.0, c.requires.phase_ready.1.below)
-
 pub weighted_frame-requires-clause-small : goal.weighted_frame-requires-clause-small
 weighted_frame-requires-clause-small c =
     let s = rw c.in-Kept.is at c.requires.phase_ready.0 in
     let r = c.requires.phase_ready.1 in
-    weights-small (s.1 c.args.phase r.below) (ratio-lt c.args.cycle c.args.phase r)
+    rw take_rest (weights-small (s.1 c.args.phase r.below) (ratio-lt c.args.cycle c.args.phase r))
 
 pub returns-in-Kept : goal.returns-in-Kept
 returns-in-Kept c =
     let a = c.args in
     let s = rw c.in-Kept.is at c.requires.phase_ready.0 in
     let r = c.requires.phase_ready.1 in
-    rw (c.samples-from.ensures, c.samples-place.ensures) at c.weighted_frame.ensures
+    rw (take_rest, c.samples-from.ensures, c.samples-place.ensures) at c.weighted_frame.ensures
     ∙ kept-is a.cycle a.phase r a.channels a.first.0 a.stage.now c.requires.channels_in_bounds.0 a.output.now (a.to.0 * a.channels) _ (s.1 a.phase r.below)
 
 pub returns-in-Computed : goal.returns-in-Computed

@@ -1,9 +1,6 @@
--- `sinc::phases::keep_phases` meets its contract. The loop's invariant: the first k phases are kept. Assumes nothing.
-use mathlib.Core.List.{[]}
-use Prim.Native.Nat.{ℕ, ◌+◌, ◌-◌, ◌*◌, ◌<◌}
-use lib.ListN.{get_or}
-use Rattle.sinc.specs.Weights.{CoefficientsOf}
+-- `sinc::phases::keep_phases` meets its contract. The loop's invariant: the first m coefficients are kept. Assumes nothing.
+use Rattle.sinc.proofs.Weights.{Filled, phase_coefficient}
 use Rattle.sinc.proofs.phases.keep_phases.Given as goal
 
-abbrev pub invariant-loop-k : goal.invariant-loop-k
-invariant-loop-k l = (j : ℕ) → j < l.k → CoefficientsOf (l.step * (j + 1) - 1) l.width.of (get_or l.kept j [])
+abbrev pub invariant-loop-m : goal.invariant-loop-m
+invariant-loop-m l = Filled l.m (phase_coefficient l.step l.width.of) l.kept
